@@ -14,8 +14,8 @@ use Rattle.shader_runs.specs.Correct.{KeepsTypes}
 use Rattle.module_meaning.specs.Names.{module_names, function_name}
 use Rattle.module_meaning.specs.ModuleShapes.{module_shape}
 use Rattle.text_meaning.specs.Abstraction.{program_read}
-use Rattle.wgsl_text.specs.Requests.{is_request}
 use Rattle.text_meaning.specs.Interface.{interface_read}
+use Rattle.text_meaning.specs.Vocabulary.{vocabulary_read}
 use Rattle.module_meaning.specs.Interface.{module_interface}
 use Rattle.module_meaning.specs.Layouts.{KeepsLayouts}
 
@@ -27,7 +27,7 @@ TellsInterfaceOf m info program =
     (settings : Settings) → SettingsFit shape settings →
     (meaning : Meaning) → IsTyped shape meaning →
     (world : World) →
-    interface_read settings meaning world program
+    interface_read shape.parts settings meaning world program
     ≡ module_interface settings meaning (module_names m) m info
 
 -- The program declares what the module declares, and each struct that is concerned stands in memory
@@ -40,7 +40,8 @@ pub record HasInterfaceOf (m : Module) (info : ModuleInfo) (program : Program) :
 -- What holds of each run of the module and the run of the program beside it: of each function and
 -- entry point, under all values of overrides and arguments of their types and every typed meaning
 -- of operators, in every world, with every bound on loop turns and behind any history. Each side
--- computes its named constants by itself.
+-- computes its named constants by itself. What places are made of is told to both alike: the structs
+-- of the program have the members of the module's, as its interface tells.
 abbrev pub OfEachRun : Module → ModuleInfo → Program →
     ((module_run text_run : ReachedOrHalted (Option Value)) → Type 0) → Type 0
 OfEachRun m info program Holds =
@@ -54,7 +55,8 @@ OfEachRun m info program Holds =
     let name = function_name m (module_names m) g in
     Holds
     (run_module shape settings world meaning turns g arguments past)
-    (follow_module text settings world meaning is_request turns name arguments past)
+    (follow_module text shape.parts settings world meaning (vocabulary_read program) turns name
+    arguments past)
 
 -- In every world that keeps the types the program makes the module's events in their order, with
 -- their operands, ends as in the module and returns the same.

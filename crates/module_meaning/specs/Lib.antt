@@ -29,6 +29,7 @@ pub mod OperandDemands
 pub mod Operations
 pub mod OperatorTable
 pub mod ExpressionForms
+pub mod PlaceParts
 pub mod Premises
 pub mod Ranges
 pub mod Resolution

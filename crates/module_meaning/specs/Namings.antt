@@ -21,7 +21,7 @@ use Rattle.module_meaning.specs.Names.{LabelNames, local_name, name_in, numbered
 use Rattle.module_meaning.specs.ExpressionContexts.{named_count}
 use Rattle.shader_runs.specs.Program.{Function}
 use Rattle.shader_runs.specs.Scope.{ModuleNames, Names, Naming}
-use Rattle.wgsl_text.specs.Requests.{is_request}
+use Rattle.text_meaning.specs.Vocabulary.{vocabulary_of}
 
 -- the handles of those of these constants that have a name, in their order, where h is the first one's
 abbrev pub named_handles : (h : ℕ) → List ir_constant.Constant → List ℕ
@@ -43,7 +43,7 @@ outer_names names m =
       constant = λ i. name_in names (numbered_key m i);
       global = global_name names;
       function = function_name m names;
-      is_request = is_request;
+      vocabulary = vocabulary_of [];
     }
 
 -- the names that the text of the function with this number uses

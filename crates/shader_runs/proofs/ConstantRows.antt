@@ -32,7 +32,7 @@ no_letter a e = cc
 
 free : OperatesOutside pair_module pair_names pair_word
 free =
-    record { asks_nothing = refl; functions = λ g lt. no_letter 102; constants = constants; globals = λ i lt. no_letter 118 }
+    record { asks_nothing = refl; operates = refl; functions = λ g lt. no_letter 102; constants = constants; globals = λ i lt. no_letter 118 }
   where
     constants : (i : ℕ) → i < 3 → pair_names.constant i ≢ pair_word
     constants zero lt = no_letter 80
@@ -71,5 +71,6 @@ constant_rows_hold =
       reads_variable = refl;
       asks = refl;
       calls_function = refl;
+      calls_nothing = refl;
       unknown_name = refl;
     }

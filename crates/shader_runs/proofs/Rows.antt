@@ -171,7 +171,6 @@ rows_hold =
       loop = (record { fits = refl; text = refl; module_run = refl; text_run = refl }, record { fits = refl; text = refl; module_run = refl; text_run = refl });
       barrier = record { fits = refl; text = refl; module_run = refl; text_run = refl };
       select = record { fits = refl; text = refl; module_run = refl; text_run = refl };
-      places = record { fits = refl; text = refl; module_run = refl; text_run = refl };
       refused = record { continue_ = refl; after_loop = refl; emitted_again = refl };
       stuck = record {
         break_outside = refl;
@@ -194,5 +193,9 @@ rows_hold =
         pointer_argument_not_dereferenced = refl;
         select_accept_first = refl;
       };
-      same_step = refl;
+      unknown_words = record {
+        written = record { fits = refl; text = refl; module_run = refl; text_run = refl };
+        line = refl;
+        value = refl;
+      };
     }

@@ -6,7 +6,7 @@ use Rattle.std.specs.Prelude.{◌≡◌, ℕ, ◌+◌, ◌*◌, pos, cond, [], �
 use Rattle.std.specs.Prelude.{codes}
 use Rattle.shader_runs.specs.Value.{Bytes, same_bytes, OtherType, Value, Whole, Opaque}
 use Rattle.shader_runs.specs.Value.{Spelled}
-use Rattle.shader_runs.specs.World.{Entry, Meaning, Settings}
+use Rattle.shader_runs.specs.World.{Entry, Meaning, Settings, Vocabulary}
 use Rattle.shader_runs.specs.Outcome.{ReachedOrHalted, Gives, Halts, Stuck}
 use Rattle.shader_runs.specs.Program.{ConstantTree, Fixed, NamedConstant, Constructed, no_constant}
 use Rattle.shader_runs.specs.Program.{constant, Constant, Return, end, then, Function, Module}
@@ -18,7 +18,7 @@ use Rattle.shader_runs.specs.Scope.{ModuleNames, Naming}
 use Rattle.shader_runs.specs.Form.{form_module}
 use Rattle.shader_runs.specs.Premises.{ConstantsFit, SettingsFit}
 use Rattle.shader_runs.specs.WorkedFunctions.{no_parts, i32, number, numbered_name, row_world}
-use Rattle.shader_runs.specs.WorkedFunctions.{row_asks, text_of}
+use Rattle.shader_runs.specs.WorkedFunctions.{row_vocabulary, text_of}
 
 -- the type `vec2<i32>`
 abbrev pub pair_word : Bytes
@@ -71,6 +71,10 @@ pair_module =
       functions = pair_function ∷ [];
     }
 
+-- the words: that of a pair is an operator
+abbrev pub pair_vocabulary : Vocabulary
+pair_vocabulary = record row_vocabulary { is_operator = same_bytes pair_word }
+
 -- the names
 abbrev pub pair_names : ModuleNames
 pair_names =
@@ -78,7 +82,7 @@ pair_names =
       constant = λ i. get_or (codes "P" ∷ codes "N" ∷ codes "m" ∷ []) i [];
       global = λ i. codes "v";
       function = λ g. codes "f";
-      is_request = row_asks;
+      vocabulary = pair_vocabulary;
     }
 
 -- the function with them
@@ -125,8 +129,8 @@ run_pair b = run_module pair_module (with_override b) row_world pair_meaning 1 0
 -- what the text with this initialiser does
 abbrev pub follow_pair : Tree → ℕ → ReachedOrHalted (Option Value)
 follow_pair initialiser b =
-    follow_module (pair_text initialiser) (with_override b) row_world pair_meaning row_asks 1
-    (codes "f") [] []
+    follow_module (pair_text initialiser) no_parts (with_override b) row_world pair_meaning
+    pair_vocabulary 1 (codes "f") [] []
 
 -- a pair is returned, and nothing is read
 abbrev pub returns_pair : ℕ → ℕ → ReachedOrHalted (Option Value)
@@ -137,8 +141,8 @@ abbrev pub without_value : ReachedOrHalted (Option Value)
 without_value = Halts Stuck (Entry 0 [] [] ∷ [])
 
 -- the module's text, what both do, and what other texts do: another initialiser gives another
--- value; one that leads back to itself, reads, asks for an event, calls a function or names what
--- isn't there gives none
+-- value; one that leads back to itself, reads, asks for an event, calls a function, calls what is no
+-- operator or names what isn't there gives none
 pub record ConstantRowsHold : Type 0 where
   pub fits : ConstantsFit pair_module pair_names
   pub settings : SettingsFit pair_module (with_override 7)
@@ -154,4 +158,5 @@ pub record ConstantRowsHold : Type 0 where
   pub reads_variable : follow_pair (Name (codes "v")) 7 ≡ without_value
   pub asks : follow_pair (Apply (codes "storageBarrier") no_more) 7 ≡ without_value
   pub calls_function : follow_pair (Apply (codes "f") no_more) 7 ≡ without_value
+  pub calls_nothing : follow_pair (Apply (codes "frobnicate") no_more) 7 ≡ without_value
   pub unknown_name : follow_pair (Name (codes "q")) 7 ≡ without_value

@@ -5,13 +5,12 @@
 -- bound on turns or the number of rounds, g the number of a function or what is chosen for a
 -- variable, x such a variable or a constant, o a value that may be missing, l is what words do, e
 -- an initialiser, i an index and t are the events so far.
-use Rattle.std.specs.Prelude.{ℕ, zero, suc, Bool, cond, List, [], ◌∷◌, ◌++◌, map, length, get_or}
-use Rattle.std.specs.Prelude.{Option, Some, None, unwrap_or, ◌||◌}
+use Rattle.std.specs.Prelude.{ℕ, zero, suc, Bool, cond, not, List, [], ◌∷◌, ◌++◌, map, length}
+use Rattle.std.specs.Prelude.{get_or, Option, Some, None, unwrap_or, ◌||◌}
 use Rattle.std.specs.List.{list_any}
-use Rattle.shader_runs.specs.Value.{Bytes, same_bytes, Value, Spelled}
-use Rattle.shader_runs.specs.World.{Event, World, Meaning, GlobalValue, Stored, InHandleSpace}
-use Rattle.shader_runs.specs.World.{Settings}
-use Rattle.shader_runs.specs.World.{Environment, bind}
+use Rattle.shader_runs.specs.Value.{Bytes, same_bytes, PartTypes, Value, Spelled}
+use Rattle.shader_runs.specs.World.{Event, World, Meaning, Vocabulary, GlobalValue, Stored}
+use Rattle.shader_runs.specs.World.{InHandleSpace, Settings, Environment, bind}
 use Rattle.shader_runs.specs.Outcome.{Stuck, ReachedOrHalted, Gives, Halts}
 use Rattle.shader_runs.specs.Program.{ConstantTree, VariableShape, Held, AtPlace, Module}
 use Rattle.shader_runs.specs.Program.{constant_count}
@@ -71,12 +70,14 @@ abbrev pub is_declared : TextModule → Bytes → Bool
 is_declared text word =
     list_any (λ c. same_bytes word c.name) text.constants || names_function text.functions word
 
--- a word in an initialiser is an operator: no function is called there, and nothing is asked
+-- a word in an initialiser is an operator: no function is called there, nothing is asked, and a word
+-- that is neither has no value
 abbrev pub operate :
-    TextModule → Meaning → (Bytes → Bool) → Bytes → List Value → List Event →
+    TextModule → Meaning → Vocabulary → Bytes → List Value → List Event →
     ReachedOrHalted (Option Value)
-operate text m is_request word vs t =
-    let refused = is_declared text word || is_request word in
+operate text m vocabulary word vs t =
+    let is_other = is_declared text word || vocabulary.is_request word in
+    let refused = is_other || not (vocabulary.is_operator word) in
     cond refused (Halts Stuck t) (Gives (Some (m (Spelled word) vs)) t)
 
 -- an initialiser gives a value, and makes no event
@@ -107,14 +108,15 @@ scope_after l text s zero = scope_with (λ e. None) text s
 scope_after l text s (suc n) = scope_with (initialiser_value l (scope_after l text s n)) text s
 
 -- what words do in the initialisers of a text
-abbrev pub initialiser_words : TextModule → World → Meaning → (Bytes → Bool) → Words
-initialiser_words text w m is_request =
-    record { world = w; meaning = m; respond = operate text m is_request }
+abbrev pub initialiser_words : TextModule → PartTypes → World → Meaning → Vocabulary → Words
+initialiser_words text parts w m vocabulary =
+    record { parts = parts; world = w; meaning = m; respond = operate text m vocabulary }
 
 -- the names of a text: as many rounds as it has named constants
-abbrev pub module_scope : TextModule → Settings → World → Meaning → (Bytes → Bool) → Scope
-module_scope text s w m is_request =
-    scope_after (initialiser_words text w m is_request) text s (length text.constants)
+abbrev pub module_scope :
+    TextModule → PartTypes → Settings → World → Meaning → Vocabulary → Scope
+module_scope text parts s w m vocabulary =
+    scope_after (initialiser_words text parts w m vocabulary) text s (length text.constants)
 
 -- what stands for a value; a reference does not
 abbrev pub value_denoted : Option Denotation → Option Value
@@ -123,21 +125,22 @@ value_denoted _ = None
 
 -- the value of an initialiser of the text, where all its names are in scope
 abbrev pub text_initialiser_value :
-    TextModule → Settings → World → Meaning → (is_request : Bytes → Bool) → Tree → Option Value
-text_initialiser_value text s w m is_request e =
-    let names = module_scope text s w m is_request in
-    value_denoted (initialiser_value (initialiser_words text w m is_request) names e)
+    TextModule → PartTypes → Settings → World → Meaning → Vocabulary → Tree → Option Value
+text_initialiser_value text parts s w m vocabulary e =
+    let names = module_scope text parts s w m vocabulary in
+    value_denoted (initialiser_value (initialiser_words text parts w m vocabulary) names e)
 
 -- the value of an initialiser of the module, by those of all its named constants and overrides
 abbrev pub module_initialiser_value :
     Module → Settings → Meaning → ConstantTree → Option Value
 module_initialiser_value p s m e = constant_value (environment_of p s m) m e
 
--- the run of a function of the text, by its name
+-- the run of a function of the text, by its name. What types are made of is told to it, and told
+-- alike to the module's run: a text's structs are declared with the members of the module's
 abbrev pub follow_module :
-    TextModule → Settings → World → Meaning → (is_request : Bytes → Bool) → (turns : ℕ) →
-    (name : Bytes) →
-    List Value → List Event → ReachedOrHalted (Option Value)
-follow_module text s w m is_request n word vs t =
-    let uses = word_use text.functions is_request in
-    follow_call (module_scope text s w m is_request) w m uses n text.functions word vs t
+    TextModule → PartTypes → Settings → World → Meaning → Vocabulary → (turns : ℕ) →
+    (name : Bytes) → List Value → List Event → ReachedOrHalted (Option Value)
+follow_module text parts s w m vocabulary n word vs t =
+    let uses = word_use text.functions vocabulary in
+    let names = module_scope text parts s w m vocabulary in
+    follow_call parts names w m uses n text.functions word vs t

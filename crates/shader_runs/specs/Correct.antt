@@ -46,7 +46,8 @@ RunsAlike =
     (vs : List Value) → IsTrue (has_types p.parts f.argument_types vs) →
     (w : World) (turns : ℕ) (t : List Event) →
     KeepsTypes (run_module p settings w m turns g vs t) →
-    follow_module (form_module p n fs) settings w m n.is_request turns (n.function g) vs t
+    let text = form_module p n fs in
+    follow_module text p.parts settings w m n.vocabulary turns (n.function g) vs t
     ≡ run_module p settings w m turns g vs t
 
 -- each named constant has the value of its initialiser over the values of all; the overrides behind
@@ -81,7 +82,8 @@ InitialisersAreAlike =
     (m : Meaning) → IsTyped p m →
     (w : World) (e : ConstantTree) →
     EachWord (OperatesOutside p n) e → ConstantInRange p e →
-    text_initialiser_value (form_module p n fs) settings w m n.is_request (constant_form n e)
+    let text = form_module p n fs in
+    text_initialiser_value text p.parts settings w m n.vocabulary (constant_form n e)
     ≡ module_initialiser_value p settings m e
 
 -- the law above isn't empty: every module whose

@@ -6,7 +6,7 @@
 -- a point, h a handle, x a name, v a value (vs are several), t are the events
 -- so far, b and d bodies, i and j an index of a case and the number of a turn.
 use Rattle.std.specs.Prelude.{◌≡◌, ℕ, zero, suc, false, List, ◌∷◌, ◌++◌, Some, IsTrue}
-use Rattle.shader_runs.specs.Value.{Bytes, Value, has_types}
+use Rattle.shader_runs.specs.Value.{Bytes, PartTypes, Value, has_types}
 use Rattle.shader_runs.specs.World.{Event, entries, World, Meaning, Environment, Settings}
 use Rattle.shader_runs.specs.Outcome.{Gives}
 use Rattle.shader_runs.specs.Program.{Statement, Emit, If, Switch, Loop, Statements, end, then}
@@ -55,15 +55,15 @@ call_of env w m turns f fs vs t =
 -- what words do in its text, inside these module-level
 -- names, where these are all functions of the module
 abbrev pub words_of :
-    (outer : Scope) → ModuleNames → (all : List Naming) → World → Meaning → (turns : ℕ) →
-    List Naming →
-    Words
-words_of outer n all w m turns fs =
-    let uses = word_use (form_functions all) n.is_request in
+    PartTypes → (outer : Scope) → ModuleNames → (all : List Naming) → World → Meaning →
+    (turns : ℕ) → List Naming → Words
+words_of parts outer n all w m turns fs =
+    let uses = word_use (form_functions all) n.vocabulary in
     record {
+      parts = parts;
       world = w;
       meaning = m;
-      respond = follow_call outer w m uses turns (form_functions fs);
+      respond = follow_call parts outer w m uses turns (form_functions fs);
     }
 
 -- the names that its text starts with
@@ -137,9 +137,9 @@ PointsAgree =
     (w : World) (turns : ℕ) (before_entry t : List Event) →
     let all = later ++ (f ∷ fs) in
     let env = environment_of p settings m in
-    let outer = module_scope (form_module p n all) settings w m n.is_request in
+    let outer = module_scope (form_module p n all) p.parts settings w m n.vocabulary in
     let c = call_of env w m turns f fs vs before_entry in
-    let l = words_of outer n all w m turns fs in
+    let l = words_of p.parts outer n all w m turns fs in
     let first_names = names_of outer f vs before_entry in
     let body = f.function.body in
     let start = at_start f.function in

@@ -76,11 +76,14 @@ StandsFree p f w =
 
 -- a word that asks for an event
 abbrev pub AsksBy : Module → Naming → Bytes → Type 0
-AsksBy p f w = IsTrue (f.names.outer.is_request w) × StandsFree p f w
+AsksBy p f w = IsTrue (f.names.outer.vocabulary.is_request w) × StandsFree p f w
 
 -- an operator's word
 abbrev pub OperatesBy : Module → Naming → Bytes → Type 0
-OperatesBy p f w = (f.names.outer.is_request w ≡ false) × StandsFree p f w
+OperatesBy p f w =
+    (f.names.outer.vocabulary.is_request w ≡ false)
+    × IsTrue (f.names.outer.vocabulary.is_operator w)
+    × StandsFree p f w
 
 abbrev mutual
   -- each word of a tree over constants alone
@@ -270,7 +273,7 @@ pub record IsTypedIn (parts : PartTypes) (p : Module) (m : Meaning) (f : Functio
   pub operators : (h : ℕ) → IsTrue (is_pure (expression_of f h)) →
       (vs : List Value) →
       IsTrue (has_types parts (handle_types f (operands_of (expression_of f h))) vs) →
-      (v : Value) × (combined_value m (expression_of f h) vs ≡ Some v)
+      (v : Value) × (combined_value parts m (expression_of f h) vs ≡ Some v)
       × IsTrue (has_type parts (handle_type f h) v)
 
 -- the operators of each function
@@ -310,7 +313,8 @@ AllFit p n (f ∷ fs) = FunctionFits p n (functions_of fs) f × AllFit p n fs
 
 -- an operator's word that no item of the module hides
 pub record OperatesOutside (p : Module) (n : ModuleNames) (w : Bytes) : Type 0 where
-  pub asks_nothing : n.is_request w ≡ false
+  pub asks_nothing : n.vocabulary.is_request w ≡ false
+  pub operates : IsTrue (n.vocabulary.is_operator w)
   pub functions : (g : ℕ) → g < length p.functions → n.function g ≢ w
   pub constants : (i : ℕ) → i < length p.constant_types → n.constant i ≢ w
   pub globals : (i : ℕ) → i < length p.globals → n.global i ≢ w

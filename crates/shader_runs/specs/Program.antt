@@ -225,8 +225,8 @@ variable_shape_at vs i = get_or vs i (Held BooleanType)
 
 -- a module: the types of its named constants and, behind them, of its
 -- overrides; the initialisers of the named constants; its variables;
--- how pointers to parts of its types are spelled; and its functions,
--- then its entry points, in their order, the last one first
+-- what its types are made of; and its functions, then its entry
+-- points, in their order, the last one first
 pub record Module : Type 0 where
   pub constant_types : List ValueType
   pub initialisers : List ConstantTree

@@ -8,8 +8,8 @@
 use Rattle.std.specs.Prelude.{ℕ, zero, suc, ℤ, Bool, true, false, cond, nat_eq, List, [], ◌∷◌, ◌++◌}
 use Rattle.std.specs.Prelude.{option_map, option_and_then, length, Option, Some, None, ◌||◌}
 use Rattle.std.specs.Prelude.{slice_get, codes}
-use Rattle.shader_runs.specs.Value.{Bytes, same_integer, PartTypes, Place, Part, Rooted, GlobalRoot}
-use Rattle.shader_runs.specs.Value.{truth_in, integer_in, place_in, LocalRoot, At, step_of}
+use Rattle.shader_runs.specs.Value.{Bytes, same_integer, PartTypes, Place, Rooted, GlobalRoot}
+use Rattle.shader_runs.specs.Value.{truth_in, integer_in, place_in, place_at, place_to, LocalRoot}
 use Rattle.shader_runs.specs.Value.{ValueType, has_type, Selector, MemberNamed, Value, Truth}
 use Rattle.shader_runs.specs.Value.{Pointer, Word, Spelled, PartWord, IndexWord, ShortCircuit}
 use Rattle.shader_runs.specs.Value.{short_circuit_word, is_decided}
@@ -115,25 +115,26 @@ on_two f (x ∷ []) = None
 on_two f (x ∷ y ∷ []) = f x y
 on_two f (x ∷ y ∷ z ∷ vs) = None
 
--- an index through a pointer makes a pointer to the part;
--- into another value it gives what the meaning says
-abbrev pub index_value_by : Meaning → Option Place → Value → Value → Option Value
-index_value_by m (Some p) v i = option_map (λ z. Pointer (Part p (At z))) (integer_in i)
-index_value_by m None v i = Some (m IndexWord (v ∷ i ∷ []))
+-- an index through a pointer makes a pointer to the part, if the place
+-- has such parts; into another value it gives what the meaning says
+abbrev pub index_value_by : PartTypes → Meaning → Option Place → Value → Value → Option Value
+index_value_by parts m (Some p) v i =
+    option_map Pointer (option_and_then (place_at parts p) (integer_in i))
+index_value_by parts m None v i = Some (m IndexWord (v ∷ i ∷ []))
 
 -- an index into a value
-abbrev pub index_value_of : Meaning → Value → Value → Option Value
-index_value_of m v i = index_value_by m (place_in v) v i
+abbrev pub index_value_of : PartTypes → Meaning → Value → Value → Option Value
+index_value_of parts m v i = index_value_by parts m (place_in v) v i
 
--- a member or an element through a pointer makes a pointer
--- to the part; of another value it is what the meaning says
-abbrev pub part_value_by : Meaning → Selector → Option Place → Value → Option Value
-part_value_by m x (Some p) v = Some (Pointer (Part p (step_of x)))
-part_value_by m x None v = Some (m (PartWord x) (v ∷ []))
+-- a member or an element through a pointer makes a pointer to the part,
+-- if the place has it; of another value it is what the meaning says
+abbrev pub part_value_by : PartTypes → Meaning → Selector → Option Place → Value → Option Value
+part_value_by parts m x (Some p) v = option_map Pointer (place_to parts p x)
+part_value_by parts m x None v = Some (m (PartWord x) (v ∷ []))
 
 -- a part of a value
-abbrev pub part_value : Meaning → Selector → Value → Option Value
-part_value m x v = part_value_by m x (place_in v) v
+abbrev pub part_value : PartTypes → Meaning → Selector → Value → Option Value
+part_value parts m x v = part_value_by parts m x (place_in v) v
 
 -- the components of a vector by their letters
 abbrev pub swizzle_value : Meaning → Bytes → Value → Option Value
@@ -153,21 +154,23 @@ abbrev pub logical_value : Meaning → ShortCircuit → Value → Value → Opti
 logical_value m j l r = Some (cond (decides j l) l (undecided_value m j l r))
 
 -- an operator's value at its operands' values
-abbrev pub combined_value : Meaning → Option Expression → List Value → Option Value
-combined_value m (Some (Operator w xs)) vs = Some (m (Spelled w) vs)
-combined_value m (Some (Access b i)) vs = on_two (index_value_of m) vs
-combined_value m (Some (AccessIndex x b)) vs = on_one (part_value m x) vs
-combined_value m (Some (Logical j l r)) vs = on_two (logical_value m j) vs
-combined_value m (Some (Swizzle letters v)) vs = on_one (swizzle_value m letters) vs
-combined_value m _ vs = None
+abbrev pub combined_value : PartTypes → Meaning → Option Expression → List Value → Option Value
+combined_value parts m (Some (Operator w xs)) vs = Some (m (Spelled w) vs)
+combined_value parts m (Some (Access b i)) vs = on_two (index_value_of parts m) vs
+combined_value parts m (Some (AccessIndex x b)) vs = on_one (part_value parts m x) vs
+combined_value parts m (Some (Logical j l r)) vs = on_two (logical_value m j) vs
+combined_value parts m (Some (Swizzle letters v)) vs = on_one (swizzle_value m letters) vs
+combined_value parts m _ vs = None
 
 -- an operator without all its operands has no value
-abbrev pub gathered_value : Meaning → Option Expression → Option (List Value) → Option Value
-gathered_value m e vs = option_and_then (combined_value m e) vs
+abbrev pub gathered_value :
+    PartTypes → Meaning → Option Expression → Option (List Value) → Option Value
+gathered_value parts m e vs = option_and_then (combined_value parts m e) vs
 
 -- an expression's value now, over the kept values
 abbrev pub computed_value : Call → KeptValues → Option Expression → Option Value
-computed_value c kept e = gathered_value c.meaning e (used_values c kept (operands_of e))
+computed_value c kept e =
+    gathered_value c.environment.parts c.meaning e (used_values c kept (operands_of e))
 
 -- an answer of another type than the module's
 abbrev pub if_typed : {S : Type 0} → Bool → List Event → Outcome S → Outcome S
@@ -354,7 +357,8 @@ or_constant env m _ o = o
 -- the value of a constant tree, over its operands' values
 abbrev pub constant_as :
     Environment → Meaning → (ℕ → Option Value) → Option Expression → Option Value
-constant_as env m value e = or_constant env m e (gathered_value m e (all_of value (operands_of e)))
+constant_as env m value e =
+    or_constant env m e (gathered_value env.parts m e (all_of value (operands_of e)))
 
 -- the values of constant trees up to a bound on their handles
 abbrev pub constant_below : Function → Environment → Meaning → ℕ → KeptValues

@@ -106,5 +106,6 @@ RunsAreNotStuck =
     (w : World) (turns : ℕ) (t : List Event) →
     let module_run = run_module p settings w m turns g vs t in
     let text = form_module p n fs in
-    let text_run = follow_module text settings w m n.is_request turns (n.function g) vs t in
+    let text_run =
+    follow_module text p.parts settings w m n.vocabulary turns (n.function g) vs t in
     IsNotStuck module_run × (KeepsTypes module_run → IsNotStuck text_run)

@@ -2,22 +2,20 @@
 -- other writers would give, which do something else.
 --
 -- Throughout, t are the events so far, vs are arguments, and f and e a function and an expression.
-use Rattle.std.specs.Prelude.{◌≡◌, pos, Bool, true, false, cond, List, [], ◌∷◌, Option, Some, None}
-use Rattle.std.specs.Prelude.{IsTrue, codes}
-use Rattle.shader_runs.specs.Value.{Bytes, PartTypes, same_bytes, MemberNamed, ElementAt, step_of}
-use Rattle.shader_runs.specs.Value.{At, Field, Rooted, GlobalRoot, LocalRoot, Part, Place}
-use Rattle.shader_runs.specs.Value.{ValueType, BooleanType, PointerType, Value, Truth, Pointer}
-use Rattle.shader_runs.specs.World.{Event, Entry, Ask, Read, Write, Settings}
+use Rattle.std.specs.Prelude.{◌≡◌, pos, Bool, true, false, List, [], ◌∷◌, ◌++◌, Option, Some, None}
+use Rattle.std.specs.Prelude.{codes}
+use Rattle.shader_runs.specs.Value.{Bytes, Rooted, LocalRoot, Place, ValueType, BooleanType, Value}
+use Rattle.shader_runs.specs.Value.{Truth, Pointer}
+use Rattle.shader_runs.specs.World.{Event, Entry, Ask, Read, Write}
 use Rattle.shader_runs.specs.Outcome.{ReachedOrHalted, Gives, Halts, Stuck, Unreturned, OutOfTurns}
-use Rattle.shader_runs.specs.Program.{BarrierBits, Fixed, NamedConstant, AtPlace, Module}
-use Rattle.shader_runs.specs.Program.{Expression, Constant, Argument, Local, Global, Load}
-use Rattle.shader_runs.specs.Program.{Operator, Access, AccessIndex, Result, Called, Numbered}
-use Rattle.shader_runs.specs.Program.{Default, Statements}
-use Rattle.shader_runs.specs.Program.{Emit, Store, If, Switch, Loop, Break, Continue, Return, Act}
-use Rattle.shader_runs.specs.Program.{Barrier, end, then, no_case, case, Function, Statement}
-use Rattle.shader_runs.specs.Text.{Tree, Name, LiteralOf, Deref, Index, PartOf, Let, Assign, IfElse}
+use Rattle.shader_runs.specs.Program.{BarrierBits, Fixed, Module, Expression, Constant, Argument}
+use Rattle.shader_runs.specs.Program.{Local, Load, Operator, Result, Called, Numbered, Default}
+use Rattle.shader_runs.specs.Program.{Statements, Emit, Store, If, Switch, Loop, Break, Continue}
+use Rattle.shader_runs.specs.Program.{Return, Act, Barrier, end, then, no_case, case, Function}
+use Rattle.shader_runs.specs.Program.{Statement}
+use Rattle.shader_runs.specs.Text.{Tree, Name, LiteralOf, Deref, Index, Let, Assign, IfElse}
 use Rattle.shader_runs.specs.Text.{SwitchOn, LoopOf, ContinueLine, Lines, last, before, no_group}
-use Rattle.shader_runs.specs.Text.{group, Variable, TextFunction, TextModule, Line}
+use Rattle.shader_runs.specs.Text.{group, Variable, TextFunction, Line}
 use Rattle.shader_runs.specs.Constants.{run_module}
 use Rattle.shader_runs.specs.Scope.{Naming, fits_function}
 use Rattle.shader_runs.specs.Premises.{SettingsFit}
@@ -25,15 +23,13 @@ use Rattle.shader_runs.specs.Typing.{IsConsistent}
 use Rattle.shader_runs.specs.Correct.{ModuleFits}
 use Rattle.shader_runs.specs.Progress.{AllWellFormed}
 use Rattle.shader_runs.specs.Results.{may_end_all, AllGiveResults}
-use Rattle.shader_runs.specs.Form.{form_module}
 use Rattle.shader_runs.specs.WorkedFunctions.{i32, local_i32, i32_pointer, number, literal}
 use Rattle.shader_runs.specs.WorkedFunctions.{numbered_name, row, statements, function_with, lines}
 use Rattle.shader_runs.specs.WorkedFunctions.{call_of, perform, let_own, return_of, digits}
 use Rattle.shader_runs.specs.WorkedFunctions.{pointer_of, variable, number_variable, sum_of}
 use Rattle.shader_runs.specs.WorkedFunctions.{product_of, named_by, text_of, row_world, row_meaning}
-use Rattle.shader_runs.specs.WorkedFunctions.{row_asks, nothing, functions_alone, with_names, only}
-use Rattle.shader_runs.specs.WorkedFunctions.{follow_text, follow_row, IsShown, IsShownAlone}
-use Rattle.shader_runs.specs.WorkedFunctions.{Follows}
+use Rattle.shader_runs.specs.WorkedFunctions.{nothing, functions_alone, with_names, only}
+use Rattle.shader_runs.specs.WorkedFunctions.{follow_row, IsShown, IsShownAlone, Follows}
 
 -- ---- a local, and sums
 
@@ -533,107 +529,6 @@ SelectRow =
     IsShownAlone naming (select_text (codes "b") (codes "a")) select_values (
     Gives (Some (number 1)) (entered_with select_values []))
 
--- ---- places
-
--- a variable of two components, and these: their pointers
-abbrev pub private_vector : Bytes
-private_vector = codes "ptr<private, vec2<i32>>"
-
-abbrev pub private_i32 : Bytes
-private_i32 = codes "ptr<private, i32>"
-
--- the components of such a variable
-abbrev pub vector_parts : PartTypes
-vector_parts whole (At z) = cond (same_bytes whole private_vector) private_i32 []
-vector_parts whole (Field word) = []
-
--- a module with a named constant and a variable: a store to `v.x` and a read of `v[i]`, which are
--- one place where i is 0
-abbrev pub places_function : Function
-places_function =
-    function_with (i32 ∷ []) (Some i32) [] (
-    row (Argument 0) i32 1
-    ∷ row (Global false 0) (PointerType private_vector) 2
-    ∷ row (Constant (NamedConstant 0)) i32 1
-    ∷ row (AccessIndex (MemberNamed x_name) 1) (PointerType private_i32) 1
-    ∷ row (Access 1 0) (PointerType private_i32) 1
-    ∷ row (Load 4) i32 1 ∷ []) (
-    Emit 3 1
-    ∷ Store 3 2
-    ∷ Emit 4 2
-    ∷ Return (Some 5) ∷ [])
-
--- the variable is stored
-abbrev pub places_settings : Settings
-places_settings = record { overrides = []; globals = None ∷ [] }
-
--- its names
-abbrev pub places_naming : Naming
-places_naming =
-    record {
-      function = places_function;
-      names = record {
-        outer = record {
-          constant = λ i. codes "N";
-          global = λ i. codes "v";
-          function = λ g. codes "h";
-          is_request = row_asks;
-        };
-        argument = λ i. codes "i";
-        local_ = λ i. [];
-        named = λ k. [];
-        numbered = numbered_name;
-        earlier = 0;
-      };
-    }
-
--- the module of it
-abbrev pub places_module : Module
-places_module =
-    record {
-      constant_types = i32 ∷ [];
-      initialisers = Fixed (number 5) ∷ [];
-      globals = AtPlace private_vector ∷ [];
-      parts = vector_parts;
-      functions = places_function ∷ [];
-    }
-
--- its text
-abbrev pub places_lines : TextFunction
-places_lines =
-    text_of (codes "h") (codes "i" ∷ []) [] (lines (
-    Assign (PartOf (MemberNamed x_name) (Name (codes "v"))) (Name (codes "N"))
-    ∷ let_own 5 (Index (Name (codes "v")) (Name (codes "i")))
-    ∷ return_of (named_by 5) ∷ []))
-
-abbrev pub places_text : TextModule
-places_text =
-    record {
-      constants = record { name = codes "N"; initialiser = digits 5 } ∷ [];
-      overrides = [];
-      globals = record { name = codes "v"; pointer = Some private_vector } ∷ [];
-      functions = places_lines ∷ [];
-    }
-
--- the first component of the variable
-abbrev pub x_place : Place
-x_place = Part (Rooted (GlobalRoot private_vector 0)) (At (pos 0))
-
--- what both runs give
-abbrev pub places_result : ReachedOrHalted (Option Value)
-places_result =
-    let entry = entered_with (number 0 ∷ []) [] in
-    Gives (Some (number 5)) (Read x_place ∷ Write x_place (number 5) ∷ entry)
-
--- the module and its text run so
-pub record PlacesRow : Type 0 where
-  pub fits : IsTrue (fits_function places_naming)
-  pub text : form_module places_module places_naming.names.outer (places_naming ∷ []) ≡ places_text
-  pub module_run :
-      run_module places_module places_settings row_world row_meaning 3 0 (number 0 ∷ []) []
-      ≡ places_result
-  pub text_run : follow_text places_settings places_text (codes "h") (number 0 ∷ []) ≡ places_result
-
 -- ---- what the check of scope refuses
 
 -- [continue]: `continuing` uses a sum that a `continue` may skip
@@ -754,11 +649,33 @@ pub record AreDistinguished : Type 0 where
       Follows (select_text (codes "a") (codes "b")) select_values (
       Gives (Some (number 2)) (entered_with select_values []))
 
--- ---- the rows together
+-- ---- words that are no function's name, no request and no operator
 
--- `.x` and `[0]` are one step into a place
-abbrev pub SameStep : Type 0
-SameStep = step_of (MemberNamed (codes "x")) ≡ step_of (ElementAt 0)
+-- returns 1
+abbrev pub one_function : Function
+one_function = function_with [] (Some i32) [] (row (literal 1) i32 1 ∷ []) (Return (Some 0) ∷ [])
+
+-- a text of it, with these lines in front
+abbrev pub one_text : List Line → TextFunction
+one_text front = text_of (codes "f") [] [] (lines (front ++ return_of (digits 1) ∷ []))
+
+-- a call of a word that means nothing, and the same as a line
+abbrev pub unknown_call : Tree
+unknown_call = call_of (codes "frobnicate") []
+
+abbrev pub unknown_line : Line
+unknown_line = perform (codes "frobnicate") []
+
+-- the module and its own text return 1. Behind a line that calls an unknown word, or one that wants
+-- a value of it, a text is stuck
+pub record UnknownWordsAreStuck : Type 0 where
+  pub written :
+      IsShownAlone (only (codes "f") [] [] one_function) (one_text []) []
+      (Gives (Some (number 1)) (entered_with [] []))
+  pub line : Follows (one_text (unknown_line ∷ [])) [] (stuck_behind_entry [])
+  pub value : Follows (one_text (let_own 0 unknown_call ∷ [])) [] (stuck_behind_entry [])
+
+-- ---- the rows together
 
 -- the module of [store]
 abbrev pub store_module : Module
@@ -791,9 +708,8 @@ pub record RowsHold : Type 0 where
   pub loop : LoopRow
   pub barrier : BarrierRow
   pub select : SelectRow
-  pub places : PlacesRow
   pub refused : AreRefused
   pub stuck : AreStuck
   pub ends : EndsAreDistinguished
   pub distinguished : AreDistinguished
-  pub same_step : SameStep
+  pub unknown_words : UnknownWordsAreStuck

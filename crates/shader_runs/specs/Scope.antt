@@ -6,7 +6,7 @@
 use Rattle.std.specs.Prelude.{ℕ, zero, suc, Bool, true, false, cond, not, nat_lt, List, [], ◌∷◌}
 use Rattle.std.specs.Prelude.{take, length, Option, Some, None, ◌&&◌, ◌||◌}
 use Rattle.shader_runs.specs.Value.{Bytes}
-use Rattle.shader_runs.specs.World.{update}
+use Rattle.shader_runs.specs.World.{Vocabulary, update}
 use Rattle.shader_runs.specs.Program.{Expression, Constant, Argument, Local, Global, Load, Operator}
 use Rattle.shader_runs.specs.Program.{Access, AccessIndex, Logical, Swizzle, Request, Statement}
 use Rattle.shader_runs.specs.Program.{Emit, Store, Block, If, Switch, Loop, Return, Act, Statements}
@@ -27,12 +27,12 @@ pub data Availability : Type 0 where
 abbrev pub Handles : Type 0
 Handles = ℕ → Availability
 
--- the names of a module's items. is_request: the words that ask for an event
+-- the names of a module's items, and the words that its text may use beside them
 pub record ModuleNames : Type 0 where
   pub constant : ℕ → Bytes
   pub global : ℕ → Bytes
   pub function : ℕ → Bytes
-  pub is_request : Bytes → Bool
+  pub vocabulary : Vocabulary
 
 -- the names that a function's text uses. given: the front ends' names, in text order; numbered:
 -- those by the handle; earlier: how many functions stand before this one

@@ -1,17 +1,21 @@
 -- A text's run: each expression is evaluated anew where it stands, and names are looked up.
 --
+-- What a place is made of is told to the run as it is told to the module's: both have one table of
+-- the parts of types.
+--
 -- Throughout, l is what words do, n the bound on turns, names are the scope and t the events so far
 -- (t1 and t2 are later ones), e is a tree, x a name, a selector, a line, a label or why a run
 -- stops, v a value (vs are several), p a place, z an integer, m the meaning, w the world or a word,
 -- d what a name stands for, q what is reached, f the text of a function, g its number, k the number
 -- of entries, and i an index.
 use Rattle.std.specs.Prelude.{ℕ, suc, Bool, true, false, cond, nat_eq, List, [], ◌∷◌, length}
-use Rattle.std.specs.Prelude.{option_map, Option, Some, None, ◌||◌}
-use Rattle.shader_runs.specs.Value.{Bytes, same_bytes, Place, Rooted, GlobalRoot, LocalRoot, Part}
-use Rattle.shader_runs.specs.Value.{integer_in, place_in, At, Selector, step_of, Value, Pointer}
+use Rattle.std.specs.Prelude.{option_map, option_and_then, Option, Some, None, ◌||◌}
+use Rattle.shader_runs.specs.Value.{Bytes, same_bytes, PartTypes, Place, Rooted, GlobalRoot}
+use Rattle.shader_runs.specs.Value.{LocalRoot, integer_in, place_in, place_at, place_to, Selector}
+use Rattle.shader_runs.specs.Value.{Value, Pointer}
 use Rattle.shader_runs.specs.Value.{Spelled, PartWord, IndexWord, ShortCircuit}
 use Rattle.shader_runs.specs.World.{Event, Entry, Ask, Read, Write, Discard, entries, World}
-use Rattle.shader_runs.specs.World.{Meaning, bind}
+use Rattle.shader_runs.specs.World.{Meaning, Vocabulary, bind}
 use Rattle.shader_runs.specs.Outcome.{Stuck, Unreturned, Discarded, Outcome, Done, Continued, Broke}
 use Rattle.shader_runs.specs.Outcome.{reach, unless, Returned, Stopped, ReachedOrHalted, Gives}
 use Rattle.shader_runs.specs.Outcome.{Halts}
@@ -36,8 +40,10 @@ pub data Denotation : Type 0 where
 abbrev pub Scope : Type 0
 Scope = Bytes → Option Denotation
 
--- what a word with operands does: a function's name, a word that asks for an event, or an operator
+-- the parts of places, and what a word with operands does: a function's name, a word that asks for
+-- an event, or an operator
 pub record Words : Type 0 where
+  pub parts : PartTypes
   pub world : World
   pub meaning : Meaning
   pub respond : Bytes → List Value → List Event → ReachedOrHalted (Option Value)
@@ -88,10 +94,11 @@ address_reached (Halts x t) = Halts x t
 address_reached (Gives (IsPlace p) t) = Gives (IsValue (Pointer p)) t
 address_reached (Gives (IsValue v) t) = Halts Stuck t
 
--- an integer leads to an element
-abbrev pub part_reached : Place → ReachedOrHalted Value → ReachedOrHalted Denotation
-part_reached p (Halts x t) = Halts x t
-part_reached p (Gives v t) = reach (option_map (λ z. IsPlace (Part p (At z))) (integer_in v)) t
+-- an integer leads to an element, if the place has elements
+abbrev pub part_reached : PartTypes → Place → ReachedOrHalted Value → ReachedOrHalted Denotation
+part_reached parts p (Halts x t) = Halts x t
+part_reached parts p (Gives v t) =
+    reach (option_map IsPlace (option_and_then (place_at parts p) (integer_in v))) t
 
 -- an index into a value
 abbrev pub index_reached : Meaning → Value → ReachedOrHalted Value → ReachedOrHalted Denotation
@@ -99,18 +106,18 @@ index_reached m v (Halts x t) = Halts x t
 index_reached m v (Gives i t) = Gives (IsValue (m IndexWord (v ∷ i ∷ []))) t
 
 -- an index; a pointer has none
-abbrev pub index_into : Meaning → ReachedOrHalted Denotation →
+abbrev pub index_into : PartTypes → Meaning → ReachedOrHalted Denotation →
     (List Event → ReachedOrHalted Value) → ReachedOrHalted Denotation
-index_into m (Halts x t) rest = Halts x t
-index_into m (Gives (IsPlace p) t) rest = part_reached p (rest t)
-index_into m (Gives (IsValue v) t) rest = unless (place_in v) t (index_reached m v (rest t))
+index_into parts m (Halts x t) rest = Halts x t
+index_into parts m (Gives (IsPlace p) t) rest = part_reached parts p (rest t)
+index_into parts m (Gives (IsValue v) t) rest = unless (place_in v) t (index_reached m v (rest t))
 
--- a member or an element; a pointer has none
-abbrev pub part_picked : Meaning → Selector → ReachedOrHalted Denotation →
+-- a member or an element, if the place has it; a pointer has none
+abbrev pub part_picked : PartTypes → Meaning → Selector → ReachedOrHalted Denotation →
     ReachedOrHalted Denotation
-part_picked m x (Halts y t) = Halts y t
-part_picked m x (Gives (IsPlace p) t) = Gives (IsPlace (Part p (step_of x))) t
-part_picked m x (Gives (IsValue v) t) =
+part_picked parts m x (Halts y t) = Halts y t
+part_picked parts m x (Gives (IsPlace p) t) = reach (option_map IsPlace (place_to parts p x)) t
+part_picked parts m x (Gives (IsValue v) t) =
     unless (place_in v) t (Gives (IsValue (m (PartWord x) (v ∷ []))) t)
 
 -- the right side was evaluated
@@ -136,8 +143,9 @@ abbrev mutual
   evaluate l (Deref e) names t = dereference (read_value l.world (evaluate l e names t))
   evaluate l (AddressOf e) names t = address_reached (evaluate l e names t)
   evaluate l (Index e i) names t =
-      index_into l.meaning (evaluate l e names t) (λ t1. read_value l.world (evaluate l i names t1))
-  evaluate l (PartOf x e) names t = part_picked l.meaning x (evaluate l e names t)
+      index_into l.parts l.meaning (evaluate l e names t)
+      (λ t1. read_value l.world (evaluate l i names t1))
+  evaluate l (PartOf x e) names t = part_picked l.parts l.meaning x (evaluate l e names t)
   evaluate l (LogicalOf j a b) names t =
       logical_reached l.meaning j (read_value l.world (evaluate l a names t))
       (λ t1. read_value l.world (evaluate l b names t1))
@@ -285,29 +293,33 @@ abbrev pub no_names : Scope
 no_names x = None
 
 -- what a word before operands is, wherever no variable hides it: the name of a function of the
--- module, a word that asks for an event, or an operator
+-- module, a word that asks for an event, an operator, or nothing that is known
 pub data WordUse : Type 0 where
   NamesFunction : WordUse
   AsksForEvent : WordUse
   Operates : WordUse
+  MeansNothing : WordUse
 
--- what a word does that is the name of no function which
--- stands before. A function behind can't be called
+-- what a word does that is the name of no function which stands before.
+-- A function behind can't be called, nor a word that means nothing
 abbrev pub respond_by_use :
     WordUse → World → Meaning → Bytes → List Value → List Event → ReachedOrHalted (Option Value)
 respond_by_use NamesFunction w m word vs t = Halts Stuck t
 respond_by_use AsksForEvent w m word vs t = Gives (Some (w t (Ask word vs))) (Ask word vs ∷ t)
 respond_by_use Operates w m word vs t = Gives (Some (m (Spelled word) vs)) t
+respond_by_use MeansNothing w m word vs t = Halts Stuck t
 
 -- some function has this name
 abbrev pub names_function : List TextFunction → Bytes → Bool
 names_function [] word = false
 names_function (f ∷ fs) word = same_bytes word f.name || names_function fs word
 
--- what each word is in a text, by a test for those that ask for events
-abbrev pub word_use : List TextFunction → (Bytes → Bool) → Bytes → WordUse
-word_use fs is_request word =
-    cond (names_function fs word) NamesFunction (cond (is_request word) AsksForEvent Operates)
+-- what each word is in a text with these functions
+abbrev pub word_use : List TextFunction → Vocabulary → Bytes → WordUse
+word_use fs vocabulary word =
+    cond (names_function fs word) NamesFunction (
+    cond (vocabulary.is_request word) AsksForEvent (
+    cond (vocabulary.is_operator word) Operates MeansNothing))
 
 -- one more first value
 abbrev pub put_first : Option Value → ReachedOrHalted (List (Option Value)) →
@@ -352,13 +364,18 @@ follow_body l n g f vs names t =
 
 -- a word among these functions, the last one first; uses
 -- tells what a word is that names none of these functions
-abbrev pub follow_call : Scope → World → Meaning → (uses : Bytes → WordUse) → ℕ →
+abbrev pub follow_call : PartTypes → Scope → World → Meaning → (uses : Bytes → WordUse) → ℕ →
     List TextFunction → Bytes → List Value → List Event → ReachedOrHalted (Option Value)
-follow_call outer w m uses n [] word vs t = respond_by_use (uses word) w m word vs t
-follow_call outer w m uses n (f ∷ fs) word vs t =
-    let l : Words = record { world = w; meaning = m; respond = follow_call outer w m uses n fs } in
+follow_call parts outer w m uses n [] word vs t = respond_by_use (uses word) w m word vs t
+follow_call parts outer w m uses n (f ∷ fs) word vs t =
+    let l : Words = record {
+      parts = parts;
+      world = w;
+      meaning = m;
+      respond = follow_call parts outer w m uses n fs;
+    } in
     let scope = with_parameters f.parameters vs outer in
     let body = follow_body l n (length fs) f vs scope t in
     let own = run_if_arguments_fit (nat_eq (length vs) (length f.parameters)) body t in
-    let other = follow_call outer w m uses n fs word vs t in
+    let other = follow_call parts outer w m uses n fs word vs t in
     cond (same_bytes word f.name) own other

@@ -2,10 +2,11 @@
 --
 -- Throughout, p is a module, f a function, h a handle, e a constant tree, w a word, xs are
 -- operands, k is a type, x and y are signatures, i is an index and z an integer.
-use Rattle.std.specs.Prelude.{◌≡◌, ℕ, ℤ, List, [], ◌∷◌, ◌++◌, Option, Some, slice_get}
-use Rattle.shader_runs.specs.Value.{PartTypes, At, Selector, MemberNamed, step_of, ValueType}
-use Rattle.shader_runs.specs.Value.{BooleanType, IntegerType, PointerType, Word, Spelled, PartWord}
-use Rattle.shader_runs.specs.Value.{IndexWord, short_circuit_word}
+use Rattle.std.specs.Prelude.{◌≡◌, ℕ, ℤ, List, [], ◌∷◌, ◌++◌, Option, Some, None, slice_get}
+use Rattle.shader_runs.specs.Value.{Parts, PartTypes, Step, Selector, MemberNamed, part_pointer}
+use Rattle.shader_runs.specs.Value.{step_to, step_at, ValueType, BooleanType, IntegerType}
+use Rattle.shader_runs.specs.Value.{PointerType, Word, Spelled, PartWord, IndexWord}
+use Rattle.shader_runs.specs.Value.{short_circuit_word}
 use Rattle.shader_runs.specs.Program.{ConstantTree, Fixed, NamedConstant, Constructed}
 use Rattle.shader_runs.specs.Program.{ConstantTrees, no_constant, constant, Expression, Constant}
 use Rattle.shader_runs.specs.Program.{Operator, Access, AccessIndex, Logical, Swizzle, Request}
@@ -62,17 +63,23 @@ pub data IsSpelled (p : Module) (x : Signature) : Type 0 where
   in_initialiser : (i : ℕ) (e : ConstantTree) → slice_get p.initialisers i ≡ Some e →
       IsOneOf x (constant_signatures p e) → IsSpelled p x
 
+-- there is such a step, and this is the type of a pointer to the part that it leads to
+abbrev pub IsPart : Parts → Option Step → ValueType → Type 0
+IsPart whole None k = ⊥
+IsPart whole (Some step) k = k ≡ PointerType (part_pointer whole step)
+
 -- an integer's index through a pointer gives a pointer to
 -- the part, which is of one type whatever the index is
 abbrev pub AccessFits : PartTypes → (base index result : ValueType) → Type 0
 AccessFits parts (PointerType whole) (IntegerType spelling) k =
-    (z : ℤ) → k ≡ PointerType (parts whole (At z))
+    (z : ℤ) → IsPart (parts whole) (step_at (parts whole) z) k
 AccessFits parts (PointerType whole) i k = ⊥
 AccessFits parts b i k = Unit {0}
 
 -- a member or element through a pointer gives a pointer to that part
 abbrev pub AccessIndexFits : PartTypes → Selector → (base result : ValueType) → Type 0
-AccessIndexFits parts x (PointerType whole) k = k ≡ PointerType (parts whole (step_of x))
+AccessIndexFits parts x (PointerType whole) k =
+    IsPart (parts whole) (step_to (parts whole) x) k
 AccessIndexFits parts x b k = Unit {0}
 
 -- `&&` and `||` on `bool` give `bool`

@@ -3,8 +3,9 @@
 -- Throughout, v is a value (vs are several) and t a type (ts are
 -- several), b a truth value, z an integer, p a place and i an index;
 -- m, n, x, y and a, b in a test of equality are what it compares.
-use Rattle.std.specs.Prelude.{ℕ, ℤ, pos, negsuc, Bool, true, false, cond, nat_eq, List, [], ◌∷◌}
-use Rattle.std.specs.Prelude.{Option, Some, None, ◌&&◌, get_or, codes}
+use Rattle.std.specs.Prelude.{ℕ, ℤ, pos, negsuc, Bool, true, false, cond, nat_eq, nat_lt, List, []}
+use Rattle.std.specs.Prelude.{◌∷◌, Option, Some, None, option_map, option_and_then, unwrap_or}
+use Rattle.std.specs.Prelude.{◌&&◌, get_or, codes}
 
 -- the bytes of a name or of a spelled word
 abbrev pub Bytes : Type 0
@@ -34,18 +35,6 @@ pub data Step : Type 0 where
   At : ℤ → Step
   Field : Bytes → Step
 
--- `.x` and `[0]` are one step, so are `.y` and `[1]`, and so on. Members of one struct have
--- different words, and no index reaches into a struct, so that its members stay apart
-abbrev pub step_of : Selector → Step
-step_of (ElementAt index) = At (pos index)
-step_of (MemberNamed word) =
-    cond (same_bytes word (codes "x")) (At (pos 0)) (
-    cond (same_bytes word (codes "y")) (At (pos 1)) (
-    cond (same_bytes word (codes "z")) (At (pos 2))
-    (cond (same_bytes word (codes "w")) (At (pos 3)) (Field word))
-    )
-    )
-
 -- a variable, with the spelling of a pointer to it: a module's by its index, or a local by the
 -- number of function entries before its own function's and its index
 pub data Root : Type 0 where
@@ -57,10 +46,59 @@ pub data Place : Type 0 where
   Rooted : Root → Place
   Part : Place → Step → Place
 
--- how a pointer to a part is spelled, by the spelling of a pointer to the whole and the step that
--- leads to the part
+-- what a place is made of, with the spelling of a pointer to each part: of nothing that a step leads
+-- to; of elements or columns, by their numbers; of a vector's components, by their numbers or
+-- letters; or of a struct's members, each by its word
+pub data Parts : Type 0 where
+  NoParts : Parts
+  Elements : (pointer : Bytes) → Parts
+  Components : (count : ℕ) → (pointer : Bytes) → Parts
+  Members : (words_and_pointers : List (Bytes × Bytes)) → Parts
+
+-- the parts of what a pointer points to, by its spelling
 abbrev pub PartTypes : Type 0
-PartTypes = Bytes → Step → Bytes
+PartTypes = Bytes → Parts
+
+-- the spelling of a pointer to the first member with this word
+abbrev pub member_pointer : List (Bytes × Bytes) → Bytes → Option Bytes
+member_pointer [] word = None
+member_pointer (m ∷ ms) word = cond (same_bytes word m.0) (Some m.1) (member_pointer ms word)
+
+-- the spelling of a pointer to the part that a step leads to
+abbrev pub part_pointer : Parts → Step → Bytes
+part_pointer (Elements pointer) (At z) = pointer
+part_pointer (Components count pointer) (At z) = pointer
+part_pointer (Members ms) (Field word) = unwrap_or (member_pointer ms word) []
+part_pointer _ _ = []
+
+-- the number of the component with this letter
+abbrev pub component_number : Bytes → Option ℕ
+component_number word =
+    cond (same_bytes word (codes "x")) (Some 0) (
+    cond (same_bytes word (codes "y")) (Some 1) (
+    cond (same_bytes word (codes "z")) (Some 2) (
+    cond (same_bytes word (codes "w")) (Some 3) None)))
+
+-- the step to a component of a vector, if it has this one
+abbrev pub step_to_component : (count : ℕ) → ℕ → Option Step
+step_to_component count i = cond (nat_lt i count) (Some (At (pos i))) None
+
+-- the step that a constant index, a letter or a member's word names, if there is one. `.x` and `[0]`
+-- of a vector are one step, so are `.y` and `[1]`, and so on
+abbrev pub step_to : Parts → Selector → Option Step
+step_to (Elements pointer) (ElementAt i) = Some (At (pos i))
+step_to (Components count pointer) (ElementAt i) = step_to_component count i
+step_to (Components count pointer) (MemberNamed word) =
+    option_and_then (step_to_component count) (component_number word)
+step_to (Members ms) (MemberNamed word) =
+    option_map (λ pointer. Field word) (member_pointer ms word)
+step_to _ _ = None
+
+-- the step to which a computed index leads. An index past the end is not judged here
+abbrev pub step_at : Parts → ℤ → Option Step
+step_at (Elements pointer) z = Some (At z)
+step_at (Components count pointer) z = Some (At z)
+step_at _ z = None
 
 -- the spelling of a pointer to a variable
 abbrev pub root_type : Root → Bytes
@@ -70,7 +108,15 @@ root_type (LocalRoot pointer entries index) = pointer
 -- the spelling of a pointer to a place: a place knows its type, by its variable and its steps
 abbrev pub place_type : PartTypes → Place → Bytes
 place_type parts (Rooted root) = root_type root
-place_type parts (Part place step) = parts (place_type parts place) step
+place_type parts (Part place step) = part_pointer (parts (place_type parts place)) step
+
+-- the part of a place to which a computed index leads, if it has such parts
+abbrev pub place_at : PartTypes → Place → ℤ → Option Place
+place_at parts place z = option_map (Part place) (step_at (parts (place_type parts place)) z)
+
+-- the part of a place that a selector names, if it has this one
+abbrev pub place_to : PartTypes → Place → Selector → Option Place
+place_to parts place x = option_map (Part place) (step_to (parts (place_type parts place)) x)
 
 -- a value's type: `bool`, or the spelling of an integer's, a pointer's or any other type
 pub data ValueType : Type 0 where

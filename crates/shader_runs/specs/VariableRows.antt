@@ -12,11 +12,11 @@ use Rattle.shader_runs.specs.Text.{Name, Deref, Assign, ModuleVariable, TextFunc
 use Rattle.shader_runs.specs.Text.{TextModule}
 use Rattle.shader_runs.specs.Constants.{follow_module}
 use Rattle.shader_runs.specs.Premises.{LeafFits, SettingsFit, choices_fit}
-use Rattle.shader_runs.specs.WorkedModules.{memory_world, memory_meaning, asks_for_events}
+use Rattle.shader_runs.specs.WorkedModules.{memory_world, memory_meaning, memory_vocabulary}
 use Rattle.shader_runs.specs.WorkedModules.{in_memory, holding, named_function, Example, CallEnd, module_of}
 use Rattle.shader_runs.specs.WorkedModules.{settings_of, text_with, IsWorked, start_events}
 use Rattle.shader_runs.specs.WorkedFunctions.{i32, number, named_by, text_of, row, function_with}
-use Rattle.shader_runs.specs.WorkedFunctions.{lines, let_own, return_of}
+use Rattle.shader_runs.specs.WorkedFunctions.{no_parts, lines, let_own, return_of}
 
 -- a pointer to a number of the module, and one to such a pointer
 abbrev pub number_pointer : Bytes
@@ -65,8 +65,9 @@ declared_so variables = record (text_with pointed_example pointed_text) { global
 -- what such a text does
 abbrev pub follow_declared : List ModuleVariable → CallEnd
 follow_declared variables =
-    follow_module (declared_so variables) (settings_of pointed_example) memory_world memory_meaning
-    asks_for_events 1 (codes "get") [] []
+    let settings = settings_of pointed_example in
+    follow_module (declared_so variables) no_parts settings memory_world memory_meaning
+    memory_vocabulary 1 (codes "get") [] []
 
 -- `p` declared with a space, at a place of its own
 abbrev pub placed_pointer : ModuleVariable

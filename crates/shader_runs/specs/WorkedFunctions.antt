@@ -6,11 +6,11 @@
 -- places, w is a word, a and b are operands.
 use Rattle.std.specs.Prelude.{◌≡◌, ℕ, ◌+◌, ◌*◌, pos, Bool, true, false, cond, List, [], ◌∷◌, ◌++◌}
 use Rattle.std.specs.Prelude.{Option, Some, ◌&&◌, ◌||◌, nat_eq, get_or, IsTrue, codes, map}
-use Rattle.shader_runs.specs.Value.{Bytes, PartTypes, same_bytes, same_integer, At, Rooted}
+use Rattle.shader_runs.specs.Value.{Bytes, NoParts, PartTypes, same_bytes, same_integer, At, Rooted}
 use Rattle.shader_runs.specs.Value.{GlobalRoot, LocalRoot, Part, Place, ValueType, IntegerType}
 use Rattle.shader_runs.specs.Value.{PointerType, Value, Truth, Whole, Spelled}
 use Rattle.shader_runs.specs.World.{Event, Entry, Ask, Read, Write, Discard, World, Meaning}
-use Rattle.shader_runs.specs.World.{Settings}
+use Rattle.shader_runs.specs.World.{Settings, Vocabulary}
 use Rattle.shader_runs.specs.Outcome.{ReachedOrHalted}
 use Rattle.shader_runs.specs.Program.{Fixed, Module, Expression, Constant, Statements, end, then}
 use Rattle.shader_runs.specs.Program.{no_case, case, Function, Label, Statement, Cases}
@@ -182,13 +182,22 @@ row_meaning (Spelled w) (x ∷ y ∷ Truth true ∷ []) = y
 row_meaning (Spelled w) (x ∷ y ∷ Truth false ∷ []) = x
 row_meaning w vs = number 0
 
--- the words of the rows that ask for events
-abbrev pub row_asks : Bytes → Bool
-row_asks w = same_bytes w (codes "storageBarrier") || same_bytes w (codes "textureBarrier")
+-- a word among these
+abbrev pub is_one_of : List Bytes → Bytes → Bool
+is_one_of [] word = false
+is_one_of (w ∷ ws) word = same_bytes w word || is_one_of ws word
+
+-- the words of the rows: two barriers ask for events; sums, products and `select` are operators
+abbrev pub row_vocabulary : Vocabulary
+row_vocabulary =
+    record {
+      is_request = is_one_of (codes "storageBarrier" ∷ codes "textureBarrier" ∷ []);
+      is_operator = is_one_of (codes "+" ∷ codes "*" ∷ codes "select" ∷ []);
+    }
 
 -- no type has parts
 abbrev pub no_parts : PartTypes
-no_parts whole step = []
+no_parts whole = NoParts
 
 -- no override and no variable
 abbrev pub nothing : Settings
@@ -212,7 +221,7 @@ function_names fs =
       constant = λ i. [];
       global = λ i. [];
       function = λ g. get_or fs g [];
-      is_request = row_asks;
+      vocabulary = row_vocabulary;
     }
 
 -- a function with the names of its arguments, its locals and its given expressions
@@ -240,15 +249,17 @@ abbrev pub all_fit : List Naming → Bool
 all_fit [] = true
 all_fit (f ∷ fs) = fits_function f && all_fit fs
 
--- the run of this text, from a function by its name
-abbrev pub follow_text : Settings → TextModule → Bytes → List Value → ReachedOrHalted (Option Value)
-follow_text settings text name vs =
-    follow_module text settings row_world row_meaning row_asks 3 name vs []
+-- the run of this text, where types have these parts, from a function by its name
+abbrev pub follow_text :
+    PartTypes → Settings → TextModule → Bytes → List Value → ReachedOrHalted (Option Value)
+follow_text parts settings text name vs =
+    follow_module text parts settings row_world row_meaning row_vocabulary 3 name vs []
 
 -- the run of functions alone
 abbrev pub follow_row : List TextFunction → Bytes → List Value → ReachedOrHalted (Option Value)
 follow_row texts =
-    follow_text nothing (record { constants = []; overrides = []; globals = []; functions = texts })
+    follow_text no_parts nothing
+    (record { constants = []; overrides = []; globals = []; functions = texts })
 
 -- a module's functions, last first, with their texts, and how the last one runs
 pub record IsShown (fs : List Naming) (texts : List TextFunction) (g : ℕ) (name : Bytes)

@@ -4,13 +4,13 @@
 -- Throughout, e is an example, g the number of a function, n the bound on turns or a number, vs are
 -- arguments, t the events so far, v is a value, p and q are places, x is a name, f a function.
 use Rattle.std.specs.Prelude.{◌≡◌, ℕ, ◌+◌, ◌*◌, ◌/◌, ◌%◌, max, pos, Bool, false, cond, List, []}
-use Rattle.std.specs.Prelude.{◌∷◌, length, map, reverse, Option, Some, None, ◌||◌, nat_eq, get_or}
+use Rattle.std.specs.Prelude.{◌∷◌, length, map, reverse, Option, Some, None, nat_eq, get_or}
 use Rattle.std.specs.Prelude.{unwrap_or, IsTrue, codes}
 use Rattle.shader_runs.specs.Value.{Bytes, same_bytes, Place, Rooted, LocalRoot, ValueType}
 use Rattle.shader_runs.specs.Value.{OtherType, Value, Whole, Pointer}
 use Rattle.shader_runs.specs.Value.{Opaque, Spelled, PartWord, IndexWord, MemberNamed}
 use Rattle.shader_runs.specs.World.{Event, Entry, Ask, Read, Write, Discard, entries, World}
-use Rattle.shader_runs.specs.World.{Meaning, Settings}
+use Rattle.shader_runs.specs.World.{Meaning, Settings, Vocabulary}
 use Rattle.shader_runs.specs.Outcome.{ReachedOrHalted}
 use Rattle.shader_runs.specs.Program.{Fixed, VariableShape, Held, AtPlace, pointer_to, Module}
 use Rattle.shader_runs.specs.Program.{Function}
@@ -18,24 +18,24 @@ use Rattle.shader_runs.specs.Text.{LiteralOf, TextFunction, TextModule}
 use Rattle.shader_runs.specs.Constants.{run_module, follow_module}
 use Rattle.shader_runs.specs.Scope.{ModuleNames, Naming}
 use Rattle.shader_runs.specs.Form.{form_module}
-use Rattle.shader_runs.specs.WorkedFunctions.{number, same_place, no_parts, numbered_name, all_fit}
+use Rattle.shader_runs.specs.WorkedFunctions.{number, same_place, is_one_of, no_parts}
+use Rattle.shader_runs.specs.WorkedFunctions.{numbered_name, all_fit}
 
 -- ---- the world
 
--- a word among these
-abbrev pub is_one_of : List Bytes → Bytes → Bool
-is_one_of [] word = false
-is_one_of (w ∷ ws) word = same_bytes w word || is_one_of ws word
-
--- the words that ask for events
-abbrev pub asks_for_events : Bytes → Bool
-asks_for_events =
-    is_one_of (
-    codes "atomicLoad" ∷ codes "atomicStore" ∷ codes "atomicAdd"
-    ∷ codes "textureSampleLevel" ∷ codes "textureLoad" ∷ codes "textureStore" ∷ codes "dpdx"
-    ∷ codes "workgroupUniformLoad" ∷ codes "subgroupBallot" ∷ codes "traceRay"
-    ∷ codes "storageBarrier" ∷ codes "workgroupBarrier" ∷ codes "subgroupBarrier"
-    ∷ codes "textureBarrier" ∷ [])
+-- the words that ask for events, and those that are operators
+abbrev pub memory_vocabulary : Vocabulary
+memory_vocabulary =
+    record {
+      is_request =
+          is_one_of (
+          codes "atomicLoad" ∷ codes "atomicStore" ∷ codes "atomicAdd"
+          ∷ codes "textureSampleLevel" ∷ codes "textureLoad" ∷ codes "textureStore" ∷ codes "dpdx"
+          ∷ codes "workgroupUniformLoad" ∷ codes "subgroupBallot" ∷ codes "traceRay"
+          ∷ codes "storageBarrier" ∷ codes "workgroupBarrier" ∷ codes "subgroupBarrier"
+          ∷ codes "textureBarrier" ∷ []);
+      is_operator = is_one_of (codes "+" ∷ codes "*" ∷ codes "max" ∷ codes "i32" ∷ []);
+    }
 
 -- the sum of two integers of one type
 abbrev pub sum_value : Value → Value → Value
@@ -196,7 +196,7 @@ outer_of e =
       constant = λ i. get_or (map (λ c. c.name) e.constants) i [];
       global = λ i. get_or (map (λ x. x.name) e.variables) i [];
       function = λ g. get_or (reverse (map (λ f. f.name) e.functions)) g [];
-      is_request = asks_for_events;
+      vocabulary = memory_vocabulary;
     }
 
 -- each function with its names and with how many stand before it
@@ -244,7 +244,8 @@ abbrev pub follow_example : Example → List TextFunction → (g n : ℕ) → Li
 follow_example e texts g n vs =
     let text = text_with e texts in
     let name = (outer_of e).function g in
-    follow_module text (settings_of e) memory_world memory_meaning asks_for_events n name vs []
+    follow_module text no_parts (settings_of e) memory_world memory_meaning memory_vocabulary n name
+    vs []
 
 -- these functions are what is written for the module, which passes the check of scope
 pub record IsWritten (e : Example) (texts : List TextFunction) : Type 0 where

@@ -9,6 +9,7 @@ ghost use Rattle.shader_runs.specs.Points.{PointsAgree};
 ghost use Rattle.shader_runs.specs.Progress.{RunsAreNotStuck};
 ghost use Rattle.shader_runs.specs.Results.{ResultsAreReturned};
 ghost use Rattle.shader_runs.specs.Rows.{RowsHold};
+ghost use Rattle.shader_runs.specs.PlaceRows.{PlaceRowsHold};
 ghost use Rattle.shader_runs.specs.ScopeRules.{ScopeCheckIsTheRules};
 ghost use Rattle.shader_runs.specs.ConstantRows.{ConstantRowsHold};
 ghost use Rattle.shader_runs.specs.StatementRows.{StatementRowsHold};
@@ -84,6 +85,11 @@ pub fn has_typed_world()
 /// The worked functions run as they are said to, and the texts of other writers do something else.
 pub fn rows_hold()
     ensures { RowsHold }
+{}
+
+/// The steps that lead into worked places are told apart, and a run is stuck at one that isn't there.
+pub fn place_rows_hold()
+    ensures { PlaceRowsHold }
 {}
 
 /// A worked module with named constants and an override, and texts with other initialisers.

@@ -13,8 +13,7 @@ use Rattle.wgsl_text.specs.Expressions.{Expression}
 use Rattle.wgsl_text.specs.Functions.{Parameter, Result, NoResult, ResultOf, Function, EntryPoint}
 use Rattle.wgsl_text.specs.Declarations.{StructMember, Struct, NamedConstant, Override, Global}
 use Rattle.wgsl_text.specs.Declarations.{Space, NoSpace, SpaceAlone, SpaceAndAccess, Program}
-use Rattle.wgsl_text.specs.Requests.{is_request}
-use Rattle.shader_runs.specs.Value.{Value}
+use Rattle.shader_runs.specs.Value.{PartTypes, Value}
 use Rattle.shader_runs.specs.World.{World, Meaning, Settings}
 use Rattle.shader_runs.specs.Constants.{text_initialiser_value}
 use Rattle.text_meaning.specs.Abstraction.{expression_read, program_read}
@@ -23,6 +22,7 @@ use Rattle.text_meaning.specs.Attributes.{alignment_read, behind_alignment, id_r
 use Rattle.text_meaning.specs.Attributes.{ResourceBinding, resource_binding_read, is_coherent}
 use Rattle.text_meaning.specs.Attributes.{is_volatile, Stage, stage_read}
 use Rattle.text_meaning.specs.Switches.{LabelInterface, statements_switches}
+use Rattle.text_meaning.specs.Vocabulary.{vocabulary_read}
 
 -- a member of a struct: how it passes in or out of a stage, the size and the alignment that it is
 -- given, if it is given any, and its type
@@ -169,12 +169,14 @@ abbrev pub entry_point_interface_read : EntryPoint → EntryPointInterface
 entry_point_interface_read e =
     record { stage = stage_read e.stage; function = function_interface_read e.function }
 
--- The interface of a text. A world is asked for nothing, since an initialiser makes no event.
-abbrev pub interface_read : Settings → Meaning → World → Program → Interface
-interface_read settings meaning world program =
+-- The interface of a text. A world is asked for nothing, since an initialiser makes no event. What
+-- the parts of its places are is told, as it is to a run.
+abbrev pub interface_read : PartTypes → Settings → Meaning → World → Program → Interface
+interface_read parts settings meaning world program =
     let text = program_read program in
     let value : Expression → Option Value =
-    λ e. text_initialiser_value text settings world meaning is_request (expression_read e) in
+    λ e. text_initialiser_value text parts settings world meaning (vocabulary_read program)
+    (expression_read e) in
     record {
       enables = program.enables;
       structs = map struct_interface_read program.structs;

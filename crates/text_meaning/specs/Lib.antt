@@ -6,3 +6,4 @@ pub mod Layout
 pub mod Literals
 pub mod Resolution
 pub mod Switches
+pub mod Vocabulary

@@ -1,0 +1,39 @@
+-- The worked places, by computing.
+use Rattle.std.proofs.Common.{refl}
+use Rattle.shader_runs.specs.PlaceRows.{PlaceRowsHold}
+
+pub place_rows_hold : PlaceRowsHold
+place_rows_hold =
+    record {
+      steps = record {
+        letter_of_vector = refl;
+        number_of_vector = refl;
+        letter_past_vector = refl;
+        number_past_vector = refl;
+        number_of_array = refl;
+        letter_of_array = refl;
+        member_of_struct = refl;
+        other_member_of_struct = refl;
+        number_of_struct = refl;
+        letter_of_number = refl;
+        index_of_vector = refl;
+        index_of_array = refl;
+        index_of_struct = refl;
+        index_of_number = refl;
+      };
+      reached = record {
+        letter_of_vector = refl;
+        number_of_vector = refl;
+        number_of_array = refl;
+        member_of_struct = refl;
+        letter_past_vector = refl;
+        letter_of_array = refl;
+        number_of_struct = refl;
+        letter_of_number = refl;
+        index_of_array = refl;
+        index_of_struct = refl;
+        member_in_module = refl;
+        none_in_module = refl;
+      };
+      places = record { fits = refl; text = refl; module_run = refl; text_run = refl; typed = refl };
+    }

@@ -1,0 +1,16 @@
+-- The words that a text may use beside the names of its items: those that ask for an event, and those
+-- that are operators.
+--
+-- Throughout, structs are the names of the structs that the text declares.
+use Rattle.std.specs.Prelude.{ℕ, true, List, map}
+use Rattle.wgsl_text.specs.Declarations.{Program}
+use Rattle.wgsl_text.specs.Requests.{is_request}
+use Rattle.shader_runs.specs.World.{Vocabulary}
+
+-- by the names of its structs
+abbrev pub vocabulary_of : (structs : List (List ℕ)) → Vocabulary
+vocabulary_of structs = record { is_request = is_request; is_operator = λ word. true }
+
+-- of a program
+abbrev pub vocabulary_read : Program → Vocabulary
+vocabulary_read program = vocabulary_of (map (λ s. s.name) program.structs)
