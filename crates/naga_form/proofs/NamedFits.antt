@@ -12,6 +12,7 @@ use Rattle.naga_ir.specs.declared.module.Function as ir_function
 use Rattle.naga_info.specs.declared.info.ExpressionInfo.{ExpressionInfo}
 use Rattle.naga_info.specs.declared.info.ModuleInfo.{ModuleInfo}
 use Rattle.module_meaning.specs.Conversions.{keeps_bits}
+use Rattle.module_meaning.specs.Undeclared.{is_declared}
 use Rattle.module_meaning.specs.ExpressionOperators.{cast_to, constructor}
 use Rattle.module_meaning.specs.ExpressionShapes.{Declared, shape_of, applied_or, applied_shape}
 use Rattle.module_meaning.specs.ExpressionShapes.{constant_shape}
@@ -188,8 +189,9 @@ module _ (m : Module) (info : ModuleInfo) (types : TypesAreFit m) (p : shapes.Mo
 
   -- nor is that of a struct, which asks for nothing
   struct_operates : (h : ℕ) (t : Type_) → slice_get m.types h ≡ Some t →
+      is_declared m.special_types h t.inner ≡ true →
       OperatesBy p own (name_in (module_names m) (key.Type_ h))
-  struct_operates h t at =
+  struct_operates h t at declared =
       let has = type_has m h t at in
       let w = name_in (module_names m) (key.Type_ h) in (
         no_request w (item_is_identifier m (key.Type_ h, has.0) has.1),

@@ -14,6 +14,7 @@ use Rattle.module_meaning.specs.ModuleShapes.{initialiser}
 use Rattle.module_meaning.specs.Names.{module_names, name_in}
 use Rattle.module_meaning.specs.Namings.{outer_names}
 use Rattle.module_meaning.specs.OperatorTable.{run_word, Splat}
+use Rattle.module_meaning.specs.Undeclared.{is_declared}
 use Rattle.shader_runs.specs.Premises.{EachWord, OperatesOutside}
 use Rattle.shader_runs.specs.Program as shapes
 use Rattle.shader_runs.specs.Program.{ConstantTree}
@@ -50,8 +51,9 @@ module _ (m : Module) (info : ModuleInfo) (types : TypesAreFit m) (p : shapes.Mo
       operates w (not-true (is_request w) both.0) (word_is_no_item m w both.1)
 
   struct_operates : (h : ℕ) (t : Type_) → slice_get m.types h ≡ Some t →
+      is_declared m.special_types h t.inner ≡ true →
       Operates (name_in (module_names m) (key.Type_ h))
-  struct_operates h t at =
+  struct_operates h t at declared =
       let has = type_has m h t at in
       operates (name_in (module_names m) (key.Type_ h))
       (no_request (name_in (module_names m) (key.Type_ h))
