@@ -1,8 +1,9 @@
 -- Examples of what the places of a module are made of, computed, where no expression leads to any.
 --
 -- Throughout, a module has these types and this function, and all else that it has is any.
-use Rattle.std.proofs.Common.{◌≡◌, ℕ, pos, true, List, [], ◌∷◌, Some, None, refl, arith}
+use Rattle.std.proofs.Common.{◌≡◌, ℕ, pos, true, List, [], ◌∷◌, None, refl, arith}
 use Rattle.std.proofs.Common.{map, codes, Vec, Global}
+use Rattle.std.specs.Fmt.{digits}
 use Rattle.naga_ir.specs.declared.module.Function as ir_function
 use Rattle.naga_ir.specs.declared.module.FunctionArgument.{FunctionArgument}
 use Rattle.naga_ir.specs.declared.module.LocalVariable.{LocalVariable}
@@ -96,14 +97,14 @@ module _ (other : ir_module.Module) (info : ModuleInfo) (members : Vec StructMem
 
     -- the function may start with a pointer to it
     starts : has_types (module_shape m known).parts (function_shape m known taking []).argument_types (Pointer element ∷ []) ≡ true
-    unfolding type_segments
+    unfolding type_segments digits
     starts = refl
 
     abbrev parts_of : List ℕ → Parts
     parts_of whole = place_parts m known whole
 
     elements : parts_of (codes "ptr<function, array<i32, 4>>") ≡ Elements (codes "ptr<function, i32>")
-    unfolding type_segments
+    unfolding type_segments digits
     elements = refl
 
     components : parts_of (codes "ptr<function, vec3<f32>>") ≡ Components 3 (codes "ptr<function, f32>")
