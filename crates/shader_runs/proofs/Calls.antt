@@ -1,7 +1,7 @@
 -- Calls, by the functions of a module in their order.
 use Rattle.std.proofs.Common.{◌≡◌, ◌≢◌, ℕ, suc, ◌+◌, ◌<◌, ◌≤◌, min, Bool, true, false, cond, nat_eq}
 use Rattle.std.proofs.Common.{List, [], ◌∷◌, take, length, Option, Some, None, slice_get, refl, sym}
-use Rattle.std.proofs.Common.{ap, ◌∙◌, subst, add-zero, zero-add, arith, eqb-true, map, option_map}
+use Rattle.std.proofs.Common.{ap, ap₂, ◌∙◌, subst, add-zero, zero-add, arith, eqb-true, map, option_map}
 use Rattle.std.proofs.Math.Nat.{min-le_right}
 use Rattle.std.proofs.lemmas.List.{length-take, length-take-le}
 use Rattle.std.proofs.lemmas.Option.{slice_get_within, none-some, same_Some}
@@ -23,6 +23,7 @@ use Rattle.shader_runs.specs.ProgramRun.{first_used, first_used_all, run_from_en
 use Rattle.shader_runs.specs.ProgramRun.{run_body}
 use Rattle.shader_runs.specs.ProgramRun.{run_call}
 use Rattle.shader_runs.specs.TextRun.{Scope, Words, WordUse, NamesFunction, AsksForEvent, Operates}
+use Rattle.shader_runs.specs.TextRun.{MeansNothing}
 use Rattle.shader_runs.specs.TextRun.{value_of, with_parameters, with_variables, with_globals}
 use Rattle.shader_runs.specs.TextRun.{no_names, respond_by_use, word_use, put_first, first_followed}
 use Rattle.shader_runs.specs.TextRun.{first_then, first_of_each, entered_by, follow_all}
@@ -185,7 +186,7 @@ module _ (p : Module) (f : Naming) (i : ℕ) where
     constant_before : (e : ConstantTree) → ConstantWords p f e → ConstantWords p (before f i) e
     constant_before (Fixed v) w = tt
     constant_before (NamedConstant k) w = tt
-    constant_before (Constructed word ty es) w = ((w.0.0, free_before word w.0.1), constants_before es w.1)
+    constant_before (Constructed word ty es) w = ((w.0.0, w.0.1, free_before word w.0.2), constants_before es w.1)
 
     constants_before : (es : ConstantTrees) → ConstantsWords p f es → ConstantsWords p (before f i) es
     constants_before no_constant w = tt
@@ -193,7 +194,7 @@ module _ (p : Module) (f : Naming) (i : ℕ) where
 
   word_before : (e : Option Expression) → WordFits p f e → WordFits p (before f i) e
   word_before (Some (Constant e)) w = constant_before e w
-  word_before (Some (Operator word xs)) w = (w.0, free_before word w.1)
+  word_before (Some (Operator word xs)) w = (w.0, w.1, free_before word w.2)
   word_before (Some (Request a word xs es)) w = ((w.0.0, free_before word w.0.1), constants_before es w.1)
   word_before (Some _) w = tt
   word_before None w = tt
@@ -217,8 +218,8 @@ module _ (p : Module) (f : Naming) (i : ℕ) where
 
 -- what words do that are no function's names
 pub record UsesFit (p : Module) (n : ModuleNames) (uses : Bytes → WordUse) : Type 0 where
-  pub requests : (w : Bytes) → ((g : ℕ) → g < length p.functions → n.function g ≢ w) → IsTrue (n.is_request w) → uses w ≡ AsksForEvent
-  pub operators : (w : Bytes) → ((g : ℕ) → g < length p.functions → n.function g ≢ w) → n.is_request w ≡ false → uses w ≡ Operates
+  pub requests : (w : Bytes) → ((g : ℕ) → g < length p.functions → n.function g ≢ w) → IsTrue (n.vocabulary.is_request w) → uses w ≡ AsksForEvent
+  pub operators : (w : Bytes) → ((g : ℕ) → g < length p.functions → n.function g ≢ w) → n.vocabulary.is_request w ≡ false → IsTrue (n.vocabulary.is_operator w) → uses w ≡ Operates
 
 module _ (p : Module) (n : ModuleNames) (uses : Bytes → WordUse) (uses_fit : UsesFit p n uses) (env : Environment) (environment : EnvironmentFits p env) (w : World) (m : Meaning) (bound : ℕ) where
   abbrev call_of : List Naming → Naming → List Value → List Event → Call
@@ -229,7 +230,7 @@ module _ (p : Module) (n : ModuleNames) (uses : Bytes → WordUse) (uses_fit : U
   outer_of n = module_names_in_scope p n env
 
   abbrev responses : List Naming → Respond
-  responses fs = follow_call (outer_of n) w m uses bound (form_functions fs)
+  responses fs = follow_call env.parts (outer_of n) w m uses bound (form_functions fs)
 
   abbrev parameter_names : ModuleNames → Naming → List Value → Scope
   parameter_names n f vs =
@@ -288,8 +289,8 @@ module _ (p : Module) (n : ModuleNames) (uses : Bytes → WordUse) (uses_fit : U
     responds : Responds p (call_of fs f vs t) f.names (responses fs)
     responds =
         record {
-          requests = λ word a. reaches_use word a.1.0 AsksForEvent (uses_fit.requests word (no_function word a.1.0) (ap (λ n. n.is_request word) (sym fit.outer) ∙ a.0));
-          operators = λ word a. reaches_use word a.1.0 Operates (uses_fit.operators word (no_function word a.1.0) (ap (λ n. n.is_request word) (sym fit.outer) ∙ a.0));
+          requests = λ word a. reaches_use word a.1.0 AsksForEvent (uses_fit.requests word (no_function word a.1.0) (ap (λ n. n.vocabulary.is_request word) (sym fit.outer) ∙ a.0));
+          operators = λ word a. reaches_use word a.2.0 Operates (uses_fit.operators word (no_function word a.2.0) (ap (λ n. n.vocabulary.is_request word) (sym fit.outer) ∙ a.0) (ap (λ n. n.vocabulary.is_operator word) (sym fit.outer) ∙ a.1));
           calls = λ g callee e vs h t. subst
               (λ n'. Answers (Returns env.parts callee)
               (run_call env w m bound (functions_of fs) g vs t) (responses fs (n'.function g) vs t))
@@ -595,16 +596,22 @@ answers_same : {A : Type 0} (R : A → Type 0) (q q' : ReachedOrHalted A) → Ke
 answers_same R q q' k (same_answer h) = refl
 answers_same R q q' k mistyped_answer = absurd k
 
-pub uses_fit : (p : Module) (n : ModuleNames) (fs : List Naming) → length fs ≤ length p.functions → AllFit p n fs → UsesFit p n (word_use (form_functions fs) n.is_request)
+pub uses_fit : (p : Module) (n : ModuleNames) (fs : List Naming) → length fs ≤ length p.functions → AllFit p n fs → UsesFit p n (word_use (form_functions fs) n.vocabulary)
 uses_fit p n fs within fits =
     record {
-      requests = λ word other q. named word other ∙ ap (λ b. cond b AsksForEvent Operates) q;
-      operators = λ word other q. named word other ∙ ap (λ b. cond b AsksForEvent Operates) q;
+      requests = λ word other q. named word other ∙ ap (λ b. cond b AsksForEvent (unasked word)) q;
+      operators = λ word other q r.
+          named word other ∙ ap₂ (λ a b. cond a AsksForEvent (cond b Operates MeansNothing)) q r;
     }
   where
-    named : (word : Bytes) → ((g : ℕ) → g < length p.functions → n.function g ≢ word) → word_use (form_functions fs) n.is_request word ≡ cond (n.is_request word) AsksForEvent Operates
+    -- what a word is that names no function and asks for nothing
+    unasked : Bytes → WordUse
+    unasked word = cond (n.vocabulary.is_operator word) Operates MeansNothing
+
+    named : (word : Bytes) → ((g : ℕ) → g < length p.functions → n.function g ≢ word) →
+        word_use (form_functions fs) n.vocabulary word ≡ cond (n.vocabulary.is_request word) AsksForEvent (unasked word)
     named word other =
-        ap (λ b. cond b NamesFunction (cond (n.is_request word) AsksForEvent Operates)) (no_name_among p n fs within fits word other)
+        ap (λ b. cond b NamesFunction (cond (n.vocabulary.is_request word) AsksForEvent (unasked word))) (no_name_among p n fs within fits word other)
 
 -- what a module's functions are, and how many
 pub module_within : (p : Module) (fs : List Naming) → functions_of fs ≡ p.functions → length fs ≤ length p.functions
@@ -619,18 +626,18 @@ environment_alike : (p : Module) (n : ModuleNames) (fs : List Naming) → Module
     (vs : List Value) → IsTrue (has_types p.parts f.argument_types vs) →
     (w : World) (turns : ℕ) (t : List Event) →
     KeepsTypes (run_call env w m turns p.functions g vs t) →
-    follow_call (module_names_in_scope p n env) w m (word_use (form_functions fs) n.is_request)
+    follow_call env.parts (module_names_in_scope p n env) w m (word_use (form_functions fs) n.vocabulary)
     turns (form_functions fs) (n.function g) vs t ≡ run_call env w m turns p.functions g vs t
 environment_alike p n fs fits env environment m typed g f e vs h w turns t keeps =
     subst (λ l. function_numbered l g ≡ Some f → AllTypedIn env.parts p m l →
     KeepsTypes (run_call env w m turns l g vs t) →
-    follow_call (module_names_in_scope p n env) w m uses turns (form_functions fs)
+    follow_call env.parts (module_names_in_scope p n env) w m uses turns (form_functions fs)
     (n.function g) vs t ≡ run_call env w m turns l g vs t) fits.functions there e
     (subst (λ parts. AllTypedIn parts p m p.functions) (sym environment.parts) typed.functions)
     keeps
   where
     uses : Bytes → WordUse
-    uses = word_use (form_functions fs) n.is_request
+    uses = word_use (form_functions fs) n.vocabulary
 
     within : length fs ≤ length p.functions
     within = module_within p fs fits.functions
@@ -646,7 +653,7 @@ environment_alike p n fs fits env environment m typed g f e vs h w turns t keeps
     there : function_numbered (functions_of fs) g ≡ Some f →
         AllTypedIn env.parts p m (functions_of fs) →
         KeepsTypes (run_call env w m turns (functions_of fs) g vs t) →
-        follow_call (module_names_in_scope p n env) w m uses turns (form_functions fs)
+        follow_call env.parts (module_names_in_scope p n env) w m uses turns (form_functions fs)
         (n.function g) vs t ≡ run_call env w m turns (functions_of fs) g vs t
     there e typed keeps =
         answers_same (Returns env.parts f) (run_call env w m turns (functions_of fs) g vs t) _ keeps
@@ -658,7 +665,7 @@ environment_alike p n fs fits env environment m typed g f e vs h w turns t keeps
 -- the names that the text of the whole module computes
 pub names_are : (p : Module) (n : ModuleNames) (fs : List Naming) → ModuleFits p n fs →
     (s : Settings) → SettingsFit p s → (m : Meaning) → IsTyped p m →
-    (w : World) → module_scope (form_module p n fs) s w m n.is_request ≡ module_names_in_scope p n
+    (w : World) → module_scope (form_module p n fs) p.parts s w m n.vocabulary ≡ module_names_in_scope p n
     (environment_of p s m)
 names_are p n fs fits s settings m typed w =
     scope_is p n fits.constants s settings m typed fs fits.all (module_within p fs fits.functions) w
@@ -669,5 +676,5 @@ initialisers_are_alike p n fs fits s settings m typed w =
 
 pub runs_alike : RunsAlike
 runs_alike p n fs fits s settings m typed g f e vs h w turns t keeps =
-    ap (λ names. follow_call names w m (word_use (form_functions fs) n.is_request) turns (form_functions fs) (n.function g) vs t) (names_are p n fs fits s settings m typed w)
+    ap (λ names. follow_call p.parts names w m (word_use (form_functions fs) n.vocabulary) turns (form_functions fs) (n.function g) vs t) (names_are p n fs fits s settings m typed w)
     ∙ environment_alike p n fs fits (environment_of p s m) (environment_fits p n fits.constants s settings m typed) m typed g f e vs h w turns t keeps

@@ -3,7 +3,7 @@
 use Rattle.std.proofs.Common.{inl, inr, ◌≡◌, ◌≢◌, ℕ, zero, suc, ◌+◌, ◌-◌, ◌<◌, ◌≤◌, false, cond}
 use Rattle.std.proofs.Common.{List, [], ◌∷◌, ◌++◌, map, drop, length, Option, Some, None, unwrap_or}
 use Rattle.std.proofs.Common.{slice_get, ◌||◌, refl, sym, ap, ap₂, ◌∙◌, subst, arith}
-use Rattle.std.specs.Prelude.{IsTrue}
+use Rattle.std.specs.Prelude.{IsTrue, Bool, not}
 use Rattle.std.specs.List.{list_any}
 use Rattle.std.proofs.lemmas.List.{length-map, length-append, drop-map}
 use Rattle.std.proofs.lemmas.Option.{slice_get_cases, slice_get_within, none-some, same_Some}
@@ -311,7 +311,7 @@ module _ (p : Module) (n : ModuleNames) (fits : ConstantsFit p n) (s : Settings)
     text = form_module p n fs
 
     abbrev l : Words
-    l = initialiser_words text w m n.is_request
+    l = initialiser_words text p.parts w m n.vocabulary
 
     abbrev names : List Bytes
     names = names_from n.constant 0 (length p.constant_types)
@@ -363,8 +363,13 @@ module _ (p : Module) (n : ModuleNames) (fits : ConstantsFit p n) (s : Settings)
           ap (λ d. as_value (unless d t (word_answer l word (reach os t)))) (free word o)
           ∙ operates_so os
         where
-          tests : (is_declared text word || n.is_request word) ≡ false
-          tests = ap (λ b. b || n.is_request word) (undeclared word o) ∙ o.asks_nothing
+          refused : Bool → Bool → Bool → Bool
+          refused declared asks operates = (declared || asks) || not operates
+
+          tests : refused (is_declared text word) (n.vocabulary.is_request word) (n.vocabulary.is_operator word) ≡ false
+          tests =
+              ap (λ b. refused b (n.vocabulary.is_request word) (n.vocabulary.is_operator word)) (undeclared word o)
+              ∙ ap₂ (refused false) o.asks_nothing o.operates
 
           operates_so : (os : Option (List Value)) → as_value (word_answer l word (reach os t)) ≡ denoted (operator_value m (Spelled word) os) t
           operates_so None = refl
@@ -387,10 +392,10 @@ module _ (p : Module) (n : ModuleNames) (fits : ConstantsFit p n) (s : Settings)
         ∙ (let f = fits.initialisers i e q in gives found (found_counted r) e f.words f.range))
 
     -- so does the last round
-    scope_found : module_scope text s w m n.is_request ≡ with_known names all_rounds outside
+    scope_found : module_scope text p.parts s w m n.vocabulary ≡ with_known names all_rounds outside
     scope_found = ap (scope_after l text s) (length-constants_from n 0 p.initialisers) ∙ round_is (constant_count p)
 
-    pub scope_is : module_scope text s w m n.is_request ≡ module_names_in_scope p n env
+    pub scope_is : module_scope text p.parts s w m n.vocabulary ≡ module_names_in_scope p n env
     scope_is =
         scope_found
         ∙ ap (λ os. with_known names os outside) values.1
@@ -400,7 +405,7 @@ module _ (p : Module) (n : ModuleNames) (fits : ConstantsFit p n) (s : Settings)
 
     -- and an initialiser has the module's value
     pub initialiser_is : (e : ConstantTree) → EachWord (OperatesOutside p n) e → ConstantInRange p e →
-        text_initialiser_value text s w m n.is_request (constant_form n e) ≡ module_initialiser_value p s m e
+        text_initialiser_value text p.parts s w m n.vocabulary (constant_form n e) ≡ module_initialiser_value p s m e
     initialiser_is e words range =
         ap (λ scope. value_denoted (initialiser_value l scope (constant_form n e))) scope_found
         ∙ ap value_denoted (gives all_rounds (found_counted (constant_count p)) e words range)

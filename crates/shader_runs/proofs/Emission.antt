@@ -53,11 +53,11 @@ agree_update s kept h o a k p =
 -- an event's handle wasn't in scope, and an operator's has the value that it had
 pub new_event : (c : Call) (s : Handles) (names : Scope) (kept : KeptValues) (y : ValueType)
     (e : Option Expression) (o : Option Value) →
-    ((vs : List Value) → combined_value c.meaning e vs ≡ None) → (st : Availability) →
+    ((vs : List Value) → combined_value c.environment.parts c.meaning e vs ≡ None) → (st : Availability) →
     IsTrue (is_new st) → Stands c s names kept y e o st → IsTrue (is_present st) → ⊥
 new_event c s names kept y e o f Absent i d p = true≢false (sym p)
 new_event c s names kept y e o f Barred i d p = true≢false (sym p)
-new_event c s names kept y e o f Everywhere i d p = no_value c.environment.parts y o d.1 (d.2 ∙ unwritten c.meaning e f (used_values c kept (operands_of e)))
+new_event c s names kept y e o f Everywhere i d p = no_value c.environment.parts y o d.1 (d.2 ∙ unwritten c.environment.parts c.meaning e f (used_values c kept (operands_of e)))
 new_event c s names kept y e o f Inline i d p = true≢false (sym i)
 new_event c s names kept y e o f (Bound x) i d p = true≢false (sym i)
 
@@ -313,10 +313,10 @@ module _ (p : Module) (c : Call) (n : Names) (d : Respond) (facts : Facts p c n 
         (new_operator c s names kept (handle_type c.function h) (expression_of c.function h)
         (kept h) (s h) a (r.availability h))
 
-    no_event : (e : Option Expression) → expression_of c.function h ≡ e → ((vs : List Value) → combined_value c.meaning e vs ≡ None) → IsTrue (is_present (s h)) → ⊥
+    no_event : (e : Option Expression) → expression_of c.function h ≡ e → ((vs : List Value) → combined_value c.environment.parts c.meaning e vs ≡ None) → IsTrue (is_present (s h)) → ⊥
     no_event e q g =
         new_event c s names kept (handle_type c.function h) (expression_of c.function h) (kept h)
-        (subst (λ e. (vs : List Value) → combined_value c.meaning e vs ≡ None) (sym q) g)
+        (subst (λ e. (vs : List Value) → combined_value c.environment.parts c.meaning e vs ≡ None) (sym q) g)
         (s h) a (r.availability h)
 
     emit_pure : (b : Bool) (e : Option Expression) → expression_of c.function h ≡ e →

@@ -1,8 +1,9 @@
 -- What a text's expression gives where it makes no event, by its parts.
 use Rattle.std.proofs.Common.{◌≡◌, ℕ, Bool, true, false, cond, List, [], ◌∷◌, Option, Some, None}
 use Rattle.std.proofs.Common.{refl, sym, ap, ◌∙◌, true≢false, ℤ, option_map, subst}
+use Rattle.std.specs.Prelude.{option_and_then}
 use Rattle.std.specs.Prelude.{IsTrue}
-use Rattle.shader_runs.specs.Value.{Bytes, PartTypes, Part, At, Selector, MemberNamed, step_of}
+use Rattle.shader_runs.specs.Value.{Bytes, PartTypes, place_at, place_to, Selector, MemberNamed}
 use Rattle.shader_runs.specs.Value.{ValueType, PointerType, has_type, has_types, Value, Truth}
 use Rattle.shader_runs.specs.Value.{Whole, Pointer, Spelled, PartWord, IndexWord, ShortCircuit}
 use Rattle.shader_runs.specs.Value.{truth_in, integer_in, place_in, Place, type_of}
@@ -39,7 +40,7 @@ abbrev pub Respond : Type 0
 Respond = Bytes → List Value → List Event → ReachedOrHalted (Option Value)
 
 abbrev pub words : Call → Respond → Words
-words c d = record { world = c.world; meaning = c.meaning; respond = d }
+words c d = record { parts = c.environment.parts; world = c.world; meaning = c.meaning; respond = d }
 
 -- what the text makes of a word: a callee's run, or what the table says
 pub record Responds (p : Module) (c : Call) (n : Names) (d : Respond) : Type 0 where
@@ -129,20 +130,20 @@ applied_reached p c n d r w f o e os t =
     ap (λ o. as_value (unless o t (word_answer (words c d) w (reach os t)))) e ∙ operated p c n d r w f os t
 
 -- the operands' values, where there is a value
-pub data OneOf (m : Meaning) (e : Option Expression) (a : Option Value) (v : Value) : Type 0 where
-  one_of : (x : Value) → a ≡ Some x → combined_value m e (x ∷ []) ≡ Some v → OneOf m e a v
+pub data OneOf (parts : PartTypes) (m : Meaning) (e : Option Expression) (a : Option Value) (v : Value) : Type 0 where
+  one_of : (x : Value) → a ≡ Some x → combined_value parts m e (x ∷ []) ≡ Some v → OneOf parts m e a v
 
-pub data TwoOf (m : Meaning) (e : Option Expression) (a b : Option Value) (v : Value) : Type 0 where
-  two_of : (x y : Value) → a ≡ Some x → b ≡ Some y → combined_value m e (x ∷ y ∷ []) ≡ Some v → TwoOf m e a b v
+pub data TwoOf (parts : PartTypes) (m : Meaning) (e : Option Expression) (a b : Option Value) (v : Value) : Type 0 where
+  two_of : (x y : Value) → a ≡ Some x → b ≡ Some y → combined_value parts m e (x ∷ y ∷ []) ≡ Some v → TwoOf parts m e a b v
 
-pub one_there : (m : Meaning) (e : Option Expression) (a : Option Value) (v : Value) → gathered_value m e (also a (Some [])) ≡ Some v → OneOf m e a v
-one_there m e None v q = absurd (none-some v q)
-one_there m e (Some x) v q = one_of x refl q
+pub one_there : (parts : PartTypes) (m : Meaning) (e : Option Expression) (a : Option Value) (v : Value) → gathered_value parts m e (also a (Some [])) ≡ Some v → OneOf parts m e a v
+one_there parts m e None v q = absurd (none-some v q)
+one_there parts m e (Some x) v q = one_of x refl q
 
-pub two_there : (m : Meaning) (e : Option Expression) (a b : Option Value) (v : Value) → gathered_value m e (also a (also b (Some []))) ≡ Some v → TwoOf m e a b v
-two_there m e None b v q = absurd (none-some v q)
-two_there m e (Some x) None v q = absurd (none-some v q)
-two_there m e (Some x) (Some y) v q = two_of x y refl refl q
+pub two_there : (parts : PartTypes) (m : Meaning) (e : Option Expression) (a b : Option Value) (v : Value) → gathered_value parts m e (also a (also b (Some []))) ≡ Some v → TwoOf parts m e a b v
+two_there parts m e None b v q = absurd (none-some v q)
+two_there parts m e (Some x) None v q = absurd (none-some v q)
+two_there parts m e (Some x) (Some y) v q = two_of x y refl refl q
 
 abbrev pub not_pointer_type : ValueType → Bool
 not_pointer_type (PointerType s) = false
@@ -176,26 +177,26 @@ typed_not_pointer parts k (Pointer p) n h = absurd (true≢false (sym h))
 typed_not_pointer parts k x n h = refl
 
 -- an index into a value that is no pointer, and a part of it
-pub index_value_is : (m : Meaning) (x y : Value) → place_in x ≡ None → index_value_of m x y ≡ Some (m IndexWord (x ∷ y ∷ []))
-index_value_is m x y n = ap (λ o. index_value_by m o x y) n
+pub index_value_is : (parts : PartTypes) (m : Meaning) (x y : Value) → place_in x ≡ None → index_value_of parts m x y ≡ Some (m IndexWord (x ∷ y ∷ []))
+index_value_is parts m x y n = ap (λ o. index_value_by parts m o x y) n
 
-pub part_value_is : (m : Meaning) (x : Selector) (b : Value) → place_in b ≡ None → part_value m x b ≡ Some (m (PartWord x) (b ∷ []))
-part_value_is m x b n = ap (λ o. part_value_by m x o b) n
+pub part_value_is : (parts : PartTypes) (m : Meaning) (x : Selector) (b : Value) → place_in b ≡ None → part_value parts m x b ≡ Some (m (PartWord x) (b ∷ []))
+part_value_is parts m x b n = ap (λ o. part_value_by parts m x o b) n
 
-pub index_value : (m : Meaning) (x y v : Value) → place_in x ≡ None →
-    index_value_of m x y ≡ Some v →
+pub index_value : (parts : PartTypes) (m : Meaning) (x y v : Value) → place_in x ≡ None →
+    index_value_of parts m x y ≡ Some v →
     (p : ReachedOrHalted Denotation) (rest : List Event → ReachedOrHalted Value) (t : List Event) →
-    p ≡ Gives (IsValue x) t → rest t ≡ Gives y t → index_into m p rest ≡ Gives (IsValue v) t
-index_value m x y v n e p rest t q r =
-    let same = same_Some (m IndexWord (x ∷ y ∷ [])) v (sym (index_value_is m x y n) ∙ e) in
-    ap (λ p. index_into m p rest) q ∙ ap (λ o. unless o t (index_reached m x (rest t))) n ∙ ap (index_reached m x) r ∙ ap (λ v. Gives (IsValue v) t) same
+    p ≡ Gives (IsValue x) t → rest t ≡ Gives y t → index_into parts m p rest ≡ Gives (IsValue v) t
+index_value parts m x y v n e p rest t q r =
+    let same = same_Some (m IndexWord (x ∷ y ∷ [])) v (sym (index_value_is parts m x y n) ∙ e) in
+    ap (λ p. index_into parts m p rest) q ∙ ap (λ o. unless o t (index_reached m x (rest t))) n ∙ ap (index_reached m x) r ∙ ap (λ v. Gives (IsValue v) t) same
 
-pub part_picked_value : (m : Meaning) (x : Selector) (b v : Value) → place_in b ≡ None →
-    part_value m x b ≡ Some v → (p : ReachedOrHalted Denotation) (t : List Event) →
-    p ≡ Gives (IsValue b) t → part_picked m x p ≡ Gives (IsValue v) t
-part_picked_value m x b v n e p t q =
-    let same = same_Some (m (PartWord x) (b ∷ [])) v (sym (part_value_is m x b n) ∙ e) in
-    ap (part_picked m x) q ∙ ap (λ o. unless o t (Gives (IsValue (m (PartWord x) (b ∷ []))) t)) n ∙ ap (λ v. Gives (IsValue v) t) same
+pub part_picked_value : (parts : PartTypes) (m : Meaning) (x : Selector) (b v : Value) → place_in b ≡ None →
+    part_value parts m x b ≡ Some v → (p : ReachedOrHalted Denotation) (t : List Event) →
+    p ≡ Gives (IsValue b) t → part_picked parts m x p ≡ Gives (IsValue v) t
+part_picked_value parts m x b v n e p t q =
+    let same = same_Some (m (PartWord x) (b ∷ [])) v (sym (part_value_is parts m x b n) ∙ e) in
+    ap (part_picked parts m x) q ∙ ap (λ o. unless o t (Gives (IsValue (m (PartWord x) (b ∷ []))) t)) n ∙ ap (λ v. Gives (IsValue v) t) same
 
 -- the two sides of `&&` and `||`
 pub logical_reached_value : (m : Meaning) (j : ShortCircuit) (l r : Value)
@@ -211,63 +212,75 @@ logical_reached_value m j l r p rest t e q = ap (λ p. logical_reached m j p res
 module _ (c : Call) (d : Respond) (names : Scope) where
   index_place : (pt : Bytes) (b i : Plain) (x y v : Value) → Means c d names b (Some x) →
       Means c d names i (Some y) → IsTrue (has_type c.environment.parts (PointerType pt) x) →
-      index_value_of c.meaning x y ≡ Some v →
+      index_value_of c.environment.parts c.meaning x y ≡ Some v →
       Means c d names (AsPlace (Index (place_form b) (value_form i))) (Some v)
   index_place pt b i x y v mb mi h e =
       let q = pointer_typed c.environment.parts (PointerType pt) tt x h in
-      element q.0 (ap place_in q.1) (integer_in y) refl (sym (ap (λ x. index_value_of c.meaning x y) q.1) ∙ e)
+      element q.0 (ap place_in q.1) (option_and_then (place_at c.environment.parts q.0) (integer_in y)) refl (sym (ap (λ x. index_value_of c.environment.parts c.meaning x y) q.1) ∙ e)
     where
-      element : (p : Place) → place_in x ≡ Some p → (o : Option ℤ) → integer_in y ≡ o →
-          option_map (λ z. Pointer (Part p (At z))) o ≡ Some v →
+      element : (p : Place) → place_in x ≡ Some p → (o : Option Place) →
+          option_and_then (place_at c.environment.parts p) (integer_in y) ≡ o →
+          option_map Pointer o ≡ Some v →
           Means c d names (AsPlace (Index (place_form b) (value_form i))) (Some v)
       element p q None s e = absurd (none-some v e)
-      element p q (Some z) s e =
+      element p q (Some place) s e =
           let rest = value_of (words c d) (value_form i) names in (
-            Part p (At z),
+            place,
             sym e,
-            λ t. ap (λ r. index_into c.meaning r rest) (place_form_gives c d names b (Some x) mb t
+            λ t. ap (λ r. index_into c.environment.parts c.meaning r rest) (place_form_gives c d names b (Some x) mb t
                 ∙ ap (λ o. reach (option_map IsPlace o) t) q)
-                ∙ ap (part_reached p) (value_form_gives c d names i (Some y) mi t)
-                ∙ ap (λ o. reach (option_map (λ z. IsPlace (Part p (At z))) o) t) s,
+                ∙ ap (part_reached c.environment.parts p) (value_form_gives c d names i (Some y) mi t)
+                ∙ ap (λ o. reach (option_map IsPlace o) t) s,
           )
 
   index_means : (b i : Plain) (x y v : Value) → Means c d names b (Some x) →
-      Means c d names i (Some y) → place_in x ≡ None → index_value_of c.meaning x y ≡ Some v →
+      Means c d names i (Some y) → place_in x ≡ None → index_value_of c.environment.parts c.meaning x y ≡ Some v →
       Means c d names (AsValue (Index (value_form b) (value_form i))) (Some v)
   index_means b i x y v mb mi h e t =
-      index_value c.meaning x y v h e (evaluate (words c d) (value_form b) names t)
+      index_value c.environment.parts c.meaning x y v h e (evaluate (words c d) (value_form b) names t)
       (value_of (words c d) (value_form i) names) t
       (value_form_denotes c d names b (Some x) mb t)
       (value_form_gives c d names i (Some y) mi t)
 
   pub access_means : (k : ValueType) (b i : Plain) (x y v : Value) → Means c d names b (Some x) →
       Means c d names i (Some y) → IsTrue (has_type c.environment.parts k x) →
-      index_value_of c.meaning x y ≡ Some v → Means c d names (access_form k b i) (Some v)
+      index_value_of c.environment.parts c.meaning x y ≡ Some v → Means c d names (access_form k b i) (Some v)
   access_means (PointerType s) b i x y v mb mi h e = index_place s b i x y v mb mi h e
   access_means k b i x y v mb mi h e =
       index_means b i x y v mb mi (typed_not_pointer c.environment.parts k x refl h) e
 
   part_place : (pt : Bytes) (x : Selector) (b : Plain) (y v : Value) → Means c d names b (Some y) →
-      IsTrue (has_type c.environment.parts (PointerType pt) y) → part_value c.meaning x y ≡ Some v →
+      IsTrue (has_type c.environment.parts (PointerType pt) y) → part_value c.environment.parts c.meaning x y ≡ Some v →
       Means c d names (AsPlace (PartOf x (place_form b))) (Some v)
   part_place pt x b y v mb h e =
       let q = pointer_typed c.environment.parts (PointerType pt) tt y h in
-      (Part q.0 (step_of x), sym e ∙ ap (part_value c.meaning x) q.1, λ t. ap (part_picked c.meaning x) (place_form_gives c d names b (Some y) mb t ∙ ap (λ v. placed (Some v) t) q.1))
+      part q.0 q.1 (place_to c.environment.parts q.0 x) refl (sym (ap (part_value c.environment.parts c.meaning x) q.1) ∙ e)
+    where
+      part : (p : Place) → y ≡ Pointer p → (o : Option Place) → place_to c.environment.parts p x ≡ o →
+          option_map Pointer o ≡ Some v → Means c d names (AsPlace (PartOf x (place_form b))) (Some v)
+      part p q None s e = absurd (none-some v e)
+      part p q (Some place) s e = (
+        place,
+        sym e,
+        λ t. ap (part_picked c.environment.parts c.meaning x)
+            (place_form_gives c d names b (Some y) mb t ∙ ap (λ v. placed (Some v) t) q)
+            ∙ ap (λ o. reach (option_map IsPlace o) t) s,
+      )
 
   part_value_means : (x : Selector) (b : Plain) (y v : Value) → Means c d names b (Some y) →
-      place_in y ≡ None → part_value c.meaning x y ≡ Some v →
+      place_in y ≡ None → part_value c.environment.parts c.meaning x y ≡ Some v →
       Means c d names (AsValue (PartOf x (value_form b))) (Some v)
   part_value_means x b y v mb h e t =
-      part_picked_value c.meaning x y v h e (evaluate (words c d) (value_form b) names t) t (value_form_denotes c d names b (Some y) mb t)
+      part_picked_value c.environment.parts c.meaning x y v h e (evaluate (words c d) (value_form b) names t) t (value_form_denotes c d names b (Some y) mb t)
 
   pub part_means : (k : ValueType) (x : Selector) (b : Plain) (y v : Value) →
       Means c d names b (Some y) → IsTrue (has_type c.environment.parts k y) →
-      part_value c.meaning x y ≡ Some v → Means c d names (part_form k x b) (Some v)
+      part_value c.environment.parts c.meaning x y ≡ Some v → Means c d names (part_form k x b) (Some v)
   part_means (PointerType s) x b y v mb h e = part_place s x b y v mb h e
   part_means k x b y v mb h e = part_value_means x b y v mb (typed_not_pointer c.environment.parts k y refl h) e
 
-  swizzled_value : (letters : Bytes) (y v : Value) → place_in y ≡ None → swizzle_value c.meaning letters y ≡ Some v → part_value c.meaning (MemberNamed letters) y ≡ Some v
-  swizzled_value letters y v h e = part_value_is c.meaning (MemberNamed letters) y h ∙ e
+  swizzled_value : (letters : Bytes) (y v : Value) → place_in y ≡ None → swizzle_value c.meaning letters y ≡ Some v → part_value c.environment.parts c.meaning (MemberNamed letters) y ≡ Some v
+  swizzled_value letters y v h e = part_value_is c.environment.parts c.meaning (MemberNamed letters) y h ∙ e
 
   no_pointer_type : (k : ValueType) → IsNoPointer k → IsTrue (not_pointer_type k)
   no_pointer_type (PointerType s) n = absurd n

@@ -62,9 +62,9 @@ pub record Facts (p : Module) (c : Call) (n : Names) (d : Respond) : Type 0 wher
 pub no_value : (parts : PartTypes) (y : ValueType) (o : Option Value) → TypedValue parts y o → o ≡ None → ⊥
 no_value parts y o v e = none-some v.0 (sym e ∙ v.1)
 
-pub unwritten : (m : Meaning) (e : Option Expression) → ((vs : List Value) → combined_value m e vs ≡ None) → (os : Option (List Value)) → gathered_value m e os ≡ None
-unwritten m e h None = refl
-unwritten m e h (Some vs) = h vs
+pub unwritten : (parts : PartTypes) (m : Meaning) (e : Option Expression) → ((vs : List Value) → combined_value parts m e vs ≡ None) → (os : Option (List Value)) → gathered_value parts m e os ≡ None
+unwritten parts m e h None = refl
+unwritten parts m e h (Some vs) = h vs
 
 pub has_type_at : (parts : PartTypes) (ts : List ValueType) (vs : List Value) → IsTrue (has_types parts ts vs) → (i : ℕ) → i < length ts → TypedValue parts (type_at ts i) (slice_get vs i)
 has_type_at parts [] [] h i lt = absurd (omega arith)
@@ -189,7 +189,7 @@ module _ (p : Module) (c : Call) (s : Handles) (kept : KeptValues) (each : UsesT
       let e = expression_of c.function h in
       let vs = all_typed (operands_of e) u in
       let v = typed.operators h q vs.0 vs.2 in
-      (v.0, ap (gathered_value c.meaning e) vs.1 ∙ v.1, v.2)
+      (v.0, ap (gathered_value c.environment.parts c.meaning e) vs.1 ∙ v.1, v.2)
 
   -- a request's operands, and the constants behind them
   pub request_there : EnvironmentFits p c.environment → (xs : List ℕ) (es : ConstantTrees) →
@@ -235,7 +235,7 @@ module _ (p : Module) (c : Call) (n : Names) (d : Respond) (facts : Facts p c n 
       (os : Option (List Value)) (t : List Event) →
       as_value (unless (names w) t (word_answer (words c d) w (reach os t))) ≡ denoted
       (operator_value c.meaning (Spelled w) os) t
-  operator_here w o = applied_reached p c n d facts.responds w o (names w) (free w o.1.1)
+  operator_here w o = applied_reached p c n d facts.responds w o (names w) (free w o.2.1)
 
   constant_gives : (e : ConstantTree) → ConstantWords p (naming c n) e → ConstantInRange p e →
       (t : List Event) → evaluate (words c d) (constant_form n.outer e) names t ≡ denoted
@@ -325,10 +325,10 @@ module _ (p : Module) (c : Call) (n : Names) (d : Respond) (facts : Facts p c n 
         Means c d names (own_form (naming c n) operand (Some (Operator w xs))) o
     operator_means w xs f o e m t =
         ap (λ q. as_value (unless (names w) t (word_answer (words c d) w q))) (value_forms_give c d names kept operand xs m t)
-        ∙ applied_reached p c n d facts.responds w f (names w) (free w f.1.1) (used_values c kept xs) t
+        ∙ applied_reached p c n d facts.responds w f (names w) (free w f.2.1) (used_values c kept xs) t
         ∙ ap (λ o. denoted o t) (applied_gathered (used_values c kept xs) ∙ sym e)
       where
-        applied_gathered : (os : Option (List Value)) → operator_value c.meaning (Spelled w) os ≡ gathered_value c.meaning (Some (Operator w xs)) os
+        applied_gathered : (os : Option (List Value)) → operator_value c.meaning (Spelled w) os ≡ gathered_value c.environment.parts c.meaning (Some (Operator w xs)) os
         applied_gathered None = refl
         applied_gathered (Some vs) = refl
 
@@ -346,9 +346,9 @@ module _ (p : Module) (c : Call) (n : Names) (d : Respond) (facts : Facts p c n 
         IsTrue (usable c.function s b) → AllMean c d names kept operand (b ∷ i ∷ []) →
         Means c d names (own_form (naming c n) operand (Some (Access b i))) o
     index_there b i o y v e u m =
-        go (two_there c.meaning (Some (Access b i)) (used_value c kept b) (used_value c kept i) v.0 (sym e ∙ v.1))
+        go (two_there c.environment.parts c.meaning (Some (Access b i)) (used_value c kept b) (used_value c kept i) v.0 (sym e ∙ v.1))
       where
-        go : TwoOf c.meaning (Some (Access b i)) (used_value c kept b) (used_value c kept i) v.0 → Means c d names (own_form (naming c n) operand (Some (Access b i))) o
+        go : TwoOf c.environment.parts c.meaning (Some (Access b i)) (used_value c kept b) (used_value c kept i) v.0 → Means c d names (own_form (naming c n) operand (Some (Access b i))) o
         go (two_of x j eb ei ev) =
             at_value (own_form (naming c n) operand (Some (Access b i))) (Some v.0) o (sym v.1)
             (access_means c d names (handle_type c.function b) (operand b) (operand i) x j v.0
@@ -360,9 +360,9 @@ module _ (p : Module) (c : Call) (n : Names) (d : Respond) (facts : Facts p c n 
         TypedValue c.environment.parts y o → o ≡ computed_value c kept (Some (AccessIndex x b)) →
         IsTrue (usable c.function s b) → AllMean c d names kept operand (b ∷ []) →
         Means c d names (own_form (naming c n) operand (Some (AccessIndex x b))) o
-    part_there x b o y v e u m = go (one_there c.meaning (Some (AccessIndex x b)) (used_value c kept b) v.0 (sym e ∙ v.1))
+    part_there x b o y v e u m = go (one_there c.environment.parts c.meaning (Some (AccessIndex x b)) (used_value c kept b) v.0 (sym e ∙ v.1))
       where
-        go : OneOf c.meaning (Some (AccessIndex x b)) (used_value c kept b) v.0 → Means c d names (own_form (naming c n) operand (Some (AccessIndex x b))) o
+        go : OneOf c.environment.parts c.meaning (Some (AccessIndex x b)) (used_value c kept b) v.0 → Means c d names (own_form (naming c n) operand (Some (AccessIndex x b))) o
         go (one_of z eb ev) =
             at_value (own_form (naming c n) operand (Some (AccessIndex x b))) (Some v.0) o
             (sym v.1) (part_means c d names (handle_type c.function b) x (operand b) z v.0
@@ -375,9 +375,9 @@ module _ (p : Module) (c : Call) (n : Names) (d : Respond) (facts : Facts p c n 
         AllMean c d names kept operand (b ∷ []) →
         Means c d names (own_form (naming c n) operand (Some (Swizzle letters b))) o
     swizzle_there letters b o y l v e u m =
-        go (one_there c.meaning (Some (Swizzle letters b)) (used_value c kept b) v.0 (sym e ∙ v.1))
+        go (one_there c.environment.parts c.meaning (Some (Swizzle letters b)) (used_value c kept b) v.0 (sym e ∙ v.1))
       where
-        go : OneOf c.meaning (Some (Swizzle letters b)) (used_value c kept b) v.0 → Means c d names (own_form (naming c n) operand (Some (Swizzle letters b))) o
+        go : OneOf c.environment.parts c.meaning (Some (Swizzle letters b)) (used_value c kept b) v.0 → Means c d names (own_form (naming c n) operand (Some (Swizzle letters b))) o
         go (one_of z eb ev) =
             at_value (own_form (naming c n) operand (Some (Swizzle letters b))) (Some v.0) o
             (sym v.1) (swizzle_means c d names (handle_type c.function b) letters
@@ -390,9 +390,9 @@ module _ (p : Module) (c : Call) (n : Names) (d : Respond) (facts : Facts p c n 
         AllMean c d names kept operand (a ∷ b ∷ []) →
         Means c d names (own_form (naming c n) operand (Some (Logical j a b))) o
     logical_there j a b o y v e m =
-        go (two_there c.meaning (Some (Logical j a b)) (used_value c kept a) (used_value c kept b) v.0 (sym e ∙ v.1))
+        go (two_there c.environment.parts c.meaning (Some (Logical j a b)) (used_value c kept a) (used_value c kept b) v.0 (sym e ∙ v.1))
       where
-        go : TwoOf c.meaning (Some (Logical j a b)) (used_value c kept a) (used_value c kept b) v.0 → Means c d names (own_form (naming c n) operand (Some (Logical j a b))) o
+        go : TwoOf c.environment.parts c.meaning (Some (Logical j a b)) (used_value c kept a) (used_value c kept b) v.0 → Means c d names (own_form (naming c n) operand (Some (Logical j a b))) o
         go (two_of l z ea eb ev) =
             at_value (own_form (naming c n) operand (Some (Logical j a b))) _ o (ev ∙ sym v.1)
             (logical_means c d names j (operand a) (operand b) l z
@@ -427,9 +427,9 @@ module _ (p : Module) (c : Call) (n : Names) (d : Respond) (facts : Facts p c n 
     inline_there k (Some (Argument i)) f l o u us v q m = argument_means i u
     inline_there k (Some (Local i)) f l o u us v q m = local_means i u
     inline_there k (Some (Global held i)) f l o u us v q m = global_means held i l.0 l.1
-    inline_there k (Some (Load x)) f l o u us v q m = absurd (no_value c.environment.parts k o v (q ∙ unwritten c.meaning (Some (Load x)) (λ vs. refl) (used_values c kept (x ∷ []))))
-    inline_there k (Some (Request a w xs es)) f l o u us v q m = absurd (no_value c.environment.parts k o v (q ∙ unwritten c.meaning (Some (Request a w xs es)) (λ vs. refl) (used_values c kept xs)))
-    inline_there k (Some Result) f l o u us v q m = absurd (no_value c.environment.parts k o v (q ∙ unwritten c.meaning (Some Result) (λ vs. refl) (used_values c kept [])))
+    inline_there k (Some (Load x)) f l o u us v q m = absurd (no_value c.environment.parts k o v (q ∙ unwritten c.environment.parts c.meaning (Some (Load x)) (λ vs. refl) (used_values c kept (x ∷ []))))
+    inline_there k (Some (Request a w xs es)) f l o u us v q m = absurd (no_value c.environment.parts k o v (q ∙ unwritten c.environment.parts c.meaning (Some (Request a w xs es)) (λ vs. refl) (used_values c kept xs)))
+    inline_there k (Some Result) f l o u us v q m = absurd (no_value c.environment.parts k o v (q ∙ unwritten c.environment.parts c.meaning (Some Result) (λ vs. refl) (used_values c kept [])))
     inline_there k (Some (Operator w xs)) f l o u us v q m = operator_there k (Some (Operator w xs)) refl f l o v q us m
     inline_there k (Some (Access b i)) f l o u us v q m = operator_there k (Some (Access b i)) refl f l o v q us m
     inline_there k (Some (AccessIndex x b)) f l o u us v q m = operator_there k (Some (AccessIndex x b)) refl f l o v q us m

@@ -154,13 +154,13 @@ module _ (p : Module) (f : Naming) (distinct : AreDistinct p f) where
         (e : ConstantTree) → ConstantInRange p e → ConstantWords p f e →
         tree_targets names (constant_form f.names.outer e) ≡ map Some (constant_targets e)
     constant_named declared names knows =
-        constant_resolves f.names.outer names (length p.constant_types) (λ i lt. knows.fixed (ConstantName i) lt tt) (OperatesBy p f) (λ w o. knows.free w o.1)
+        constant_resolves f.names.outer names (length p.constant_types) (λ i lt. knows.fixed (ConstantName i) lt tt) (OperatesBy p f) (λ w o. knows.free w o.2)
 
     pub constants_named : (declared : ℕ) (names : Lookup) → Knows declared names →
         (es : ConstantTrees) → ConstantsInRange p es → ConstantsWords p f es →
         trees_targets names (constant_forms f.names.outer es) ≡ map Some (constants_targets es)
     constants_named declared names knows =
-        constants_resolve f.names.outer names (length p.constant_types) (λ i lt. knows.fixed (ConstantName i) lt tt) (OperatesBy p f) (λ w o. knows.free w o.1)
+        constants_resolve f.names.outer names (length p.constant_types) (λ i lt. knows.fixed (ConstantName i) lt tt) (OperatesBy p f) (λ w o. knows.free w o.2)
 
     -- ---- first values
     -- no handle has a name at the start
@@ -175,7 +175,7 @@ module _ (p : Module) (f : Naming) (distinct : AreDistinct p f) where
       is_constant = is_constant_below f.function
 
       pure_named : (e : Option Expression) → IsTrue (is_pure e) → WordFits p f e → IsNamed f names e
-      pure_named (Some (Operator word xs)) pure fits = knows.free word fits.1
+      pure_named (Some (Operator word xs)) pure fits = knows.free word fits.2
       pure_named (Some (Access b i)) pure fits = tt
       pure_named (Some (AccessIndex x b)) pure fits = tt
       pure_named (Some (Logical j a b)) pure fits = tt
@@ -186,7 +186,7 @@ module _ (p : Module) (f : Naming) (distinct : AreDistinct p f) where
           IsTrue (constant_test test e) → WordFits p f e → LeafFits p f.function k e →
           IsNamed f names e × IsTrue (all_constant test (operands_of e))
       tree_named test k (Some (Constant e)) is fits leaf = (constant_named declared names knows e leaf.0 fits, refl)
-      tree_named test k (Some (Operator word xs)) is fits leaf = (knows.free word fits.1, is)
+      tree_named test k (Some (Operator word xs)) is fits leaf = (knows.free word fits.2, is)
       tree_named test k (Some (Access b i)) is fits leaf = (tt, is)
       tree_named test k (Some (AccessIndex x b)) is fits leaf = (tt, is)
       tree_named test k (Some (Logical j a b)) is fits leaf = (tt, is)

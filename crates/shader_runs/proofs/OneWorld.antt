@@ -180,7 +180,7 @@ module _ (p : Module) (n : ModuleNames) (fs : List Naming) (fits : ModuleFits p 
 
     -- the text's run makes as many events
     as_many :
-        events_made (follow_module (form_module p n fs) settings w m n.is_request j (n.function g) vs past)
+        events_made (follow_module (form_module p n fs) p.parts settings w m n.vocabulary j (n.function g) vs past)
         ≡ events_made (filled (call j) past)
     as_many =
         ap events_made (runs_alike p n fs fits settings fit m typed g f there vs h w j past run_keeps)
@@ -192,8 +192,8 @@ module _ (p : Module) (n : ModuleNames) (fs : List Naming) (fits : ModuleFits p 
       (j + length past ≤ events_made (filled (call j) past))
   filled_settles j k le =
       go (settled_events j
-      (call_settles j (module_scope (form_module p n fs) settings world m n.is_request) world m
-      (word_use (form_module p n fs).functions n.is_request) k le (form_module p n fs).functions
+      (call_settles j p.parts (module_scope (form_module p n fs) p.parts settings world m n.vocabulary) world m
+      (word_use (form_module p n fs).functions n.vocabulary) k le (form_module p n fs).functions
       (n.function g) vs past))
     where
       world : World
@@ -206,7 +206,7 @@ module _ (p : Module) (n : ModuleNames) (fs : List Naming) (fits : ModuleFits p 
       fewer u y a r = right u y (asks_with_more (course_cut j k le (call_process env m p.functions g vs)) a) r
 
       followed : ℕ → ReachedOrHalted (Option Value)
-      followed i = follow_module (form_module p n fs) settings world m n.is_request i (n.function g) vs past
+      followed i = follow_module (form_module p n fs) p.parts settings world m n.vocabulary i (n.function g) vs past
 
       go : ((events_made (followed j) ≡ events_made (followed k)) ⊎ (j + length past ≤ events_made (followed j))) →
           (events_made (filled (call j) past) ≡ events_made (filled (call k) past)) ⊎

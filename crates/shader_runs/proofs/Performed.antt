@@ -198,7 +198,7 @@ module _ (w : World) (n : ℕ) where
 
     computed_performed : (h : ℕ) (e : Option Expression) (kept : KeptValues) (t : List Event) → Done (update kept h (computed_value c kept e)) t ≡ Done (update kept h (computed_value alone kept e)) t
     computed_performed h e kept t =
-        ap (λ o. Done (update kept h (gathered_value m e o)) t) (used_all_alone kept (operands_of e))
+        ap (λ o. Done (update kept h (gathered_value env.parts m e o)) t) (used_all_alone kept (operands_of e))
 
     one_performed : (h : ℕ) (e : Option Expression) (kept : KeptValues) (t : List Event) → emit_as c h e kept t ≡ outcome (perform w n (emit_one alone callees h e kept) t)
     one_performed h (Some (Load p)) kept t =

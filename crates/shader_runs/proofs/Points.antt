@@ -67,10 +67,10 @@ points_agree p n later f fs fits s settings m typed vs h w turns before_entry t 
 
     -- where the text's run has come to, inside these names of the module
     Arrived : Scope → Type 0
-    Arrived outer = (names : Scope) × TextPasses (words_of outer n every w m turns fs) turns
+    Arrived outer = (names : Scope) × TextPasses (words_of p.parts outer n every w m turns fs) turns
         (form_all f 0 f.function.body (at_start f.function))
         (point_in_text f.function f.function.body q) (names_of outer f vs before_entry) t names t1 ×
-        LinesAreTheForm f f.function.body q × FactsHold c (words_of outer n every w m turns fs) f
+        LinesAreTheForm f f.function.body q × FactsHold c (words_of p.parts outer n every w m turns fs) f
         (handles_at f 0 f.function.body q (at_start f.function)) kept names
 
     count : length (later ++ (f ∷ fs)) ≡ length p.functions
@@ -85,12 +85,12 @@ points_agree p n later f fs fits s settings m typed vs h w turns before_entry t 
     inside_named =
         let whole = module_within p every fits.functions in
         let within : length fs ≤ length p.functions = omega (arith, whole, count_behind later (f ∷ fs)) in
-        let uses = word_use (form_functions every) n.is_request in
+        let uses = word_use (form_functions every) n.vocabulary in
         let known = uses_fit p n every whole fits.all in
         let fit = fit_behind p n later (f ∷ fs) fits.all in
         let all = typed_behind env.parts p m later (f ∷ fs) (subst (λ l. AllTypedIn env.parts p m l) (sym fits.functions) typed.functions) in
         let earlier = calls_alike p n uses known env environment w m turns fs within fit.1 all.1 one in
-        let d = (words_of (module_names_in_scope p n env) n every w m turns fs).respond in
+        let d = (words_of p.parts (module_names_in_scope p n env) n every w m turns fs).respond in
         let first = starting p n (functions_of fs) f fit.0 in
         let facts = facts p n uses known env environment w m turns fs within fit.1 earlier f first all.0 vs before_entry h in
         let start = starts p n uses known env environment w m turns fs within fit.1 earlier f first all.0 vs before_entry (has_types_length env.parts f.function.argument_types vs h) in

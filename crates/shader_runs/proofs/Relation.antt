@@ -121,7 +121,7 @@ used_all_agree c s kept kept' a (x ∷ xs) u =
 pub computed_agree : (c : Call) (s : Handles) (kept kept' : KeptValues) → Agree s kept kept' →
     (e : Option Expression) → IsTrue (usable_all c.function s (operands_of e)) →
     computed_value c kept' e ≡ computed_value c kept e
-computed_agree c s kept kept' a e u = ap (gathered_value c.meaning e) (used_all_agree c s kept kept' a (operands_of e) u)
+computed_agree c s kept kept' a e u = ap (gathered_value c.environment.parts c.meaning e) (used_all_agree c s kept kept' a (operands_of e) u)
 
 usable_more_as : (f : Function) (e : Option Expression) (st st' : Availability) → (IsTrue (is_present st) → IsTrue (is_present st')) → IsTrue (usable_as f e st) → IsTrue (usable_as f e st')
 usable_more_as f (Some (Constant v)) st st' x u = u

@@ -4,8 +4,9 @@ use Rattle.std.proofs.Common.{◌≡◌, ℕ, zero, suc, ◌+◌, ◌<◌, ◌�
 use Rattle.std.proofs.Common.{cond, nat_eq, List, [], ◌∷◌, length, Option, Some, None, refl, sym}
 use Rattle.std.proofs.Common.{ap, ◌∙◌, subst, arith, option_map}
 use Rattle.std.proofs.Math.Nat.{eq-or-lt_of_le}
-use Rattle.shader_runs.specs.Value.{Bytes, same_bytes, Place, Selector, Value, ShortCircuit}
-use Rattle.shader_runs.specs.Value.{truth_in, integer_in, place_in, Part, At}
+use Rattle.std.specs.Prelude.{option_and_then}
+use Rattle.shader_runs.specs.Value.{Bytes, same_bytes, PartTypes, Place, Selector, Value}
+use Rattle.shader_runs.specs.Value.{ShortCircuit, truth_in, integer_in, place_in, place_at, place_to}
 use Rattle.shader_runs.specs.World.{Event, Entry, Write, entries, World, Meaning, bind}
 use Rattle.shader_runs.specs.Outcome.{OutOfTurns, Outcome, Done, Continued, Broke, Returned}
 use Rattle.shader_runs.specs.Outcome.{Stopped, ReachedOrHalted, Gives, Halts, answer, Next}
@@ -29,8 +30,8 @@ use Rattle.shader_runs.specs.TextRun.{perform_outcome, has_continue, break_line,
 use Rattle.shader_runs.specs.TextRun.{group_has, follow, follow_all, follow_groups, with_parameters}
 use Rattle.shader_runs.specs.TextRun.{with_variables, put_first, first_followed, first_of_each}
 use Rattle.shader_runs.specs.TextRun.{entered_by, follow_body, follow_call, WordUse, NamesFunction}
-use Rattle.shader_runs.specs.TextRun.{AsksForEvent, Operates, respond_by_use, first_then}
-use Rattle.shader_runs.specs.TextRun.{with_variable}
+use Rattle.shader_runs.specs.TextRun.{AsksForEvent, Operates, MeansNothing, respond_by_use}
+use Rattle.shader_runs.specs.TextRun.{first_then, with_variable}
 use Rattle.shader_runs.proofs.Process.{events_of, reached_events}
 
 -- the second history is the first with later events
@@ -250,14 +251,14 @@ module _ (k : ℕ) where
   unless_settles None t h = h
   unless_settles (Some a) t h = same here
 
-  indexed_settles : {t : List Event} {q q' : ReachedOrHalted Denotation} (m : Meaning)
+  indexed_settles : {t : List Event} {q q' : ReachedOrHalted Denotation} (parts : PartTypes) (m : Meaning)
       (rest rest' : List Event → ReachedOrHalted Value) →
       ((e : List Event) → SettlesReached e (rest e) (rest' e)) → SettlesReached t q q' →
-      SettlesReached t (index_into m q rest) (index_into m q' rest')
-  indexed_settles m rest rest' next h = onward (λ q. index_into m q rest) (λ q. index_into m q rest') (λ e. refl) go h
+      SettlesReached t (index_into parts m q rest) (index_into parts m q' rest')
+  indexed_settles parts m rest rest' next h = onward (λ q. index_into parts m q rest) (λ q. index_into parts m q rest') (λ e. refl) go h
     where
-      into_place : (p : Place) (q : ReachedOrHalted Value) → SettlesReached (reached_events q) (part_reached p q) (part_reached p q)
-      into_place p (Gives v e) = reach_settles (option_map (λ z. IsPlace (Part p (At z))) (integer_in v)) e
+      into_place : (p : Place) (q : ReachedOrHalted Value) → SettlesReached (reached_events q) (part_reached parts p q) (part_reached parts p q)
+      into_place p (Gives v e) = reach_settles (option_map IsPlace (option_and_then (place_at parts p) (integer_in v))) e
       into_place p (Halts x e) = same here
 
       into_value : (v : Value) (q : ReachedOrHalted Value) → SettlesReached (reached_events q) (index_reached m v q) (index_reached m v q)
@@ -267,8 +268,8 @@ module _ (k : ℕ) where
       value_index : (v : Value) (e : List Event) → SettlesReached e (index_reached m v (rest e)) (index_reached m v (rest' e))
       value_index v e = onward (index_reached m v) (index_reached m v) (λ e. refl) (into_value v) (next e)
 
-      go : (q : ReachedOrHalted Denotation) → SettlesReached (reached_events q) (index_into m q rest) (index_into m q rest')
-      go (Gives (IsPlace p) e) = onward (part_reached p) (part_reached p) (λ e. refl) (into_place p) (next e)
+      go : (q : ReachedOrHalted Denotation) → SettlesReached (reached_events q) (index_into parts m q rest) (index_into parts m q rest')
+      go (Gives (IsPlace p) e) = onward (part_reached parts p) (part_reached parts p) (λ e. refl) (into_place p) (next e)
       go (Gives (IsValue v) e) = unless_settles (place_in v) e (value_index v e)
       go (Halts x e) = same here
 
@@ -323,15 +324,15 @@ module _ (k : ℕ) where
       go (Returned v e) = same here
       go (Stopped x e) = same here
 
-  module _ (w : World) (m : Meaning) (r r' : Bytes → List Value → List Event →
+  module _ (parts : PartTypes) (w : World) (m : Meaning) (r r' : Bytes → List Value → List Event →
       ReachedOrHalted (Option Value))
       (responds : (word : Bytes) (vs : List Value) (t : List Event) →
       SettlesReached t (r word vs t) (r' word vs t)) where
     abbrev l : Words
-    l = record { world = w; meaning = m; respond = r }
+    l = record { parts = parts; world = w; meaning = m; respond = r }
 
     abbrev l' : Words
-    l' = record { world = w; meaning = m; respond = r' }
+    l' = record { parts = parts; world = w; meaning = m; respond = r' }
 
     word_settles : (word : Bytes) (names : Scope) {t : List Event}
         {q q' : ReachedOrHalted (List Value)} → SettlesReached t q q' →
@@ -356,8 +357,8 @@ module _ (k : ℕ) where
     addressed_next (Gives (IsValue v) e) = same here
     addressed_next (Halts x e) = same here
 
-    picked_next : (x : Selector) (q : ReachedOrHalted Denotation) → SettlesReached (reached_events q) (part_picked m x q) (part_picked m x q)
-    picked_next x (Gives (IsPlace p) e) = same here
+    picked_next : (x : Selector) (q : ReachedOrHalted Denotation) → SettlesReached (reached_events q) (part_picked parts m x q) (part_picked parts m x q)
+    picked_next x (Gives (IsPlace p) e) = reach_settles (option_map IsPlace (place_to parts p x)) e
     picked_next x (Gives (IsValue v) e) = unless_settles (place_in v) e (same here)
     picked_next x (Halts y e) = same here
 
@@ -371,9 +372,9 @@ module _ (k : ℕ) where
           onward dereference dereference (λ e. refl) dereferenced_next (valued_settles w (tree_settles a names t))
       tree_settles (AddressOf a) names t = onward address_reached address_reached (λ e. refl) addressed_next (tree_settles a names t)
       tree_settles (Index a i) names t =
-          indexed_settles m (λ e. read_value w (evaluate l i names e)) (λ e. read_value w (evaluate l' i names e)) (λ e. valued_settles w (tree_settles i names e)) (tree_settles a names t)
+          indexed_settles parts m (λ e. read_value w (evaluate l i names e)) (λ e. read_value w (evaluate l' i names e)) (λ e. valued_settles w (tree_settles i names e)) (tree_settles a names t)
       tree_settles (PartOf x a) names t =
-          onward (part_picked m x) (part_picked m x) (λ e. refl) (picked_next x) (tree_settles a names t)
+          onward (part_picked parts m x) (part_picked parts m x) (λ e. refl) (picked_next x) (tree_settles a names t)
       tree_settles (LogicalOf j a b) names t =
           logical_settles m j (λ e. read_value w (evaluate l b names e))
           (λ e. read_value w (evaluate l' b names e))
@@ -531,21 +532,22 @@ module _ (k : ℕ) where
   called_settles false t q q' h = same here
 
   -- a call by the text
-  pub call_settles : (outer : Scope) (w : World) (m : Meaning) (uses : Bytes → WordUse) (n : ℕ) →
+  pub call_settles : (parts : PartTypes) (outer : Scope) (w : World) (m : Meaning) (uses : Bytes → WordUse) (n : ℕ) →
       k ≤ n → (fs : List TextFunction) (word : Bytes) (vs : List Value) (t : List Event) →
-      SettlesReached t (follow_call outer w m uses k fs word vs t)
-      (follow_call outer w m uses n fs word vs t)
-  call_settles outer w m uses n less [] word vs t = go (uses word)
+      SettlesReached t (follow_call parts outer w m uses k fs word vs t)
+      (follow_call parts outer w m uses n fs word vs t)
+  call_settles parts outer w m uses n less [] word vs t = go (uses word)
     where
       go : (u : WordUse) → SettlesReached t (respond_by_use u w m word vs t) (respond_by_use u w m word vs t)
       go NamesFunction = same here
       go AsksForEvent = same (later here)
       go Operates = same here
-  call_settles outer w m uses n less (f ∷ fs) word vs t =
-      let callee = call_settles outer w m uses n less fs in
+      go MeansNothing = same here
+  call_settles parts outer w m uses n less (f ∷ fs) word vs t =
+      let callee = call_settles parts outer w m uses n less fs in
       cond_settles (same_bytes word f.name)
       _ _ _ _ (called_settles (nat_eq (length vs) (length f.parameters)) t
-      _ _ (body_settles w m (follow_call outer w m uses k fs) (follow_call outer w m uses n fs)
+      _ _ (body_settles parts w m (follow_call parts outer w m uses k fs) (follow_call parts outer w m uses n fs)
       callee n less (length fs) f vs (with_parameters f.parameters vs outer) t))
       (callee word vs t)
 

@@ -65,14 +65,14 @@ module _ (p : Module) (env : Environment) (fits : EnvironmentFits p env) (f : Fu
       let value = constant_below f env m n in
       or_cases (is_constant_leaf e) (is_pure e && all_constant test (operands_of e)) t
       (leaf_value p env fits m f (handle_type f h) e
-      (gathered_value m e (all_of value (operands_of e))) (leaves h) (typed.constants h))
+      (gathered_value env.parts m e (all_of value (operands_of e))) (leaves h) (typed.constants h))
       (λ u. let q = and_left (is_pure e) (all_constant test (operands_of e)) u in let vs =
       typed_list value test h (λ x lt. constant_has_type n x) (operands_of e) (below h)
       (and_right (is_pure e) (all_constant test (operands_of e)) u) in let v =
       typed.operators h q vs.0 vs.2 in (
         v.0,
-        pure_value env m e (gathered_value m e (all_of value (operands_of e))) q
-            ∙ ap (gathered_value m e) vs.1 ∙ v.1,
+        pure_value env m e (gathered_value env.parts m e (all_of value (operands_of e))) q
+            ∙ ap (gathered_value env.parts m e) vs.1 ∙ v.1,
         v.2,
       ))
 
@@ -82,7 +82,7 @@ module _ (p : Module) (env : Environment) (fits : EnvironmentFits p env) (f : Fu
   same_list a b h each (x ∷ xs) l = ap₂ also (each x l.0) (same_list a b h each xs l.1)
 
   same_as : (a b : ℕ → Option Value) (h : ℕ) → ((x : ℕ) → x < h → a x ≡ b x) → (e : Option Expression) → AllBelow h (operands_of e) → constant_as env m a e ≡ constant_as env m b e
-  same_as a b h each e l = ap (λ os. or_constant env m e (gathered_value m e os)) (same_list a b h each (operands_of e) l)
+  same_as a b h each e l = ap (λ os. or_constant env m e (gathered_value env.parts m e os)) (same_list a b h each (operands_of e) l)
 
   same_bound : (n k h : ℕ) → h < n → h < k → constant_below f env m n h ≡ constant_below f env m k h
   same_bound zero k h ln lk = absurd (omega arith)
@@ -183,7 +183,7 @@ module _ (p : Module) (c : Call) (fits : EnvironmentFits p c.environment) (below
   each_used : (x : ℕ) → IsTrue (is_constant_below c.function Top x) → used_value c values x ≡ values x
   each_used x t =
       let e = expression_of c.function x in
-      used_start c e (values x) (gathered_value c.meaning e (all_of values (operands_of e)))
+      used_start c e (values x) (gathered_value c.environment.parts c.meaning e (all_of values (operands_of e)))
       (unfold_value p c.environment fits c.function c.meaning below leaves typed Top x
       (within x t)) (kind_of_constant (is_constant_below c.function Top) e (tested x t))
 
@@ -222,6 +222,6 @@ module _ (p : Module) (c : Call) (fits : EnvironmentFits p c.environment) (below
             unfold_value p c.environment fits c.function c.meaning below leaves typed Top h
                 (within h t)
                 ∙ pure_value c.environment c.meaning e
-                (gathered_value c.meaning e (all_of values (operands_of e))) q1
-                ∙ ap (gathered_value c.meaning e) (sym (list_used (operands_of e) each)),
+                (gathered_value c.environment.parts c.meaning e (all_of values (operands_of e))) q1
+                ∙ ap (gathered_value c.environment.parts c.meaning e) (sym (list_used (operands_of e) each)),
           )

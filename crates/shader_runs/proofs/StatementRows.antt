@@ -45,7 +45,7 @@ word_is_taken =
       written = record { fits = refl; text = refl };
       module_run = refl;
       text_run = refl;
-      refused = λ fits. ((fits.all.1.0.words 2).1).0 1 (omega arith) refl;
+      refused = λ fits. ((fits.all.1.0.words 2).2).0 1 (omega arith) refl;
     }
 
 -- the letter behind the comma in the spelling of a pointer to the place that is read last

@@ -208,7 +208,7 @@ pub called_typed : (parts : PartTypes) (f : Function) (o : Option Function) (xs 
 called_typed parts f None xs h v w q = absurd w
 called_typed parts f (Some callee) xs h v w q = subst (λ k. ResultTyped parts (Some v) k) w.1 q
 
-result_combined : (c : Call) (e : Option Expression) → IsResult e → (vs : List Value) → combined_value c.meaning e vs ≡ None
+result_combined : (c : Call) (e : Option Expression) → IsResult e → (vs : List Value) → combined_value c.environment.parts c.meaning e vs ≡ None
 result_combined c (Some Result) i vs = refl
 result_combined c (Some _) i vs = absurd i
 result_combined c None i vs = absurd i

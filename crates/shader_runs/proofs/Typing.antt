@@ -3,11 +3,12 @@ use Rattle.std.proofs.Common.{◌≡◌, ◌≢◌, ◌⊎◌, inl, inr, ℕ, ze
 use Rattle.std.proofs.Common.{false, cond, nat_eq, List, [], ◌∷◌, ◌++◌, length, Option, Some, None}
 use Rattle.std.proofs.Common.{◌&&◌, slice_get, refl, sym, ap, ap₂, ◌∙◌, subst, true≢false, arith}
 use Rattle.std.proofs.Common.{eqb-true, eq-eqb, option_map}
-use Rattle.std.specs.Prelude.{IsTrue}
+use Rattle.std.specs.Prelude.{IsTrue, option_and_then}
 use Rattle.std.proofs.lemmas.Bool.{eqb-false}
 use Rattle.std.proofs.lemmas.Option.{slice_get_within, none-some, same_Some}
 use Rattle.shader_runs.specs.Value.{Bytes, PartTypes, Place, place_type, Step, Rooted, GlobalRoot}
-use Rattle.shader_runs.specs.Value.{Part, At, Selector, MemberNamed, ElementAt, step_of, ValueType}
+use Rattle.shader_runs.specs.Value.{Part, Selector, MemberNamed, ElementAt, step_to, step_at}
+use Rattle.shader_runs.specs.Value.{part_pointer, place_at, ValueType}
 use Rattle.shader_runs.specs.Value.{BooleanType, IntegerType, PointerType, OtherType, type_of}
 use Rattle.shader_runs.specs.Value.{same_type, has_type, has_types, same_bytes, Value, Truth, Whole}
 use Rattle.shader_runs.specs.Value.{Pointer, Opaque, Word, Spelled, PartWord, IndexWord}
@@ -24,7 +25,8 @@ use Rattle.shader_runs.specs.Premises.{constant_types_of, handle_types, Constant
 use Rattle.shader_runs.specs.Premises.{ConstantsTyped, LeafTyped, IsTypedIn, AllTypedIn}
 use Rattle.shader_runs.specs.Typing.{Signature, constant_signatures, constants_signatures}
 use Rattle.shader_runs.specs.Typing.{signatures_of, IsOneOf, first_of, later_of, IsSpelled}
-use Rattle.shader_runs.specs.Typing.{in_function, in_initialiser, AccessFits, AccessIndexFits}
+use Rattle.shader_runs.specs.Typing.{in_function, in_initialiser, IsPart, AccessFits}
+use Rattle.shader_runs.specs.Typing.{AccessIndexFits}
 use Rattle.shader_runs.specs.Typing.{LogicalFits, PartsFit, IsConsistent}
 use Rattle.shader_runs.specs.Correct.{HasTypedMeaning}
 use Rattle.shader_runs.proofs.Update.{and_left, and_right, and_both, same_bytes_true}
@@ -317,7 +319,7 @@ module _ (p : Module) (consistent : IsConsistent p) where
 
     -- an operator's value, over values of its operands' types
     abbrev Gives_typed : ValueType → Option Expression → List Value → Type 0
-    Gives_typed k e vs = (v : Value) × (combined_value m e vs ≡ Some v) × IsTrue (has_type p.parts k v)
+    Gives_typed k e vs = (v : Value) × (combined_value p.parts m e vs ≡ Some v) × IsTrue (has_type p.parts k v)
 
     abbrev pair_types : ValueType → ValueType → List Value → Bool
     pair_types a b vs = has_types p.parts (a ∷ b ∷ []) vs
@@ -347,14 +349,21 @@ module _ (p : Module) (consistent : IsConsistent p) where
     pair_typed a b x y h k = and_both (has_type p.parts a x) (has_types p.parts (b ∷ []) (y ∷ [])) h (and_both (has_type p.parts b y) true k refl)
 
     -- a pointer to a part has the type that its place has
-    part_has_type : (k : ValueType) (whole : Bytes) (q : Place) (x : Step) →
-        k ≡ PointerType (p.parts whole x) →
-        IsTrue (has_type p.parts (PointerType whole) (Pointer q)) →
-        IsTrue (has_type p.parts k (Pointer (Part q x)))
-    part_has_type k whole q x w h =
-        let same = same_bytes_true whole (place_type p.parts q) h in
-        ap (λ k. has_type p.parts k (Pointer (Part q x))) (w ∙ ap (λ s. PointerType (p.parts s x)) same)
-        ∙ same_bytes_self (p.parts (place_type p.parts q) x)
+    part_has_type : (k : ValueType) (q : Place) (o : Option Step) → IsPart (p.parts (place_type p.parts q)) o k →
+        (v : Value) × (option_map Pointer (option_map (Part q) o) ≡ Some v) × IsTrue (has_type p.parts k v)
+    part_has_type k q None w = absurd w
+    part_has_type k q (Some x) w = (
+      Pointer (Part q x),
+      refl,
+      ap (λ k. has_type p.parts k (Pointer (Part q x))) w
+          ∙ same_bytes_self (part_pointer (p.parts (place_type p.parts q)) x),
+    )
+
+    -- a pointer's spelling is that of its place
+    place_typed : (whole : Bytes) (x : Value) (q : Place) → x ≡ Pointer q →
+        IsTrue (has_type p.parts (PointerType whole) x) → whole ≡ place_type p.parts q
+    place_typed whole x q e h =
+        same_bytes_true whole (place_type p.parts q) (subst (λ v. IsTrue (has_type p.parts (PointerType whole) v)) e h)
 
     access_pointer : (whole : Bytes) (i k : ValueType) →
         AccessFits p.parts (PointerType whole) i k → (b j : ℕ) (x y : Value) →
@@ -362,12 +371,14 @@ module _ (p : Module) (consistent : IsConsistent p) where
         Gives_typed k (Some (Access b j)) (x ∷ y ∷ [])
     access_pointer whole (IntegerType s) k w b j x y h l =
         let q = pointer_typed p.parts (PointerType whole) tt x h in
-        let z = integer_typed p.parts (IntegerType s) tt y l in (
-          Pointer (Part q.0 (At z.0)),
-          ap (λ x. index_value_of m x y) q.1
-              ∙ ap (option_map (λ z. Pointer (Part q.0 (At z)))) z.1,
-          part_has_type k whole q.0 (At z.0) (w z.0)
-              (subst (λ v. IsTrue (has_type p.parts (PointerType whole) v)) q.1 h),
+        let z = integer_typed p.parts (IntegerType s) tt y l in
+        let fits = subst (λ s. IsPart (p.parts s) (step_at (p.parts s) z.0) k) (place_typed whole x q.0 q.1 h) (w z.0) in
+        let v = part_has_type k q.0 (step_at (p.parts (place_type p.parts q.0)) z.0) fits in (
+          v.0,
+          ap (λ x. index_value_of p.parts m x y) q.1
+              ∙ ap (λ o. option_map Pointer (option_and_then (place_at p.parts q.0) o)) z.1
+              ∙ v.1,
+          v.2,
         )
     access_pointer whole i k w b j x y h l = absurd w
 
@@ -377,7 +388,7 @@ module _ (p : Module) (consistent : IsConsistent p) where
         IsTrue (has_type p.parts a x) → IsTrue (has_type p.parts i y) →
         Gives_typed k (Some (Access b j)) (x ∷ y ∷ [])
     access_other a i k n g b j x y h l =
-        (m IndexWord (x ∷ y ∷ []), index_value_is m x y (typed_not_pointer p.parts a x n h), g (x ∷ y ∷ []) (pair_typed a i x y h l))
+        (m IndexWord (x ∷ y ∷ []), index_value_is p.parts m x y (typed_not_pointer p.parts a x n h), g (x ∷ y ∷ []) (pair_typed a i x y h l))
 
     access_typed : (a i k : ValueType) → AccessFits p.parts a i k →
         ((vs : List Value) → IsTrue (has_types p.parts (a ∷ i ∷ []) vs) →
@@ -392,21 +403,23 @@ module _ (p : Module) (consistent : IsConsistent p) where
         IsTrue (has_type p.parts k (m (PartWord x) vs))) → (b : ℕ) (y : Value) →
         IsTrue (has_type p.parts a y) → Gives_typed k (Some (AccessIndex x b)) (y ∷ [])
     part_other x a k n g b y h =
-        (m (PartWord x) (y ∷ []), part_value_is m x y (typed_not_pointer p.parts a y n h), g (y ∷ []) (and_both (has_type p.parts a y) true h refl))
+        (m (PartWord x) (y ∷ []), part_value_is p.parts m x y (typed_not_pointer p.parts a y n h), g (y ∷ []) (and_both (has_type p.parts a y) true h refl))
 
-    part_pointer : (whole : Bytes) (x : Selector) (k : ValueType) →
-        k ≡ PointerType (p.parts whole (step_of x)) → (b : ℕ) (y : Value) →
+    part_of_pointer : (whole : Bytes) (x : Selector) (k : ValueType) →
+        IsPart (p.parts whole) (step_to (p.parts whole) x) k → (b : ℕ) (y : Value) →
         IsTrue (has_type p.parts (PointerType whole) y) →
         Gives_typed k (Some (AccessIndex x b)) (y ∷ [])
-    part_pointer whole x k w b y h =
+    part_of_pointer whole x k w b y h =
         let q = pointer_typed p.parts (PointerType whole) tt y h in
-        (Pointer (Part q.0 (step_of x)), ap (part_value m x) q.1, part_has_type k whole q.0 (step_of x) w (subst (λ v. IsTrue (has_type p.parts (PointerType whole) v)) q.1 h))
+        let fits = subst (λ s. IsPart (p.parts s) (step_to (p.parts s) x) k) (place_typed whole y q.0 q.1 h) w in
+        let v = part_has_type k q.0 (step_to (p.parts (place_type p.parts q.0)) x) fits in
+        (v.0, ap (part_value p.parts m x) q.1 ∙ v.1, v.2)
 
     part_typed : (x : Selector) (a k : ValueType) → AccessIndexFits p.parts x a k →
         ((vs : List Value) → IsTrue (has_types p.parts (a ∷ []) vs) →
         IsTrue (has_type p.parts k (m (PartWord x) vs))) → (b : ℕ) (y : Value) →
         IsTrue (has_type p.parts a y) → Gives_typed k (Some (AccessIndex x b)) (y ∷ [])
-    part_typed x (PointerType s) k w g b y h = part_pointer s x k w b y h
+    part_typed x (PointerType s) k w g b y h = part_of_pointer s x k w b y h
     part_typed x a k w g b y h = part_other x a k refl g b y h
 
     -- what `&&` or `||` gives behind a truth value

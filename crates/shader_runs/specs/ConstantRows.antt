@@ -141,8 +141,8 @@ abbrev pub without_value : ReachedOrHalted (Option Value)
 without_value = Halts Stuck (Entry 0 [] [] ∷ [])
 
 -- the module's text, what both do, and what other texts do: another initialiser gives another
--- value; one that leads back to itself, reads, asks for an event, calls a function, calls what is no
--- operator or names what isn't there gives none
+-- value; one that leads back to itself, reads, asks for an event, calls a function or an unknown
+-- word, or names what isn't there gives none
 pub record ConstantRowsHold : Type 0 where
   pub fits : ConstantsFit pair_module pair_names
   pub settings : SettingsFit pair_module (with_override 7)

@@ -70,8 +70,8 @@ abbrev pub is_declared : TextModule → Bytes → Bool
 is_declared text word =
     list_any (λ c. same_bytes word c.name) text.constants || names_function text.functions word
 
--- a word in an initialiser is an operator: no function is called there, nothing is asked, and a word
--- that is neither has no value
+-- a word in an initialiser is an operator: no function is called
+-- there, nothing is asked, and an unknown word has no value
 abbrev pub operate :
     TextModule → Meaning → Vocabulary → Bytes → List Value → List Event →
     ReachedOrHalted (Option Value)

@@ -1,13 +1,13 @@
 -- Worked places: which steps lead into them, and what runs do with a step that isn't there.
 --
 -- Throughout, whole is the spelling of a pointer, x a selector, e a tree.
-use Rattle.std.specs.Prelude.{◌≡◌, ℕ, ℤ, pos, false, cond, List, [], ◌∷◌, Option, Some, None}
+use Rattle.std.specs.Prelude.{◌≡◌, ℤ, pos, false, cond, [], ◌∷◌, Option, Some, None}
 use Rattle.std.specs.Prelude.{IsTrue, codes}
 use Rattle.shader_runs.specs.Value.{Bytes, same_bytes, NoParts, Elements, Components, Members}
 use Rattle.shader_runs.specs.Value.{PartTypes, Selector, MemberNamed, ElementAt, Step, At, Field}
 use Rattle.shader_runs.specs.Value.{step_to, step_at, place_type, Place, Rooted, GlobalRoot, Part}
 use Rattle.shader_runs.specs.Value.{PointerType, Value, Pointer}
-use Rattle.shader_runs.specs.World.{Event, Read, Write, Settings}
+use Rattle.shader_runs.specs.World.{Read, Write, Settings}
 use Rattle.shader_runs.specs.Outcome.{ReachedOrHalted, Gives}
 use Rattle.shader_runs.specs.Program.{Fixed, NamedConstant, AtPlace, Module, Constant, Argument}
 use Rattle.shader_runs.specs.Program.{Global, Load, Access, AccessIndex, Emit, Store, Return}
@@ -68,8 +68,8 @@ step_into whole x = step_to (row_parts whole) x
 abbrev pub computed_step : (whole : Bytes) → ℤ → Option Step
 computed_step whole z = step_at (row_parts whole) z
 
--- `.x` and `[0]` of a vector are one step, and `.x` of a struct is its member's. Other steps are not
--- there
+-- `.x` and `[0]` of a vector are one step, and `.x` of a struct
+-- is its member's. Steps that lead to no part are not there
 pub record StepsAreDistinguished : Type 0 where
   pub letter_of_vector : step_into private_vector dot_x ≡ Some (At (pos 0))
   pub number_of_vector : step_into private_vector at_0 ≡ Some (At (pos 0))

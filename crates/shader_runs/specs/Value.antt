@@ -46,9 +46,9 @@ pub data Place : Type 0 where
   Rooted : Root → Place
   Part : Place → Step → Place
 
--- what a place is made of, with the spelling of a pointer to each part: of nothing that a step leads
--- to; of elements or columns, by their numbers; of a vector's components, by their numbers or
--- letters; or of a struct's members, each by its word
+-- what a place is made of, with the spelling of a pointer to each part: of nothing
+-- that a step leads to; of elements or columns, by their numbers; of a vector's
+-- components, by their numbers or letters; or of a struct's members, by their words
 pub data Parts : Type 0 where
   NoParts : Parts
   Elements : (pointer : Bytes) → Parts
@@ -83,8 +83,8 @@ component_number word =
 abbrev pub step_to_component : (count : ℕ) → ℕ → Option Step
 step_to_component count i = cond (nat_lt i count) (Some (At (pos i))) None
 
--- the step that a constant index, a letter or a member's word names, if there is one. `.x` and `[0]`
--- of a vector are one step, so are `.y` and `[1]`, and so on
+-- the step that a constant index, a letter or a member's word names, if there is one.
+-- `.x` and `[0]` of a vector are one step, so are `.y` and `[1]`, and so on
 abbrev pub step_to : Parts → Selector → Option Step
 step_to (Elements pointer) (ElementAt i) = Some (At (pos i))
 step_to (Components count pointer) (ElementAt i) = step_to_component count i

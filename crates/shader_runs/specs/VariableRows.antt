@@ -13,8 +13,9 @@ use Rattle.shader_runs.specs.Text.{TextModule}
 use Rattle.shader_runs.specs.Constants.{follow_module}
 use Rattle.shader_runs.specs.Premises.{LeafFits, SettingsFit, choices_fit}
 use Rattle.shader_runs.specs.WorkedModules.{memory_world, memory_meaning, memory_vocabulary}
-use Rattle.shader_runs.specs.WorkedModules.{in_memory, holding, named_function, Example, CallEnd, module_of}
-use Rattle.shader_runs.specs.WorkedModules.{settings_of, text_with, IsWorked, start_events}
+use Rattle.shader_runs.specs.WorkedModules.{in_memory, holding, named_function, Example, CallEnd}
+use Rattle.shader_runs.specs.WorkedModules.{module_of, settings_of, text_with, IsWorked}
+use Rattle.shader_runs.specs.WorkedModules.{start_events}
 use Rattle.shader_runs.specs.WorkedFunctions.{i32, number, named_by, text_of, row, function_with}
 use Rattle.shader_runs.specs.WorkedFunctions.{no_parts, lines, let_own, return_of}
 

@@ -3,9 +3,9 @@
 --
 -- Throughout, e is an example, g the number of a function, n the bound on turns or a number, vs are
 -- arguments, t the events so far, v is a value, p and q are places, x is a name, f a function.
-use Rattle.std.specs.Prelude.{◌≡◌, ℕ, ◌+◌, ◌*◌, ◌/◌, ◌%◌, max, pos, Bool, false, cond, List, []}
-use Rattle.std.specs.Prelude.{◌∷◌, length, map, reverse, Option, Some, None, nat_eq, get_or}
-use Rattle.std.specs.Prelude.{unwrap_or, IsTrue, codes}
+use Rattle.std.specs.Prelude.{◌≡◌, ℕ, ◌+◌, ◌*◌, ◌/◌, ◌%◌, max, pos, cond, List, [], ◌∷◌, length}
+use Rattle.std.specs.Prelude.{map, reverse, Option, Some, None, nat_eq, get_or, unwrap_or, IsTrue}
+use Rattle.std.specs.Prelude.{codes}
 use Rattle.shader_runs.specs.Value.{Bytes, same_bytes, Place, Rooted, LocalRoot, ValueType}
 use Rattle.shader_runs.specs.Value.{OtherType, Value, Whole, Pointer}
 use Rattle.shader_runs.specs.Value.{Opaque, Spelled, PartWord, IndexWord, MemberNamed}

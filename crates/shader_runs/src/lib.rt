@@ -87,7 +87,7 @@ pub fn rows_hold()
     ensures { RowsHold }
 {}
 
-/// The steps that lead into worked places are told apart, and a run is stuck at one that isn't there.
+/// The steps into worked places are told apart, and a run is stuck at a step that isn't there.
 pub fn place_rows_hold()
     ensures { PlaceRowsHold }
 {}
