@@ -13,6 +13,7 @@ use Rattle.naga_words.specs.Spelling.{is_struct}
 use Rattle.module_meaning.specs.AlikeTypes.{is_spelled}
 use Rattle.module_meaning.specs.ExpressionForms.{expression_has_form, expression_is_written}
 use Rattle.module_meaning.specs.Sampling.{own_offset_is_written}
+use Rattle.module_meaning.specs.Types.{called_spelling, spelled_resolution, type_names}
 use Rattle.module_meaning.specs.LackingScalars.{over}
 use Rattle.module_meaning.specs.Undeclared.{is_spellable, is_undeclared, is_undeclared_struct}
 use Rattle.module_meaning.specs.Undeclared.{names_undeclared, names_undeclared_by}
@@ -55,6 +56,16 @@ declared_of_spellable m (Handle h) is = by (slice_get m.types h) (spellable_part
         option_map_or (λ t. is_struct t.inner && is_undeclared m.special_types h) o false ≡ false
     by None told = refl
     by (Some t) told = undeclared_told (own t) m.special_types h (is_struct t.inner) told
+
+-- an operator that is called by a type's spelling
+pub called_spelled : (m : Module) (r : TypeResolution) (w : List ℕ) → called_spelling m r ≡ Some w →
+    (is_undeclared_struct m r ≡ false) × (spelled_resolution (type_names m) r ≡ Some w)
+called_spelled m r w at = by (is_undeclared_struct m r) at
+  where
+    by : (b : Bool) → (if b then None else spelled_resolution (type_names m) r) ≡ Some w →
+        (b ≡ false) × (spelled_resolution (type_names m) r ≡ Some w)
+    by true e = absurd cc
+    by false e = (refl, e)
 
 pub spelled_of_spellable : (m : Module) (r : TypeResolution) → is_spellable m r ≡ true →
     is_spelled m.types r ≡ true

@@ -35,7 +35,7 @@ use Rattle.naga_layout.specs.Types.{layout_at}
 use Rattle.naga_names.specs.Keys.{NameMap}
 use Rattle.naga_names.specs.declared.key.NameKey.TheVariants as key
 use Rattle.naga_words.specs.Spelling.{type_segments}
-use Rattle.shader_runs.specs.Value.{Value, Whole, integer_in, same_integer}
+use Rattle.shader_runs.specs.Value.{NoParts, Value, Whole, integer_in, same_integer}
 use Rattle.shader_runs.specs.World.{Meaning, Settings, World}
 use Rattle.wgsl_text.specs.Attributes as attributes
 use Rattle.wgsl_text.specs.Attributes.{Attribute, Plain, Numbered, WorkgroupSize}
@@ -389,7 +389,7 @@ module _ (other : ir_module.Module) (info : ModuleInfo) (label : String Global)
         }
 
     abbrev read : Program → Interface
-    read program = interface_read settings meaning world program
+    read program = interface_read (λ whole. NoParts) settings meaning world program
 
     declares_all : read text ≡ declared
     unfolding type_segments layout_at

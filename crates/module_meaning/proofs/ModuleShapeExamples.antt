@@ -1,8 +1,8 @@
--- Examples of programs of shapes, computed: constants, overrides, variables, parts and the order of
+-- Examples of programs of shapes, computed: constants, overrides, variables and the order of
 -- functions.
 --
 -- Throughout, a module has these declarations, and all else that it has is any.
-use Rattle.std.proofs.Common.{◌≡◌, ℕ, pos, Bool, true, false, List, [], ◌∷◌, Some, None, refl, arith, get_or}
+use Rattle.std.proofs.Common.{◌≡◌, ℕ, pos, true, false, List, [], ◌∷◌, Some, None, refl, arith}
 use Rattle.std.proofs.Common.{map, codes, Vec, Global, String}
 use Rattle.naga_ir.specs.declared.expression.Expression.TheVariants as expression
 use Rattle.naga_ir.specs.declared.expression.Literal.TheVariants as literal
@@ -17,7 +17,6 @@ use Rattle.naga_ir.specs.declared.types.AddressSpace.TheVariants as space
 use Rattle.naga_ir.specs.declared.types.ArraySize.TheVariants as size
 use Rattle.naga_ir.specs.declared.types.Scalar.{Scalar}
 use Rattle.naga_ir.specs.declared.types.ScalarKind.TheVariants as kind
-use Rattle.naga_ir.specs.declared.types.StructMember.{StructMember}
 use Rattle.naga_ir.specs.declared.types.TypeInner.TheVariants as inner
 use Rattle.naga_ir.specs.declared.types.Type_.{Type_}
 use Rattle.naga_ir.specs.declared.types.VectorSize.TheVariants as vector
@@ -28,13 +27,13 @@ use Rattle.naga_info.specs.declared.info.TypeResolution.TheVariants.{Handle, Val
 use Rattle.naga_names.specs.declared.key.NameKey.TheVariants as key
 use Rattle.naga_words.specs.Spelling.{type_segments}
 use Rattle.module_meaning.specs.ExpressionContexts as contexts
-use Rattle.module_meaning.specs.ExpressionShapes.{Declared, shape_of}
+use Rattle.module_meaning.specs.ExpressionShapes.{shape_of}
 use Rattle.module_meaning.specs.FunctionShapes.{function_shape}
-use Rattle.module_meaning.specs.ModuleShapes.{module_shape, takes_part}
+use Rattle.module_meaning.specs.ModuleShapes.{module_shape}
 use Rattle.module_meaning.specs.Namings.{numbered_key}
 use Rattle.shader_runs.specs.Program as shapes
 use Rattle.shader_runs.specs.Program.{Fixed, NamedConstant, Held, AtPlace, function_numbered}
-use Rattle.shader_runs.specs.Value.{IntegerType, PointerType, OtherType, Whole, Step, At, Field}
+use Rattle.shader_runs.specs.Value.{IntegerType, PointerType, OtherType, Whole}
 
 -- a vector of one item
 abbrev pub one : {X : Type 0} → Vec X Global → X → Vec X Global
@@ -111,8 +110,7 @@ module _ (other : ir_module.Module) (info : ModuleInfo) (label : String Global)
     held_shape : shape_of (contexts.declared m info (λ h. None)) [] 0 (expression.GlobalVariable 2) ≡ shapes.Global true 2
     held_shape = refl
 
-    -- the function takes an element of an array by an index that is computed, and the entry point a
-    -- component of a vector
+    -- the function takes an element of an array, and the entry point a component of a vector
     abbrev element_taken : ir_function.Function
     element_taken =
         record f {
@@ -158,66 +156,8 @@ module _ (other : ir_module.Module) (info : ModuleInfo) (label : String Global)
           entry_points = one info.entry_points to_vector;
         }
 
-    element : (module_shape taking known).parts (codes "ptr<workgroup, array<vec3<f32>>>") (At (pos 5)) ≡ codes "ptr<workgroup, vec3<f32>>"
-    unfolding type_segments
-    element = refl
-
-    component : (module_shape taking known).parts (codes "ptr<function, vec3<f32>>") (At (pos 1)) ≡ codes "ptr<function, f32>"
-    unfolding type_segments
-    component = refl
-
-    -- no expression takes the third component
-    untaken : (module_shape taking known).parts (codes "ptr<function, vec3<f32>>") (At (pos 2)) ≡ []
-    unfolding type_segments
-    untaken = refl
-
     first_function : function_numbered (module_shape taking known).functions 0 ≡ Some (function_shape taking known element_taken to_array)
     first_function = refl
 
     then_entry_point : function_numbered (module_shape taking known).functions 1 ≡ Some (function_shape taking known component_taken.function to_vector)
     then_entry_point = refl
-
--- Members of a struct are told by their steps. Here the first is named `y`, so that the step to it
--- is the one to the second component of a vector, and the second is named `depth`.
-module _ (other : Vec StructMember Global) (member : StructMember) (declared : Declared) where
-  abbrev pair_of : Vec StructMember Global
-  pair_of =
-      record other {
-        len = 2;
-        cap = 2;
-        items = record member { ty = 0 } ∷ record member { ty = 1 } ∷ [];
-        ok = (refl, omega arith);
-        small = omega arith;
-      }
-
-  abbrev d : Declared
-  d =
-      record declared {
-        context = record declared.context {
-          types = map (λ it. record { name = None; inner = it }) (
-              inner.Scalar (record { kind = kind.Sint; width = 4 }) ∷
-              inner.Vector vector.Tri (record { kind = kind.Float; width = 4 }) ∷
-              inner.Struct pair_of 32 ∷ []);
-          known = λ h. Some (Value (inner.Pointer 2 space.Private));
-        };
-        value_type = λ r. PointerType (codes "ptr<private, pair>");
-        member = λ handle index. get_or (codes "y" ∷ codes "depth" ∷ []) index [];
-      }
-
-  abbrev whole : List ℕ
-  whole = codes "ptr<private, pair>"
-
-  abbrev takes : Step → (index : ℕ) → Bool
-  takes step index = takes_part d whole step (expression.AccessIndex 0 index)
-
-  first_member : takes (At (pos 1)) 0 ≡ true
-  first_member = refl
-
-  second_member : takes (Field (codes "depth")) 1 ≡ true
-  second_member = refl
-
-  no_member : takes (At (pos 0)) 0 ≡ false
-  no_member = refl
-
-  other_member : takes (At (pos 1)) 1 ≡ false
-  other_member = refl

@@ -5,7 +5,7 @@
 -- Throughout, m is a module, info is what is known of it, whole is how a pointer is spelled, at is a
 -- space, base the handle of what is there, word a member's name, r a type of a pointer, d what stands
 -- around a group g of expressions, and e is one of these.
-use Rattle.std.specs.Prelude.{ℕ, ◌+◌, Bool, true, false, ◌&&◌, List, [], ◌∷◌, ◌++◌, map}
+use Rattle.std.specs.Prelude.{ℕ, ◌+◌, Bool, false, ◌&&◌, List, [], ◌∷◌, ◌++◌, map}
 use Rattle.std.specs.Prelude.{Option, Some, None, if◌then◌else◌, slice_get, unwrap_or}
 use Rattle.std.specs.List.{enumerate_from, find, flat_map, zip}
 use Rattle.std.specs.Option.{option_map_or}
