@@ -1,18 +1,18 @@
--- Pointers that are told by the same numbers, and have parts that an index names which is computed,
--- have parts that are told by the same numbers.
+-- Pointers that are told by the same numbers lead to parts of one kind. Where these are no members,
+-- they are told by the same numbers; and members are those of one struct.
 --
 -- A pointer that has a form is told by its space and by the form of what it points to, and this
 -- tells the form of each part. A pointer without a form is the same by itself.
 --
--- Of structs this does not hold: pointers to one are alike in storage spaces whose access has one
--- word, and pointers to its member are not where this has no form.
+-- Members need not be told by the same numbers: pointers to a struct are alike in storage spaces whose
+-- access has one word, and pointers to its member are not where this has no form.
 --
 -- Throughout, a and b are types that are told by the same numbers, and ia and ib are the types by
 -- themselves, at and to are spaces, and index names a part.
 use Rattle.std.proofs.Common.{◌≡◌, ◌<◌, ◌≤◌, ◌+◌, ℕ, zero, suc, Bool, true, false, List, [], ◌∷◌, ◌++◌, drop, refl, sym, ap, ◌∙◌, subst}
 use Rattle.std.proofs.Common.{Option, Some, None, slice_get, get_or, if◌then◌else◌, nat_eq, arith}
 use Rattle.std.specs.Prelude.{IsTrue, not, unwrap_or}
-use Rattle.std.specs.Option.{option_map, option_and_then, is_some, is_none}
+use Rattle.std.specs.Option.{option_map, option_map_or, option_and_then, is_some, is_none}
 use Rattle.std.proofs.lemmas.Bool.{and_parts, ltb-true, not-true, true≢false}
 use Rattle.std.proofs.lemmas.Option.{same_Some}
 use Rattle.naga_ir.specs.declared.image.ImageClass.{ImageClass}
@@ -49,6 +49,42 @@ abbrev pub is_pointer : TypeInner → Bool
 is_pointer (inner.Pointer base at) = true
 is_pointer (inner.ValuePointer n s at) = true
 is_pointer _ = false
+
+-- ---- kinds of parts
+-- what the parts of a place are: none, elements or columns, so many components, or the members of the
+-- struct with this handle
+pub data PartKind : Type 0 where
+  NoKind ElementKind : PartKind
+  ComponentKind : (count : ℕ) → PartKind
+  MemberKind : (base : ℕ) → PartKind
+
+-- of a type of the module
+abbrev pub kind_at : (base : ℕ) → TypeInner → PartKind
+kind_at base (inner.Vector n s) = ComponentKind (vector_number n)
+kind_at base (inner.Matrix columns rows s) = ElementKind
+kind_at base (inner.Array item count stride) = ElementKind
+kind_at base (inner.BindingArray item count) = ElementKind
+kind_at base (inner.Struct members span) = MemberKind base
+kind_at base _ = NoKind
+
+-- of what a pointer points to
+abbrev pub kind_behind : List Type_ → TypeInner → PartKind
+kind_behind types (inner.Pointer base at) = option_map_or (kind_at base) (inner_at types base) NoKind
+kind_behind types (inner.ValuePointer (Some n) s at) = ComponentKind (vector_number n)
+kind_behind types _ = NoKind
+
+-- the members of a struct
+abbrev pub has_members : PartKind → Bool
+has_members (MemberKind base) = true
+has_members _ = false
+
+-- by the form of the whole, which is no struct
+abbrev kind_of_form : List ℕ → PartKind
+kind_of_form y =
+    if nat_eq (get_or y 0 0) 1 then ComponentKind (get_or y 3 0) else (
+    if nat_eq (get_or y 0 0) 2 then ElementKind else (
+    if nat_eq (get_or y 0 0) 6 then ElementKind else (
+    if nat_eq (get_or y 0 0) 7 then ElementKind else NoKind)))
 
 -- the form of a part, by the numbers of the space and the form of the whole, which is no struct
 abbrev part_form : (number access : ℕ) → List ℕ → Option (List ℕ)
@@ -105,15 +141,15 @@ module _ (m : Module) (are : TypesAreCounted m) (stand : PartsStand m) where
   PartIs (Some z) (Some p) = type_key m.types p ≡ Some z
   PartIs _ _ = ⊥
 
-  -- what a pointer of this form points to: a type that is no struct, or one
-  data Pointed (it : TypeInner) (form : List ℕ) : Type 0 where
-    Plain : (number access : ℕ) (y : List ℕ) → form ≡ level 5 number access 0 0 0 ++ y → nat_eq (get_or y 0 0) 8 ≡ false →
-        ((index : Option ℕ) → PartIs (part_form number access y) (part_type m.types it index)) → Pointed it form
-    Whole : (number access h : ℕ) → form ≡ level 5 number access 0 0 0 ++ level 8 h 0 0 0 0 → has_computed_parts m.types it ≡ false → Pointed it form
-
   -- ---- pointers by their forms
   abbrev behind : AddressSpace → List ℕ → List ℕ
   behind at y = level 5 (space_number at) (access_number at) 0 0 0 ++ y
+
+  -- what a pointer of this form points to: a type that is no struct, or one
+  data Pointed (it : TypeInner) (form : List ℕ) : Type 0 where
+    Plain : (number access : ℕ) (y : List ℕ) → form ≡ level 5 number access 0 0 0 ++ y → nat_eq (get_or y 0 0) 8 ≡ false →
+        ((index : Option ℕ) → PartIs (part_form number access y) (part_type m.types it index)) → kind_behind m.types it ≡ kind_of_form y → Pointed it form
+    Whole : (at : AddressSpace) (h : ℕ) → form ≡ behind at (level 8 h 0 0 0 0) → it ≡ inner.Pointer h at → kind_behind m.types it ≡ MemberKind h → Pointed it form
 
   -- a space that is not that of handles has a word
   has_word : (at : AddressSpace) → is_handle_space at ≡ false → is_none (space_word at) ≡ false
@@ -130,7 +166,8 @@ module _ (m : Module) (are : TypesAreCounted m) (stand : PartsStand m) where
   -- what has no parts
   abbrev OfNoParts : Option (List ℕ) → Type 0
   OfNoParts None = Unit {0}
-  OfNoParts (Some y) = (nat_eq (get_or y 0 0) 8 ≡ false) × ((number access : ℕ) → part_form number access y ≡ None)
+  OfNoParts (Some y) =
+      (nat_eq (get_or y 0 0) 8 ≡ false) × ((number access : ℕ) → part_form number access y ≡ None) × (kind_of_form y ≡ NoKind)
 
   over_no_parts : (tag : ℕ) (s : Scalar) (c d e : ℕ) → OfNoParts (Some (level tag (kind_number s.kind) s.width c d e)) → OfNoParts (over_scalar tag s c d e)
   over_no_parts tag s c d e none = by (is_some (scalar_word s))
@@ -141,7 +178,7 @@ module _ (m : Module) (are : TypesAreCounted m) (stand : PartsStand m) where
 
   pointer_no_parts : (at : AddressSpace) (o : Option (List ℕ)) → OfNoParts (pointer_key at o)
   pointer_no_parts at None = tt
-  pointer_no_parts at (Some y) = (refl, λ number access. refl)
+  pointer_no_parts at (Some y) = (refl, λ number access. refl, refl)
 
   value_pointer_no_parts : (at : AddressSpace) (o : Option (List ℕ)) → OfNoParts (value_pointer_key at o)
   value_pointer_no_parts at o = by (is_none (space_word at))
@@ -154,52 +191,56 @@ module _ (m : Module) (are : TypesAreCounted m) (stand : PartsStand m) where
   image_no_parts dim arrayed (class.Sampled kind multi) = by (is_some (scalar_word (record { kind = kind; width = 4 })))
     where
       by : (b : Bool) → OfNoParts (if b then Some (level 9 (dimension_number dim) (truth_number arrayed) 0 (kind_number kind) (truth_number multi)) else None)
-      by true = (refl, λ number access. refl)
+      by true = (refl, λ number access. refl, refl)
       by false = tt
-  image_no_parts dim arrayed (class.Depth multi) = (refl, λ number access. refl)
-  image_no_parts dim arrayed (class.Storage format access) = (refl, λ number access. refl)
-  image_no_parts dim arrayed class.External = (refl, λ number access. refl)
+  image_no_parts dim arrayed (class.Depth multi) = (refl, λ number access. refl, refl)
+  image_no_parts dim arrayed (class.Storage format access) = (refl, λ number access. refl, refl)
+  image_no_parts dim arrayed class.External = (refl, λ number access. refl, refl)
 
   -- ---- a pointer to a type of the module
   module _ (base : ℕ) (at : AddressSpace) (t : Type_) (there : slice_get m.types base ≡ Some t) (named : is_none (space_word at) ≡ false) where
     parts_are : (it : TypeInner) → t.inner ≡ it → (index : Option ℕ) → part_type m.types (inner.Pointer base at) index ≡ pointed_part at it index
     parts_are it is index = ap (λ o. option_and_then (λ it. pointed_part at it index) (option_map (λ t. t.inner) o)) there ∙ ap (λ it. pointed_part at it index) is
 
+    kind_is : (it : TypeInner) → t.inner ≡ it → kind_behind m.types (inner.Pointer base at) ≡ kind_at base it
+    kind_is it is = ap (λ o. option_map_or (kind_at base) (option_map (λ t. t.inner) o) NoKind) there ∙ ap (kind_at base) is
+
     plain : (it : TypeInner) → t.inner ≡ it → (y : List ℕ) → nat_eq (get_or y 0 0) 8 ≡ false →
-        ((index : Option ℕ) → PartIs (part_form (space_number at) (access_number at) y) (pointed_part at it index)) →
+        ((index : Option ℕ) → PartIs (part_form (space_number at) (access_number at) y) (pointed_part at it index)) → kind_at base it ≡ kind_of_form y →
         (form : Option (List ℕ)) → form ≡ Some y → (x : List ℕ) → form ≡ Some x → Pointed (inner.Pointer base at) (behind at x)
-    plain it is y other parts form f x g =
+    plain it is y other parts kind form f x g =
         Plain (space_number at) (access_number at) y (ap (behind at) (same_Some x y (sym g ∙ f))) other
         (λ index. subst (PartIs (part_form (space_number at) (access_number at) y)) (sym (parts_are it is index)) (parts index))
+        (kind_is it is ∙ kind)
 
-    partless : (it : TypeInner) → t.inner ≡ it → ((index : Option ℕ) → pointed_part at it index ≡ None) →
+    partless : (it : TypeInner) → t.inner ≡ it → ((index : Option ℕ) → pointed_part at it index ≡ None) → kind_at base it ≡ NoKind →
         (form : Option (List ℕ)) → OfNoParts form → (x : List ℕ) → form ≡ Some x → Pointed (inner.Pointer base at) (behind at x)
-    partless it is none None lacks x g = absurd cc
-    partless it is none (Some y) lacks x g =
+    partless it is none kind None lacks x g = absurd cc
+    partless it is none kind (Some y) lacks x g =
         plain it is y lacks.0
         (λ index. subst (λ o. PartIs o (pointed_part at it index)) (sym (lacks.1 (space_number at) (access_number at))) (subst (PartIs None) (sym (none index)) tt))
-        (Some y) refl x g
+        (kind ∙ sym lacks.2) (Some y) refl x g
 
     module _ (n : ℕ) (deep : base ≤ n) where
       -- an array's elements
       elements : (it : TypeInner) → t.inner ≡ it → (element : ℕ) (size : List ℕ → List ℕ) →
           ((z : List ℕ) → nat_eq (get_or (size z) 0 0) 8 ≡ false) →
           ((z : List ℕ) → part_form (space_number at) (access_number at) (size z) ≡ Some (behind at z)) →
-          ((index : Option ℕ) → pointed_part at it index ≡ Some (Value (inner.Pointer element at))) →
+          ((index : Option ℕ) → pointed_part at it index ≡ Some (Value (inner.Pointer element at))) → ((z : List ℕ) → kind_at base it ≡ kind_of_form (size z)) →
           element < base →
           (o : Option (List ℕ)) → key_within n m.types element ≡ o → (x : List ℕ) → option_map size o ≡ Some x → Pointed (inner.Pointer base at) (behind at x)
-      elements it is element size other form parts before None f x g = absurd cc
-      elements it is element size other form parts before (Some z) f x g =
+      elements it is element size other form parts kind before None f x g = absurd cc
+      elements it is element size other form parts kind before (Some z) f x g =
           plain it is (size z) (other z)
           (λ index. subst (λ o. PartIs o (pointed_part at it index)) (sym (form z)) (subst (PartIs (Some (behind at z))) (sym (parts index))
           (ap (pointer_key at) (sym (at_depth m stand n element (depth before deep)) ∙ f))))
-          (Some (size z)) refl x g
+          (kind z) (Some (size z)) refl x g
         where
           depth : element < base → base ≤ n → element < n
           depth a b = omega (arith, a, b)
 
       pointee : (it : TypeInner) → t.inner ≡ it → (x : List ℕ) → named_key_by (key_within n m.types) base it ≡ Some x → Pointed (inner.Pointer base at) (behind at x)
-      pointee (inner.Scalar s) is x g = partless (inner.Scalar s) is (λ index. refl) _ (over_no_parts 0 s 0 0 0 (refl, λ number access. refl)) x g
+      pointee (inner.Scalar s) is x g = partless (inner.Scalar s) is (λ index. refl) refl _ (over_no_parts 0 s 0 0 0 (refl, λ number access. refl, refl)) x g
       pointee (inner.Vector k s) is x g = by (is_some (scalar_word s)) refl g
         where
           by : (b : Bool) → is_some (scalar_word s) ≡ b →
@@ -208,7 +249,7 @@ module _ (m : Module) (are : TypesAreCounted m) (stand : PartsStand m) where
           by false word g = absurd cc
           by true word g =
               plain (inner.Vector k s) is (level 1 (kind_number s.kind) s.width (vector_number k) 0 0) refl
-              (λ index. value_pointer at named (over_scalar 0 s 0 0 0) _ (scalar_is 0 s 0 0 0 word)) _ refl x g
+              (λ index. value_pointer at named (over_scalar 0 s 0 0 0) _ (scalar_is 0 s 0 0 0 word)) refl _ refl x g
       pointee (inner.Matrix columns rows s) is x g = by (is_some (scalar_word s)) refl g
         where
           by : (b : Bool) → is_some (scalar_word s) ≡ b →
@@ -218,24 +259,24 @@ module _ (m : Module) (are : TypesAreCounted m) (stand : PartsStand m) where
           by false word g = absurd cc
           by true word g =
               plain (inner.Matrix columns rows s) is (level 2 (kind_number s.kind) s.width (vector_number columns) (vector_number rows) 0) refl
-              (λ index. value_pointer at named (over_scalar 1 s (vector_number rows) 0 0) _ (scalar_is 1 s (vector_number rows) 0 0 word)) _ refl x g
+              (λ index. value_pointer at named (over_scalar 1 s (vector_number rows) 0 0) _ (scalar_is 1 s (vector_number rows) 0 0 word)) refl _ refl x g
       pointee (inner.CooperativeMatrix columns rows s role) is x g =
-          partless (inner.CooperativeMatrix columns rows s role) is (λ index. refl) _ (over_no_parts 3 s _ _ _ (refl, λ number access. refl)) x g
-      pointee (inner.Atomic s) is x g = partless (inner.Atomic s) is (λ index. refl) _ (over_no_parts 4 s 0 0 0 (refl, λ number access. refl)) x g
-      pointee (inner.Pointer other to) is x g = partless (inner.Pointer other to) is (λ index. refl) _ (pointer_no_parts to (key_within n m.types other)) x g
-      pointee (inner.ValuePointer k s to) is x g = partless (inner.ValuePointer k s to) is (λ index. refl) _ (value_pointer_no_parts to (value_key k s)) x g
+          partless (inner.CooperativeMatrix columns rows s role) is (λ index. refl) refl _ (over_no_parts 3 s _ _ _ (refl, λ number access. refl, refl)) x g
+      pointee (inner.Atomic s) is x g = partless (inner.Atomic s) is (λ index. refl) refl _ (over_no_parts 4 s 0 0 0 (refl, λ number access. refl, refl)) x g
+      pointee (inner.Pointer other to) is x g = partless (inner.Pointer other to) is (λ index. refl) refl _ (pointer_no_parts to (key_within n m.types other)) x g
+      pointee (inner.ValuePointer k s to) is x g = partless (inner.ValuePointer k s to) is (λ index. refl) refl _ (value_pointer_no_parts to (value_key k s)) x g
       pointee (inner.Array element size stride) is x g =
-          elements (inner.Array element size stride) is element _ (λ z. refl) (λ z. refl) (λ index. refl)
+          elements (inner.Array element size stride) is element _ (λ z. refl) (λ z. refl) (λ index. refl) (λ z. refl)
           (ltb-true element base (sym (ap (parts_before base) is) ∙ stand base t there)) (key_within n m.types element) refl x g
       pointee (inner.BindingArray element size) is x g =
-          elements (inner.BindingArray element size) is element _ (λ z. refl) (λ z. refl) (λ index. refl)
+          elements (inner.BindingArray element size) is element _ (λ z. refl) (λ z. refl) (λ index. refl) (λ z. refl)
           (ltb-true element base (sym (ap (parts_before base) is) ∙ stand base t there)) (key_within n m.types element) refl x g
       pointee (inner.Struct members span) is x g =
-          Whole (space_number at) (access_number at) base (ap (behind at) (sym (same_Some _ x g))) (ap is_some (parts_are (inner.Struct members span) is None))
-      pointee (inner.Image dim arrayed c) is x g = partless (inner.Image dim arrayed c) is (λ index. refl) _ (image_no_parts dim arrayed c) x g
-      pointee (inner.Sampler comparison) is x g = partless (inner.Sampler comparison) is (λ index. refl) _ (refl, λ number access. refl) x g
-      pointee (inner.AccelerationStructure vertex_return) is x g = partless (inner.AccelerationStructure vertex_return) is (λ index. refl) _ (refl, λ number access. refl) x g
-      pointee (inner.RayQuery vertex_return) is x g = partless (inner.RayQuery vertex_return) is (λ index. refl) _ (refl, λ number access. refl) x g
+          Whole at base (ap (behind at) (sym (same_Some _ x g))) refl (kind_is (inner.Struct members span) is)
+      pointee (inner.Image dim arrayed c) is x g = partless (inner.Image dim arrayed c) is (λ index. refl) refl _ (image_no_parts dim arrayed c) x g
+      pointee (inner.Sampler comparison) is x g = partless (inner.Sampler comparison) is (λ index. refl) refl _ (refl, λ number access. refl, refl) x g
+      pointee (inner.AccelerationStructure vertex_return) is x g = partless (inner.AccelerationStructure vertex_return) is (λ index. refl) refl _ (refl, λ number access. refl, refl) x g
+      pointee (inner.RayQuery vertex_return) is x g = partless (inner.RayQuery vertex_return) is (λ index. refl) refl _ (refl, λ number access. refl, refl) x g
 
   -- what is pointed to stands in the module where it has a form
   pointed_module : (base : ℕ) (at : AddressSpace) → is_handle_space at ≡ false →
@@ -258,13 +299,13 @@ module _ (m : Module) (are : TypesAreCounted m) (stand : PartsStand m) where
           Pointed (inner.ValuePointer size s at) x
       behind_word None named true word x g =
           Plain (space_number at) (access_number at) (level 0 (kind_number s.kind) s.width 0 0 0) (same_Some x _ (sym g ∙ ap (pointer_key at) (scalar_is 0 s 0 0 0 word))) refl
-          (λ index. tt)
+          (λ index. tt) refl
       behind_word (Some k) named true word x g =
           Plain (space_number at) (access_number at)
           (level 1 (kind_number s.kind) s.width (vector_number k) 0 0)
           (same_Some x _ (sym g
           ∙ ap (pointer_key at) (scalar_is 1 s (vector_number k) 0 0 word))) refl
-          (λ index. value_pointer at named (over_scalar 0 s 0 0 0) _ (scalar_is 0 s 0 0 0 word))
+          (λ index. value_pointer at named (over_scalar 0 s 0 0 0) _ (scalar_is 0 s 0 0 0 word)) refl
       behind_word None named false word x g =
           let none : None ≡ Some x = sym (ap (λ b. pointer_key at (if b then Some (level 0 (kind_number s.kind) s.width 0 0 0) else None)) word) ∙ g in absurd cc
       behind_word (Some k) named false word x g =
@@ -408,11 +449,33 @@ module _ (m : Module) (are : TypesAreCounted m) (stand : PartsStand m) where
   not_whole : {A : Type 0} (y : List ℕ) (h : ℕ) → nat_eq (get_or y 0 0) 8 ≡ false → y ≡ level 8 h 0 0 0 0 → A
   not_whole y h other is = absurd (true≢false (sym (ap (λ y. nat_eq (get_or y 0 0) 8) is) ∙ other))
 
+  one_kind : (k : PartKind) (y z : List ℕ) → k ≡ kind_of_form y → y ≡ z → k ≡ kind_of_form z
+  one_kind k y z f same = f ∙ ap kind_of_form same
+
+  -- where what is pointed to is no struct by its form, it is none
+  no_members_of_form : (y : List ℕ) → has_members (kind_of_form y) ≡ false
+  no_members_of_form y = by (nat_eq (get_or y 0 0) 1) (nat_eq (get_or y 0 0) 2) (nat_eq (get_or y 0 0) 6) (nat_eq (get_or y 0 0) 7)
+    where
+      by : (a b c d : Bool) → has_members (if a then ComponentKind (get_or y 3 0) else (if b then ElementKind else (if c then ElementKind else (if d then ElementKind else NoKind)))) ≡ false
+      by true b c d = refl
+      by false true c d = refl
+      by false false true d = refl
+      by false false false true = refl
+      by false false false false = refl
+
   -- ---- promise
-  pub alike_computed_parts : (a b : TypeResolution) → IsFit m a → IsFit m b → type_identity m.types a ≡ type_identity m.types b →
-      (ia ib : TypeInner) → inner_of a m.types ≡ Some ia → inner_of b m.types ≡ Some ib → is_pointer ia ≡ true → is_pointer ib ≡ true →
-      has_computed_parts m.types ia ≡ true → (index : Option ℕ) → PartsAlike (part_type m.types ia index) (part_type m.types ib index)
-  alike_computed_parts a b p q e ia ib at bt first second computed index = by (alike a b p q e)
+  -- Two pointers: to one and the same; to parts of one kind, that are told by the same numbers; or to one
+  -- struct, in spaces that are told by the same.
+  pub data AlikePlaces (ia ib : TypeInner) : Type 0 where
+    Same : ia ≡ ib → AlikePlaces ia ib
+    OneKind : kind_behind m.types ia ≡ kind_behind m.types ib → has_members (kind_behind m.types ia) ≡ false →
+        ((index : Option ℕ) → PartsAlike (part_type m.types ia index) (part_type m.types ib index)) → AlikePlaces ia ib
+    OneStruct : (base : ℕ) (at to : AddressSpace) → ia ≡ inner.Pointer base at → ib ≡ inner.Pointer base to → kind_behind m.types ia ≡ MemberKind base →
+        ((o : Option (List ℕ)) → pointer_key at o ≡ pointer_key to o) → AlikePlaces ia ib
+
+  pub alike_places : (a b : TypeResolution) → IsFit m a → IsFit m b → type_identity m.types a ≡ type_identity m.types b →
+      (ia ib : TypeInner) → inner_of a m.types ≡ Some ia → inner_of b m.types ≡ Some ib → is_pointer ia ≡ true → is_pointer ib ≡ true → AlikePlaces ia ib
+  alike_places a b p q e ia ib at bt first second = by (alike a b p q e)
     where
       free : IsFree ia
       free = is_free a ia p at
@@ -420,20 +483,30 @@ module _ (m : Module) (are : TypesAreCounted m) (stand : PartsStand m) where
       loose : IsFree ib
       loose = is_free b ib q bt
 
-      both : (x : List ℕ) → Pointed ia x → Pointed ib x → PartsAlike (part_type m.types ia index) (part_type m.types ib index)
-      both x (Plain n k y f other parts) (Plain l j z g another others) =
+      one_spelling : (n k x y : ℕ) → n ≡ x → k ≡ y → (o : Option (List ℕ)) →
+          option_map (λ it. level 5 n k 0 0 0 ++ it) o ≡ option_map (λ it. level 5 x y 0 0 0 ++ it) o
+      one_spelling n k x y f g o = λ i. option_map (λ it. level 5 (f i) (g i) 0 0 0 ++ it) o
+
+      both : (x : List ℕ) → Pointed ia x → Pointed ib x → AlikePlaces ia ib
+      both x (Plain n k y f other parts kind) (Plain l j z g another others other_kind) =
           let one = one_level n k y l j z x f g in
+          OneKind (one_kind (kind_behind m.types ia) y z kind one.behinds ∙ sym other_kind) (ap has_members kind ∙ no_members_of_form y) (λ index.
           parts_of_form (part_form n k y) (part_type m.types ia index) (part_type m.types ib index) (parts index)
           (subst (λ o. PartIs o (part_type m.types ib index)) (sym (λ i. part_form (one.numbers i) (one.accesses i) (one.behinds i))) (others index))
-          (part_fits ia free first index) (part_fits ib loose second index)
-      both x (Plain n k y f other parts) (Whole l j h g none) = not_whole y h other (one_level n k y l j (level 8 h 0 0 0 0) x f g).behinds
-      both x (Whole n k h f none) two = absurd (true≢false (sym computed ∙ none))
+          (part_fits ia free first index) (part_fits ib loose second index))
+      both x (Plain n k y f other parts kind) (Whole at h g is members) =
+          not_whole y h other (one_level n k y (space_number at) (access_number at) (level 8 h 0 0 0 0) x f g).behinds
+      both x (Whole at h f is members) (Plain n k y g other parts kind) =
+          not_whole y h other (one_level n k y (space_number at) (access_number at) (level 8 h 0 0 0 0) x g f).behinds
+      both x (Whole at h f is members) (Whole to j g other others) =
+          let one = one_level (space_number at) (access_number at) (level 8 h 0 0 0 0) (space_number to) (access_number to) (level 8 j 0 0 0 0) x f g in
+          let bases : h ≡ j = ap (λ y. get_or y 1 0) one.behinds in
+          OneStruct h at to is (other ∙ ap (λ base. inner.Pointer base to) (sym bases)) members
+          (one_spelling (space_number at) (access_number at) (space_number to) (access_number to) one.numbers one.accesses)
 
-      by : Alike a b → PartsAlike (part_type m.types ia index) (part_type m.types ib index)
+      by : Alike a b → AlikePlaces ia ib
       by (OneForm x f g) = both x (pointed a ia free at first x f) (pointed b ib loose bt second x g)
-      by (Itselves same) =
-          subst (λ it. PartsAlike (part_type m.types ia index) (part_type m.types it index)) (same_Some ia ib (sym at ∙ (same ∙ bt)))
-          (parts_of_one (part_type m.types ia index) (part_fits ia free first index))
+      by (Itselves same) = Same (same_Some ia ib (sym at ∙ (same ∙ bt)))
 
 -- ---- why no struct
 abbrev storage : (bits : ℕ) → AddressSpace
