@@ -39,7 +39,7 @@ module _ (m : Module) (info : ModuleInfo) (explicit : Bool) (accepted : IsTrue (
   -- under whatever names labels may have
   pub never_stuck : (named : LabelNames) → AreLabelNames m named →
       IsNeverStuck m info (program_under named m info explicit)
-  never_stuck named are settings fit meaning typed g f found arguments typed_arguments world turns past =
+  never_stuck named are g settings fit meaning typed f found arguments typed_arguments world turns past =
       let shape = module_shape m info in
       subst (λ (text : TextModule). IsNotStuck
       (run_module shape settings world meaning turns g arguments past) ×
