@@ -1,7 +1,7 @@
 -- Each name of a program stands for what it was written for. What the identifiers and words of
 -- functions stand for is told of the abstract text. It forgets the types of declarations, and which
 -- struct has a member: these are told by themselves.
-use Rattle.std.specs.Prelude.{◌≡◌, ℕ, List, map, Some, IsTrue, slice_get, length}
+use Rattle.std.specs.Prelude.{◌≡◌, ℕ, List, map, Some, IfSome, IsTrue, slice_get, length}
 use Rattle.std.specs.List.{enumerate_from}
 use Rattle.naga_ir.specs.declared.module.Module.{Module}
 use Rattle.naga_ir.specs.declared.types.StructMember.{StructMember}
@@ -28,7 +28,7 @@ use Rattle.module_meaning.specs.Undeclared.{is_declared, is_spellable, is_undecl
 use Rattle.text_meaning.specs.Abstraction.{function_read, functions_of, program_read}
 use Rattle.text_meaning.specs.Resolution.{item_named, member_named, place_among}
 use Rattle.text_meaning.specs.Resolution.{program_initialiser_targets, stage_targets, type_items}
-use Rattle.text_meaning.specs.Resolution.{types_are_not_hidden}
+use Rattle.text_meaning.specs.Resolution.{hides_no_type, types_are_not_hidden}
 
 -- Each identifier and each word of each function and of each named constant, in their order, stands
 -- for what the module means there, where labels have these names: a constant, variable, function,
@@ -92,9 +92,8 @@ pub record ItemsResolve (m : Module) (info : ModuleInfo) (program : Program) : T
       ≡ map (map Some) (module_initialiser_targets m info)
   -- the variables that entry points name: outputs of meshes and payloads
   pub stages : stage_targets program ≡ map (map Some) (module_stage_targets m)
-  -- what types name, which no name that a function gives hides
+  -- what types name
   pub types : TypesResolve m program
-  pub not_hidden : IsTrue (types_are_not_hidden program)
   -- the members of the structs that the text declares, and of those that no text declares
   pub members : MembersResolve m program
   pub own_members : OwnMembersResolve m
@@ -104,12 +103,17 @@ pub record ResolvesUnder (named : LabelNames) (m : Module) (info : ModuleInfo) (
     Type 0 where
   pub bodies : BodiesResolve named m info program
   pub items : ItemsResolve m info program
+  -- no name that a function gives hides what types name
+  pub not_hidden : IsTrue (types_are_not_hidden program)
 
 -- Each does that stands in the function with this number or outside of functions.
 pub record ResolvesAt (named : LabelNames) (m : Module) (info : ModuleInfo) (program : Program)
     (number : ℕ) : Type 0 where
   pub body : BodyResolves named m info program number
   pub items : ItemsResolve m info program
+  -- no name that it gives hides what types name
+  pub not_hidden : IfSome (slice_get (functions_of program) number)
+      (λ f. IsTrue (hides_no_type program (function_read f)))
 
 -- Each name does where labels have the names that they have in a text of the whole module.
 abbrev pub ResolvesAs : Module → ModuleInfo → Program → Type 0

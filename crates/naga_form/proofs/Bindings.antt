@@ -55,7 +55,8 @@ use Rattle.module_meaning.specs.Namings.{function_naming, namings_from, namings_
 use Rattle.module_meaning.specs.StatementShapes.{simple_shape}
 use Rattle.text_meaning.specs.Bindings.{statement_annotations, statements_annotations, optional_annotations}
 use Rattle.text_meaning.specs.Bindings.{cases_annotations}
-use Rattle.module_meaning.specs.Bindings.{BindsAs, BindsUnder, module_annotations}
+use Rattle.module_meaning.specs.Bindings.{BindsAs, BindsUnder, lets_read, module_annotations}
+use Rattle.module_meaning.specs.Bindings.{module_lets}
 use Rattle.module_meaning.specs.FunctionNumbers.{all_functions, all_infos}
 use Rattle.naga_form.proofs.AcceptedFunctions.{functions_counted}
 use Rattle.naga_form.proofs.Runs.{reads_as_shapes_under}
@@ -225,6 +226,16 @@ functions_tell explicit named names m info g (f ∷ fs) (es ∷ ess) =
     ∙ (λ i. map (λ b. annotated_spells explicit m t es b.handle i) (function_bindings n)) in
     λ i. line i ∷ functions_tell explicit named names m info (g + 1) fs ess i
 
+-- what the `let`s of each function tell
+pub annotations_are : (m : Module) (info : ModuleInfo) (explicit : Bool) (named : LabelNames) →
+    IsTrue (is_accepted m info) →
+    (lets_read (program_under named m info explicit)).annotations
+    ≡ (module_lets named m info explicit).annotations
+annotations_are m info explicit named accepted =
+    ap (map (λ (f : tree_functions.Function). statements_annotations f.body))
+    (all_functions_under m info explicit named (functions_counted m info accepted))
+    ∙ functions_tell explicit named (module_names m) m info 0 (all_functions m) (all_infos info)
+
 -- under whatever names labels have
 pub binds_as_under : (m : Module) (info : ModuleInfo) (explicit : Bool) (named : LabelNames) →
     IsTrue (is_accepted m info) → DeclarationsHaveForms m → AllWrittenHaveForms explicit m info →
@@ -234,10 +245,7 @@ binds_as_under m info explicit named accepted declarations have =
     ap text_lets (reads_as_shapes_under m info explicit named accepted declarations have)
     ∙ binds_as_meant (module_shape m info) (outer_names (module_names m) m)
     (namings_under named (module_names m) m info) in
-    let annotations =
-    ap (map (λ (f : tree_functions.Function). statements_annotations f.body))
-    (all_functions_under m info explicit named (functions_counted m info accepted))
-    ∙ functions_tell explicit named (module_names m) m info 0 (all_functions m) (all_infos info) in
+    let annotations = annotations_are m info explicit named accepted in
     λ i. record { names = names i; annotations = annotations i }
 
 pub binds_as : (m : Module) (info : ModuleInfo) (explicit : Bool) → IsTrue (is_accepted m info) →

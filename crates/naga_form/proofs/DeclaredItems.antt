@@ -1,7 +1,7 @@
 -- The names of the declarations that are written for a module stand for what they were written for.
 use Rattle.std.proofs.Common.{◌≡◌, ℕ, Bool, true, List, [], ◌∷◌, ◌++◌, Option, Some, None, refl}
 use Rattle.std.proofs.Common.{sym, ap, ◌∙◌, map, slice_get, suc, ◌+◌, length, not, subst}
-use Rattle.std.specs.List.{enumerate_from, list_all}
+use Rattle.std.specs.List.{enumerate_from}
 use Rattle.std.specs.Option.{option_map, option_or}
 use Rattle.std.specs.Prelude.{IsTrue}
 use Rattle.std.proofs.lemmas.Bool.{and_from, and_parts, false_from_ne_true}
@@ -15,20 +15,17 @@ use Rattle.module_meaning.specs.Accepted.{is_accepted}
 use Rattle.module_meaning.specs.DeclarationForms.{DeclarationsHaveForms, OfOverride, OfVariable}
 use Rattle.module_meaning.specs.DeclaredItems.{initialiser_meant, module_initialiser_targets}
 use Rattle.module_meaning.specs.DeclaredItems.{module_stage_targets, resolution_items}
-use Rattle.module_meaning.specs.FunctionNumbers.{all_functions, all_infos}
-use Rattle.module_meaning.specs.Names.{AreLabelNames, LabelNames, module_names}
-use Rattle.module_meaning.specs.Premises.{ScopesHold}
-use Rattle.module_meaning.specs.Resolution.{MembersResolve, TypesResolve}
+use Rattle.module_meaning.specs.Names.{LabelNames, module_names}
+use Rattle.module_meaning.specs.Resolution.{ItemsResolve, MembersResolve, TypesResolve}
 use Rattle.module_meaning.specs.Types.{type_names}
 use Rattle.module_meaning.specs.Undeclared.{is_declared, is_undeclared}
-use Rattle.module_meaning.specs.Written.{AllWrittenHaveForms}
 use Rattle.module_meaning.specs.ExpressionForms.{global_is_written}
 use Rattle.module_meaning.proofs.ExpressionForms.{spellable_parts}
 use Rattle.shader_runs.specs.Resolution.{Lookup, text_names}
 use Rattle.text_meaning.specs.Abstraction.{program_read}
 use Rattle.text_meaning.specs.Resolution.{initialiser_targets, item_named}
 use Rattle.text_meaning.specs.Resolution.{program_initialiser_targets, stage_targets, struct_named}
-use Rattle.text_meaning.specs.Resolution.{StructItem, type_items, types_are_not_hidden, ValueItem}
+use Rattle.text_meaning.specs.Resolution.{StructItem, type_items, ValueItem}
 use Rattle.wgsl_text.proofs.Types.{named_text}
 use Rattle.wgsl_text.proofs.Words.{passes}
 use Rattle.wgsl_text.specs.Declarations.{Program}
@@ -38,12 +35,11 @@ use Rattle.wgsl_text.specs.Types.{Named, plain_type_words}
 use Rattle.wgsl_text.specs.Words.{stands_in}
 use Rattle.naga_form.proofs.AcceptedFunctions.{entry_points_counted, stage_variables_within}
 use Rattle.naga_form.proofs.AcceptedGroups.{fit_of, types_are_counted, types_are_fit}
-use Rattle.naga_form.proofs.DeclaredStructs.{members_found, override_not_found, struct_found}
+use Rattle.naga_form.proofs.DeclaredStructs.{members_found, override_not_found, own_members_found}
+use Rattle.naga_form.proofs.DeclaredStructs.{struct_found}
 use Rattle.naga_form.proofs.DistinguishedItems.{types_are_distinguished}
-use Rattle.naga_form.proofs.Facts.{from_start}
-use Rattle.naga_form.proofs.HiddenNames.{functions_hide_none, hides_none}
 use Rattle.naga_form.proofs.ItemKeys.{item_is_no_word, no_word_of_item, type_has}
-use Rattle.naga_form.proofs.ItemTargets.{initialiser_found, override_found, program_reads}
+use Rattle.naga_form.proofs.ItemTargets.{initialiser_found, override_found}
 use Rattle.naga_form.proofs.ItemTargets.{variable_found}
 use Rattle.naga_form.proofs.OperatingWords.{free_parts, names_no_item, operates_freely, plain_types_free}
 use Rattle.naga_form.proofs.PartTypes.{known_within}
@@ -63,107 +59,107 @@ plain_names_no_item w plain =
     ∙ (free_parts (type_layout (Named w)) free).no_item
 
 module _ (m : Module) (info : ModuleInfo) (explicit : Bool) (labels : LabelNames)
-    (are : AreLabelNames m labels) (accepted : IsTrue (is_accepted m info))
-    (declarations : DeclarationsHaveForms m) (have : AllWrittenHaveForms explicit m info)
-    (scope : ScopesHold m info)
-  where
-    abbrev program : Program
-    program = program_under labels m info explicit
+    (accepted : IsTrue (is_accepted m info)) (declarations : DeclarationsHaveForms m) where
+  abbrev program : Program
+  program = program_under labels m info explicit
 
-    abbrev names : Lookup
-    names = text_names (program_read program)
+  abbrev names : Lookup
+  names = text_names (program_read program)
 
-    -- ---- initialisers
-    one_resolves : (o : Option ℕ) → ((h : ℕ) → o ≡ Some h → global_is_written m h ≡ true) →
-        initialiser_targets names (option_map (global_form m (type_names m)) o)
-        ≡ map Some (initialiser_meant m info o)
-    one_resolves None is = refl
-    one_resolves (Some h) is =
-        initialiser_found m info explicit labels are accepted declarations have scope h (is h refl)
+  -- ---- initialisers
+  one_resolves : (o : Option ℕ) → ((h : ℕ) → o ≡ Some h → global_is_written m h ≡ true) →
+      initialiser_targets names (option_map (global_form m (type_names m)) o)
+      ≡ map Some (initialiser_meant m info o)
+  one_resolves None is = refl
+  one_resolves (Some h) is =
+      initialiser_found m info explicit labels accepted declarations h (is h refl)
 
-    -- those of declarations in their order, each made of an item by a form that has its initialiser
-    each_resolves : {X Y : Type 0} (form : ℕ × X → Y) (value : Y → Option Expression)
-        (init : X → Option ℕ) → ((k : ℕ) (x : X) →
-        value (form (k, x)) ≡ option_map (global_form m (type_names m)) (init x)) → (k : ℕ)
-        (xs : List X) → ((i : ℕ) (x : X) → slice_get xs i ≡ Some x → (h : ℕ) → init x ≡ Some h →
-        global_is_written m h ≡ true) →
-        map (λ y. initialiser_targets names (value y)) (map form (enumerate_from k xs))
-        ≡ map (map Some) (map (λ x. initialiser_meant m info (init x)) xs)
-    each_resolves form value init same k [] is = refl
-    each_resolves form value init same k (x ∷ xs) is =
-        let here = ap (initialiser_targets names) (same k x) ∙ one_resolves (init x) (is 0 x refl) in
-        let rest = each_resolves form value init same (k + 1) xs (λ i y at. is (suc i) y at) in
-        λ i. here i ∷ rest i
+  -- those of declarations in their order, each made of an item by a form that has its initialiser
+  each_resolves : {X Y : Type 0} (form : ℕ × X → Y) (value : Y → Option Expression)
+      (init : X → Option ℕ) → ((k : ℕ) (x : X) →
+      value (form (k, x)) ≡ option_map (global_form m (type_names m)) (init x)) → (k : ℕ)
+      (xs : List X) → ((i : ℕ) (x : X) → slice_get xs i ≡ Some x → (h : ℕ) → init x ≡ Some h →
+      global_is_written m h ≡ true) →
+      map (λ y. initialiser_targets names (value y)) (map form (enumerate_from k xs))
+      ≡ map (map Some) (map (λ x. initialiser_meant m info (init x)) xs)
+  each_resolves form value init same k [] is = refl
+  each_resolves form value init same k (x ∷ xs) is =
+      let here = ap (initialiser_targets names) (same k x) ∙ one_resolves (init x) (is 0 x refl) in
+      let rest = each_resolves form value init same (k + 1) xs (λ i y at. is (suc i) y at) in
+      λ i. here i ∷ rest i
 
-    pub initialisers_resolve : program_initialiser_targets program
-        ≡ map (map Some) (module_initialiser_targets m info)
-    initialisers_resolve =
-        let overrides = each_resolves (override_form (module_names m) (type_names m) m)
-        (λ o. o.value) (λ o. o.init) (λ k o. refl) 0 m.overrides
-        (λ i o at h init. declarations.initialisers h (OfOverride i o h at init)) in
-        let variables = each_resolves (variable_form (module_names m) (type_names m) m)
-        (λ v. v.value) (λ v. v.init) (λ k v. refl) 0 m.global_variables
-        (λ i v at h init. declarations.initialisers h (OfVariable i v h at init)) in
-        (λ i. overrides i ++ variables i)
-        ∙ sym (map-append (map Some) (map (λ o. initialiser_meant m info o.init) m.overrides)
-        (map (λ v. initialiser_meant m info v.init) m.global_variables))
+  pub initialisers_resolve : program_initialiser_targets program
+      ≡ map (map Some) (module_initialiser_targets m info)
+  initialisers_resolve =
+      let overrides = each_resolves (override_form (module_names m) (type_names m) m)
+      (λ o. o.value) (λ o. o.init) (λ k o. refl) 0 m.overrides
+      (λ i o at h init. declarations.initialisers h (OfOverride i o h at init)) in
+      let variables = each_resolves (variable_form (module_names m) (type_names m) m)
+      (λ v. v.value) (λ v. v.init) (λ k v. refl) 0 m.global_variables
+      (λ i v at h init. declarations.initialisers h (OfVariable i v h at init)) in
+      (λ i. overrides i ++ variables i)
+      ∙ sym (map-append (map Some) (map (λ o. initialiser_meant m info o.init) m.overrides)
+      (map (λ v. initialiser_meant m info v.init) m.global_variables))
 
-    -- ---- stages
-    pub stages_resolve : stage_targets program ≡ map (map Some) (module_stage_targets m)
-    stages_resolve =
-        stages_named (module_names m) names (length m.global_variables)
-        (variable_found m info explicit labels are accepted declarations have scope) explicit labels m info
-        (length m.functions) m.entry_points.items info.entry_points.items
-        (entry_points_counted m info accepted) (stage_variables_within m info accepted)
+  -- ---- stages
+  pub stages_resolve : stage_targets program ≡ map (map Some) (module_stage_targets m)
+  stages_resolve =
+      stages_named (module_names m) names (length m.global_variables)
+      (variable_found m info explicit labels accepted declarations) explicit labels m info
+      (length m.functions) m.entry_points.items info.entry_points.items
+      (entry_points_counted m info accepted) (stage_variables_within m info accepted)
 
-    -- ---- types
-    -- a struct and an override are what their names stand for
-    named : ItemsAreNamed m (item_named program)
-    named = record {
-      structs = λ h t at is declared.
-          let name = or_nothing (module_names m (key.Type_ h)) in
-          let both : is_declared m.special_types h t.inner ≡ true =
-          and_from (is_struct t.inner) (not (is_undeclared m.special_types h)) is
-          (ap not declared) in
-          let w = (type_names m).struct_name h in (
-            ap (λ o. option_or (option_map StructItem o) (option_map ValueItem (names w)))
-                (ap (struct_named program.structs) name
-                ∙ struct_found m info explicit labels h t at both),
-            false_from_ne_true (stands_in plain_type_words w)
-                (λ plain.
-                item_is_no_word m w (no_word_of_item w (plain_names_no_item w plain))
-                (key.Type_ h) (type_has m h t at) (sym name)),
-          );
-      overrides = λ o lt.
-          let name = or_nothing (module_names m (key.Override o)) in
-          let w = (type_names m).override_name o in
-          ap (λ k. option_or (option_map StructItem k) (option_map ValueItem (names w)))
-          (ap (struct_named program.structs) name ∙ override_not_found m info explicit labels o lt)
-          ∙ ap (option_map ValueItem)
-          (override_found m info explicit labels are accepted declarations have scope o lt);
-    }
+  -- ---- types
+  -- a struct and an override are what their names stand for
+  named : ItemsAreNamed m (item_named program)
+  named = record {
+    structs = λ h t at is declared.
+        let name = or_nothing (module_names m (key.Type_ h)) in
+        let both : is_declared m.special_types h t.inner ≡ true =
+        and_from (is_struct t.inner) (not (is_undeclared m.special_types h)) is
+        (ap not declared) in
+        let w = (type_names m).struct_name h in (
+          ap (λ o. option_or (option_map StructItem o) (option_map ValueItem (names w)))
+              (ap (struct_named program.structs) name
+              ∙ struct_found m info explicit labels h t at both),
+          false_from_ne_true (stands_in plain_type_words w)
+              (λ plain.
+              item_is_no_word m w (no_word_of_item w (plain_names_no_item w plain))
+              (key.Type_ h) (type_has m h t at) (sym name)),
+        );
+    overrides = λ o lt.
+        let name = or_nothing (module_names m (key.Override o)) in
+        let w = (type_names m).override_name o in
+        ap (λ k. option_or (option_map StructItem k) (option_map ValueItem (names w)))
+        (ap (struct_named program.structs) name ∙ override_not_found m info explicit labels o lt)
+        ∙ ap (option_map ValueItem)
+        (override_found m info explicit labels accepted declarations o lt);
+  }
 
-    pub types_resolve : TypesResolve m program
-    types_resolve r fits spellable t is e =
-        let parts = spellable_parts m r spellable in
-        let tree = tree_there (type_names m) r parts.0 in
-        let counted = types_are_counted m info accepted (types_are_distinguished m) in
-        let types = types_are_fit m info accepted in
-        let same : type_layout t ≡ type_layout tree.0 =
-        same_Some _ _ (sym e ∙ spelling_of m counted r ∙ ap (option_map type_layout) tree.1) in
-        let one : t ≡ tree.0 =
-        one_layout m counted t tree.0 is (tree_is m types r (fit_of m info accepted r fits) tree.0 tree.1) same in
-        subst (λ u. type_items (item_named program) u ≡ map Some (resolution_items m r)) (sym one)
-        (resolution_named m (item_named program) named types.within r parts.1
-        (known_within m info accepted r fits) tree.0 tree.1)
+  pub types_resolve : TypesResolve m program
+  types_resolve r fits spellable t is e =
+      let parts = spellable_parts m r spellable in
+      let tree = tree_there (type_names m) r parts.0 in
+      let counted = types_are_counted m info accepted (types_are_distinguished m) in
+      let types = types_are_fit m info accepted in
+      let same : type_layout t ≡ type_layout tree.0 =
+      same_Some _ _ (sym e ∙ spelling_of m counted r ∙ ap (option_map type_layout) tree.1) in
+      let one : t ≡ tree.0 =
+      one_layout m counted t tree.0 is (tree_is m types r (fit_of m info accepted r fits) tree.0 tree.1) same in
+      subst (λ u. type_items (item_named program) u ≡ map Some (resolution_items m r)) (sym one)
+      (resolution_named m (item_named program) named types.within r parts.1
+      (known_within m info accepted r fits) tree.0 tree.1)
 
-    pub not_hidden : IsTrue (types_are_not_hidden program)
-    not_hidden =
-        ap (λ t. list_all (hides_none m info explicit labels) t.functions)
-        (program_reads m info explicit labels are accepted declarations have scope)
-        ∙ functions_hide_none m info explicit labels are 0 (all_functions m) (all_infos info)
-        (from_start (all_functions m)) [] refl
+  -- ---- members
+  pub members_resolve : MembersResolve m program
+  members_resolve = members_found m info explicit labels
 
-    -- ---- members
-    pub members_resolve : MembersResolve m program
-    members_resolve = members_found m info explicit labels
+  -- ---- all of them
+  pub items_resolve : ItemsResolve m info program
+  items_resolve = record {
+    initialisers = initialisers_resolve;
+    stages = stages_resolve;
+    types = types_resolve;
+    members = members_resolve;
+    own_members = own_members_found m;
+  }

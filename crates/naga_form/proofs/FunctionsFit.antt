@@ -40,7 +40,7 @@ use Rattle.naga_form.proofs.Worded.{AsksFreely, worded}
 abbrev pub Tells : (ℕ → Option shapes.Function) → List shapes.Function → Type 0
 Tells at fs = (g : ℕ) → g < length fs → function_numbered fs g ≡ at g
 
-one_more : (at : ℕ → Option shapes.Function) (f : shapes.Function) (fs : List shapes.Function) →
+pub one_more : (at : ℕ → Option shapes.Function) (f : shapes.Function) (fs : List shapes.Function) →
     Tells at fs → at (length fs) ≡ Some f → Tells at (f ∷ fs)
 one_more at f fs tells is g lt = by (nat_eq g (length fs)) refl
   where

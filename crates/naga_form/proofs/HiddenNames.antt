@@ -38,7 +38,7 @@ use Rattle.shader_runs.specs.Form.{form_function, form_functions}
 use Rattle.shader_runs.specs.Program.{argument_count, local_count}
 use Rattle.shader_runs.specs.Scope.{named_by_all, Naming}
 use Rattle.shader_runs.specs.Text.{TextFunction}
-use Rattle.text_meaning.specs.Resolution.{is_in_no_type, own_names}
+use Rattle.text_meaning.specs.Resolution.{hides_no_type, is_in_no_type}
 use Rattle.wgsl_text.specs.Declarations.{Program}
 use Rattle.naga_form.proofs.DeclaredStructs.{name_from, struct_names}
 use Rattle.naga_form.proofs.ExpressionNames.{label_no_item}
@@ -103,7 +103,7 @@ module _ (m : Module) (info : ModuleInfo) (explicit : Bool) (labels : LabelNames
 
   -- ---- functions
   abbrev pub hides_none : TextFunction → Bool
-  hides_none f = list_all (is_in_no_type program) (own_names f)
+  hides_none f = hides_no_type program f
 
   module _ (g : ℕ) (f : ir_function.Function) (found : slice_get (all_functions m) g ≡ Some f)
       (are : AreLabelNamesOf m f (labels g)) (es : List ExpressionInfo) where
@@ -140,7 +140,7 @@ module _ (m : Module) (info : ModuleInfo) (explicit : Bool) (labels : LabelNames
         free_if (labels g k)
         (λ item s is. label_no_item m f (labels g) are k within item s)
 
-    function_hides_none : hides_none (form_function own) ≡ true
+    pub function_hides_none : hides_none (form_function own) ≡ true
     function_hides_none =
         own_names_pass (module_shape m info) (outer_names (module_names m) m) own
         (is_in_no_type program) arguments locals

@@ -41,12 +41,12 @@ use Rattle.naga_form.proofs.DeclaredNames.{one_vocabulary}
 use Rattle.wgsl_text.specs.Types.{TypeSpecifier, Named}
 use Rattle.wgsl_text.proofs.Text.{text-append}
 use Rattle.shader_runs.specs.Constants.{module_initialiser_value, text_initialiser_value}
-use Rattle.shader_runs.specs.Form.{form_module}
+use Rattle.shader_runs.specs.Form.{form_module_with}
 use Rattle.shader_runs.specs.Premises.{IsTyped, SettingsFit}
 use Rattle.shader_runs.specs.Program as shapes
 use Rattle.shader_runs.specs.Program.{ConstantTree}
 use Rattle.shader_runs.specs.Scope.{ModuleNames, Naming, at_start}
-use Rattle.shader_runs.specs.Text.{TextModule}
+use Rattle.shader_runs.specs.Text.{TextFunction, TextModule}
 use Rattle.shader_runs.specs.Value.{Value}
 use Rattle.shader_runs.specs.World.{Meaning, Settings, World}
 use Rattle.shader_runs.proofs.Calls.{initialisers_are_alike}
@@ -73,12 +73,11 @@ use Rattle.module_meaning.specs.Interface.{override_interface, result_passed, st
 use Rattle.module_meaning.specs.Interface.{struct_interface}
 use Rattle.module_meaning.specs.Layouts.{written_size}
 use Rattle.module_meaning.specs.ModuleShapes.{module_shape}
-use Rattle.module_meaning.specs.Names.{AreLabelNames, constant_name, expression_name, function_name}
+use Rattle.module_meaning.specs.Names.{constant_name, expression_name, function_name}
 use Rattle.module_meaning.specs.Names.{global_name, LabelNames, module_names, name_in}
 use Rattle.module_meaning.specs.Names.{override_name}
-use Rattle.module_meaning.specs.Namings.{function_naming, namings_under, outer_names}
+use Rattle.module_meaning.specs.Namings.{function_naming, outer_names}
 use Rattle.module_meaning.specs.Numbers.{fits_32_bits, workgroup_fits_32_bits}
-use Rattle.module_meaning.specs.Premises.{ScopesHold}
 use Rattle.module_meaning.specs.Ranges.{is_below}
 use Rattle.module_meaning.specs.Types.{spelled_type, type_names}
 use Rattle.module_meaning.specs.Undeclared.{is_declared}
@@ -104,12 +103,10 @@ use Rattle.naga_form.proofs.AcceptedGroups.{declarations_are}
 use Rattle.naga_form.proofs.Attributes.{coherent_is_read, id_is_read, member_read, passing_read}
 use Rattle.naga_form.proofs.Attributes.{resource_is_read, stage_is_read, volatile_is_read}
 use Rattle.naga_form.proofs.Facts.{from_start, further}
-use Rattle.naga_form.proofs.ExpressionNames.{expression_names_are}
 use Rattle.naga_form.proofs.Layouts.{keeps_layouts}
-use Rattle.naga_form.proofs.ModuleFits.{global_in_range, global_words, module_fits_under}
+use Rattle.naga_form.proofs.ModuleFits.{global_in_range, global_words}
 use Rattle.naga_form.proofs.ReadDeclarations.{initialisers_read, written_is_read}
-use Rattle.naga_form.proofs.Runs.{reads_as_shapes_under}
-use Rattle.naga_form.proofs.ScopeRules.{scopes_are_checked_under}
+use Rattle.naga_form.proofs.TextItems.{items_fit, reads_items}
 use Rattle.naga_form.proofs.SwitchLabels.{AllEnd, block_ends, lines_tell}
 use Rattle.naga_form.proofs.TypeTrees.{type_row}
 use Rattle.naga_form.proofs.WrittenFunctions.{entry_point_at}
@@ -465,17 +462,16 @@ initialiser_has_tree m info accepted h is =
 
 -- ---- modules
 module _ (m : Module) (info : ModuleInfo) (explicit : Bool) (labels : LabelNames)
-    (are : AreLabelNames m labels) (accepted : IsTrue (is_accepted m info))
-    (declarations : DeclarationsHaveForms m) (have : AllWrittenHaveForms explicit m info)
-    (scopes : ScopesHold m info) where
+    (accepted : IsTrue (is_accepted m info)) (declarations : DeclarationsHaveForms m)
+    (have : AllWrittenHaveForms explicit m info) where
   abbrev program_of_shapes : shapes.Module
   program_of_shapes = module_shape m info
 
   abbrev outer : ModuleNames
   outer = outer_names (module_names m) m
 
-  abbrev named : List Naming
-  named = namings_under labels (module_names m) m info
+  abbrev text_functions : List TextFunction
+  text_functions = (program_read (program_under labels m info explicit)).functions
 
   abbrev program_told : TextModule
   program_told = program_read (program_under labels m info explicit)
@@ -500,13 +496,12 @@ module _ (m : Module) (info : ModuleInfo) (explicit : Bool) (labels : LabelNames
       (λ (text : TextModule).
       text_initialiser_value text program_of_shapes.parts settings world meaning outer.vocabulary
       (expression_read (global_form m (type_names m) h)))
-      (reads_as_shapes_under m info explicit labels accepted declarations have)
+      (reads_items m info explicit labels accepted declarations)
       ∙ (ap
-      (text_initialiser_value (form_module program_of_shapes outer named) program_of_shapes.parts
-      settings world meaning outer.vocabulary) read.2
-      ∙ (initialisers_are_alike program_of_shapes outer named
-      (module_fits_under m info accepted declarations explicit have labels are
-      ((scopes_are_checked_under m info accepted labels).1 scopes)) settings fit meaning typed world read.0
+      (text_initialiser_value (form_module_with program_of_shapes outer text_functions)
+      program_of_shapes.parts settings world meaning outer.vocabulary) read.2
+      ∙ (initialisers_are_alike program_of_shapes outer text_functions
+      (items_fit m info explicit labels accepted declarations) settings fit meaning typed world read.0
       (global_words m info accepted declarations h read.0 read.1)
       (global_in_range m info accepted h read.0
       (written_within m h (declarations.initialisers h initial)) read.1)
@@ -564,6 +559,5 @@ module _ (m : Module) (info : ModuleInfo) (explicit : Bool) (labels : LabelNames
 
 pub has_interface : (m : Module) (info : ModuleInfo) (explicit : Bool) →
     IsTrue (is_accepted m info) → DeclarationsHaveForms m → AllWrittenHaveForms explicit m info →
-    ScopesHold m info → HasInterfaceOf m info (written_program m info explicit)
-has_interface m info explicit =
-    has_interface_under m info explicit (expression_name m) (expression_names_are m)
+    HasInterfaceOf m info (written_program m info explicit)
+has_interface m info explicit = has_interface_under m info explicit (expression_name m)

@@ -15,18 +15,17 @@ use Rattle.module_meaning.specs.DeclarationForms.{DeclarationsHaveForms}
 use Rattle.module_meaning.specs.ExpressionContexts.{expression_context, global_tree}
 use Rattle.module_meaning.specs.ExpressionContexts.{override_number}
 use Rattle.module_meaning.specs.ModuleShapes.{module_shape, variable_shape}
-use Rattle.module_meaning.specs.Names.{AreLabelNames, global_name, LabelNames, module_names}
-use Rattle.module_meaning.specs.Namings.{namings_under, outer_names}
-use Rattle.module_meaning.specs.Premises.{ScopesHold}
+use Rattle.module_meaning.specs.Names.{global_name, LabelNames, module_names}
+use Rattle.module_meaning.specs.Namings.{outer_names}
 use Rattle.module_meaning.specs.Types.{type_names}
-use Rattle.module_meaning.specs.Written.{AllWrittenHaveForms}
 use Rattle.module_meaning.specs.ExpressionForms.{global_is_written}
-use Rattle.shader_runs.specs.Correct.{ModuleFits}
-use Rattle.shader_runs.specs.Form.{constant_form, form_module}
+use Rattle.shader_runs.specs.Correct.{ItemsFit}
+use Rattle.shader_runs.specs.Form.{constant_form, form_module_with}
+use Rattle.shader_runs.specs.Text.{TextFunction}
 use Rattle.shader_runs.specs.Program as shapes
 use Rattle.shader_runs.specs.Resolution.{constant_targets, ConstantTarget, GlobalTarget, Lookup}
 use Rattle.shader_runs.specs.Resolution.{text_names, tree_targets}
-use Rattle.shader_runs.specs.Scope.{ModuleNames, Naming}
+use Rattle.shader_runs.specs.Scope.{ModuleNames}
 use Rattle.shader_runs.proofs.Resolution.{constant_stands, global_stands, tree_resolves}
 use Rattle.text_meaning.specs.Abstraction.{expression_read, program_read}
 use Rattle.wgsl_text.proofs.Text.{text-append}
@@ -37,74 +36,68 @@ use Rattle.naga_form.proofs.ConstantTrees.{globals_are}
 use Rattle.naga_form.proofs.DistinguishedItems.{types_are_distinguished}
 use Rattle.naga_form.proofs.Fits.{mapped_length}
 use Rattle.naga_form.proofs.FixedNames.{constant_no_variable, variables_tell}
-use Rattle.naga_form.proofs.ModuleFits.{counts, global_words, module_fits_under}
+use Rattle.naga_form.proofs.ModuleFits.{counts, global_words}
 use Rattle.naga_form.proofs.NamedConstants.{override_within}
 use Rattle.naga_form.proofs.Operators.{spelled_as_trees, SpellsTypes}
-use Rattle.naga_form.proofs.Runs.{reads_as_shapes_under}
-use Rattle.naga_form.proofs.ScopeRules.{scopes_are_checked_under}
+use Rattle.naga_form.proofs.TextItems.{items_fit, reads_items}
 use Rattle.naga_form.specs.ConstantForms.{global_form}
 use Rattle.naga_form.specs.Declarations.{program_under}
 
 module _ (m : Module) (info : ModuleInfo) (explicit : Bool) (named : LabelNames)
-    (are : AreLabelNames m named) (accepted : IsTrue (is_accepted m info))
-    (declarations : DeclarationsHaveForms m) (have : AllWrittenHaveForms explicit m info)
-    (scope : ScopesHold m info)
-  where
-    abbrev p : shapes.Module
-    p = module_shape m info
+    (accepted : IsTrue (is_accepted m info)) (declarations : DeclarationsHaveForms m) where
+  abbrev p : shapes.Module
+  p = module_shape m info
 
-    abbrev n : ModuleNames
-    n = outer_names (module_names m) m
+  abbrev n : ModuleNames
+  n = outer_names (module_names m) m
 
-    abbrev fs : List Naming
-    fs = namings_under named (module_names m) m info
+  abbrev program : Program
+  program = program_under named m info explicit
 
-    abbrev program : Program
-    program = program_under named m info explicit
+  abbrev fs : List TextFunction
+  fs = (program_read program).functions
 
-    pub program_reads : program_read program ≡ form_module p n fs
-    program_reads = reads_as_shapes_under m info explicit named accepted declarations have
+  program_reads : program_read program ≡ form_module_with p n fs
+  program_reads = reads_items m info explicit named accepted declarations
 
-    fits : ModuleFits p n fs
-    fits =
-        module_fits_under m info accepted declarations explicit have named are
-        ((scopes_are_checked_under m info accepted named).1 scope)
+  fits : ItemsFit p n fs
+  fits = items_fit m info explicit named accepted declarations
 
-    -- what each name stands for
-    abbrev names : Lookup
-    names = text_names (program_read program)
+  -- what each name stands for
+  abbrev names : Lookup
+  names = text_names (program_read program)
 
-    pub variable_found : (v : ℕ) → v < length m.global_variables →
-        names (global_name (module_names m) v) ≡ Some (GlobalTarget v)
-    variable_found v lt =
-        let counted = mapped_length (variable_shape m) m.global_variables in
-        let within = subst (λ k. v < k) (sym counted) lt in
-        ap (λ t. text_names t (global_name (module_names m) v)) program_reads
-        ∙ global_stands p n fs fits (variables_tell m p (counts m info accepted)) v within
-        (λ i li. constant_no_variable m p (counts m info accepted) i v li within)
+  pub variable_found : (v : ℕ) → v < length m.global_variables →
+      names (global_name (module_names m) v) ≡ Some (GlobalTarget v)
+  variable_found v lt =
+      let counted = mapped_length (variable_shape m) m.global_variables in
+      let within = subst (λ k. v < k) (sym counted) lt in
+      ap (λ t. text_names t (global_name (module_names m) v)) program_reads
+      ∙ global_stands p n fs fits (variables_tell m p (counts m info accepted)) v within
+      (λ i li. constant_no_variable m p (counts m info accepted) i v li within)
 
-    pub override_found : (o : ℕ) → o < length m.overrides →
-        names ((type_names m).override_name o) ≡ Some (ConstantTarget (override_number m o))
-    override_found o lt =
-        let x = element m.overrides o lt in
-        ap names ((names_are_read m).overrides o)
-        ∙ (ap (λ t. text_names t (n.constant (override_number m o))) program_reads
-        ∙ constant_stands p n fs fits (override_number m o) (override_within m info o x.0 x.1))
+  pub override_found : (o : ℕ) → o < length m.overrides →
+      names ((type_names m).override_name o) ≡ Some (ConstantTarget (override_number m o))
+  override_found o lt =
+      let x = element m.overrides o lt in
+      ap names ((names_are_read m).overrides o)
+      ∙ (ap (λ t. text_names t (n.constant (override_number m o))) program_reads
+      ∙ constant_stands p n fs fits (override_number m o) (override_within m info o x.0 x.1))
 
-    -- ---- initialisers
-    spells : SpellsTypes m (expression_context m (λ h. None)) (type_names m)
-    spells = spelled_as_trees m (λ h. None)
+  -- ---- initialisers
+  spells : SpellsTypes m (expression_context m (λ h. None)) (type_names m)
+  spells = spelled_as_trees m (λ h. None)
 
-    -- one that is written names what its tree does
-    pub initialiser_found : (h : ℕ) → global_is_written m h ≡ true →
-        tree_targets names (expression_read (global_form m (type_names m) h))
-        ≡ map Some (option_map_or constant_targets (global_tree m info h) [])
-    initialiser_found h is =
-        let read = global_read n m info (type_names m) spells (names_are_read m)
-        (declarations_are m info accepted).size (suc h) h is in
-        let tree =
-        globals_are m info accepted (types_are_distinguished m) h read.0 read.1 in
-        ap (tree_targets names) read.2
-        ∙ (ap (λ t. tree_targets (text_names t) (constant_form n read.0)) program_reads
-        ∙ (tree_resolves p n fs fits read.0 tree.range (global_words m info accepted declarations h read.0 read.1)
-        ∙ ap (λ o. map Some (option_map_or constant_targets o [])) (sym read.1)))
+  -- one that is written names what its tree does
+  pub initialiser_found : (h : ℕ) → global_is_written m h ≡ true →
+      tree_targets names (expression_read (global_form m (type_names m) h))
+      ≡ map Some (option_map_or constant_targets (global_tree m info h) [])
+  initialiser_found h is =
+      let read = global_read n m info (type_names m) spells (names_are_read m)
+      (declarations_are m info accepted).size (suc h) h is in
+      let tree =
+      globals_are m info accepted (types_are_distinguished m) h read.0 read.1 in
+      ap (tree_targets names) read.2
+      ∙ (ap (λ t. tree_targets (text_names t) (constant_form n read.0)) program_reads
+      ∙ (tree_resolves p n fs fits read.0 tree.range (global_words m info accepted declarations h read.0 read.1)
+      ∙ ap (λ o. map Some (option_map_or constant_targets o [])) (sym read.1)))

@@ -22,6 +22,7 @@ pub mod ConstantTrees
 pub mod ConstantsFit
 pub mod DeclaredPrograms
 pub mod Facts
+pub mod FirstFunctions
 pub mod Fits
 pub mod FittingStatements
 pub mod FixedNames
@@ -56,6 +57,7 @@ pub mod ModulePlaces
 pub mod NamedConstants
 pub mod NamedFits
 pub mod Names
+pub mod OneFunction
 mod NumberedNames
 pub mod OperatorEvents
 pub mod OperatorKeys
@@ -89,6 +91,7 @@ pub mod StatementPrograms
 pub mod SwitchLabels
 pub mod Switches
 pub mod TakenParts
+pub mod TextItems
 pub mod DistinguishedItems
 pub mod TreeWords
 pub mod TypeIdentity

@@ -41,7 +41,7 @@ module _ (m : Module) (info : ModuleInfo) (explicit : Bool) (accepted : IsTrue (
   -- under whatever names labels may have
   pub never_stuck : (named : LabelNames) → AreLabelNames m named →
       IsNeverStuck m info (program_under named m info explicit)
-  never_stuck named are settings fit meaning typed g f found arguments typed_arguments world turns past =
+  never_stuck named are g settings fit meaning typed f found arguments typed_arguments world turns past =
       let shape = module_shape m info in
       let outer = outer_names (module_names m) m in
       subst (λ (vocabulary : Vocabulary). IsNotStuck

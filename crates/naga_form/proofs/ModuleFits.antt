@@ -129,13 +129,13 @@ module _ (m : Module) (info : ModuleInfo) (accepted : IsTrue (is_accepted m info
         all_free (g + 1) fs ess (further (all_functions m) g f fs there) scopes.1 (own ∷ behind)
         (ap suc at ∙ sym (add-one g)) (this, so_far)
 
-  constants_typed : (k : ℕ) (f : ir_function.Function) (es : List ExpressionInfo) →
+  pub constants_typed : (k : ℕ) (f : ir_function.Function) (es : List ExpressionInfo) →
       slice_get (functions_known m info) k ≡ Some (f, es) → ConstantsAreTyped m info f es
   constants_typed k f es at =
       constants_are_typed m info accepted (types_are_distinguished m) f es
       (group_at m info accepted k f es at)
 
-  functions_tell : ModuleNamesAreDistinct p names
+  pub functions_tell : ModuleNamesAreDistinct p names
   functions_tell = record {
     functions = λ g k lg lk e.
         let a = element (all_functions m) g (subst (λ n. g < n) functions_shaped lg) in

@@ -38,9 +38,10 @@ use Rattle.module_meaning.specs.DeclarationForms.{DeclarationsHaveForms}
 use Rattle.naga_form.specs.Declarations.{program_under, written_program}
 use Rattle.module_meaning.specs.Premises.{ScopesHold}
 use Rattle.module_meaning.specs.Resolution.{BodiesResolve, ResolvesAs, ResolvesUnder}
-use Rattle.naga_form.proofs.DeclaredItems.{initialisers_resolve, members_resolve, stages_resolve}
-use Rattle.naga_form.proofs.DeclaredItems.{not_hidden, types_resolve}
-use Rattle.naga_form.proofs.DeclaredStructs.{own_members_found}
+use Rattle.std.specs.List.{list_all}
+use Rattle.text_meaning.specs.Resolution.{types_are_not_hidden}
+use Rattle.naga_form.proofs.DeclaredItems.{items_resolve}
+use Rattle.naga_form.proofs.HiddenNames.{functions_hide_none, hides_none}
 use Rattle.naga_form.proofs.Fits.{mapped_length}
 use Rattle.naga_form.proofs.WellFormed.{any_shape, applied_any}
 use Rattle.naga_form.proofs.ExpressionNames.{expression_names_are}
@@ -88,7 +89,7 @@ module _ (m : Module) (info : ModuleInfo) (callees : ℕ) (f : ir_function.Funct
   leaf_stands h (expression.CooperativeLoad columns rows role place) at = applied_stands _ _
   leaf_stands h _ at = tt
 
-  leaves_are_own : (h : ℕ) → LeafStands own (expression_of own h)
+  pub leaves_are_own : (h : ℕ) → LeafStands own (expression_of own h)
   leaves_are_own h = any_shape m info f es h (λ o. LeafStands own o) tt (leaf_stands h)
 
 module _ (m : Module) (info : ModuleInfo) (named : LabelNames)
@@ -118,6 +119,16 @@ bodies_resolve m info explicit named are accepted declarations have scope =
     (leaves_stand m info named accepted 0 (all_functions m) (all_infos info)
     (from_start (all_functions m)) [] tt)
 
+not_hidden : (m : Module) (info : ModuleInfo) (explicit : Bool) (named : LabelNames) →
+    AreLabelNames m named → IsTrue (is_accepted m info) → DeclarationsHaveForms m →
+    AllWrittenHaveForms explicit m info →
+    IsTrue (types_are_not_hidden (program_under named m info explicit))
+not_hidden m info explicit named are accepted declarations have =
+    ap (λ t. list_all (hides_none m info explicit named) t.functions)
+    (reads_as_shapes_under m info explicit named accepted declarations have)
+    ∙ functions_hide_none m info explicit named are 0 (all_functions m) (all_infos info)
+    (from_start (all_functions m)) [] refl
+
 -- under whatever names labels may have
 pub resolves_under : (m : Module) (info : ModuleInfo) (explicit : Bool) (named : LabelNames) →
     AreLabelNames m named → IsTrue (is_accepted m info) → DeclarationsHaveForms m →
@@ -125,12 +136,8 @@ pub resolves_under : (m : Module) (info : ModuleInfo) (explicit : Bool) (named :
     ResolvesUnder named m info (program_under named m info explicit)
 resolves_under m info explicit named are accepted declarations have scope = record {
   bodies = bodies_resolve m info explicit named are accepted declarations have scope;
-  initialisers = initialisers_resolve m info explicit named are accepted declarations have scope;
-  stages = stages_resolve m info explicit named are accepted declarations have scope;
-  types = types_resolve m info explicit named are accepted declarations have scope;
-  not_hidden = not_hidden m info explicit named are accepted declarations have scope;
-  members = members_resolve m info explicit named are accepted declarations have scope;
-  own_members = own_members_found m;
+  items = items_resolve m info explicit named accepted declarations;
+  not_hidden = not_hidden m info explicit named are accepted declarations have;
 }
 
 pub resolves : (m : Module) (info : ModuleInfo) (explicit : Bool) → IsTrue (is_accepted m info) →

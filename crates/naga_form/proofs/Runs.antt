@@ -40,7 +40,7 @@ use Rattle.naga_form.proofs.ScopeRules.{scopes_are_checked_under}
 use Rattle.naga_form.proofs.WrittenFunctions.{all_functions_under}
 
 -- ---- what is read
-form_functions-map : (ns : List Naming) → form_functions ns ≡ map form_function ns
+pub form_functions-map : (ns : List Naming) → form_functions ns ≡ map form_function ns
 form_functions-map [] = refl
 form_functions-map (n ∷ ns) = ap (λ fs. form_function n ∷ fs) (form_functions-map ns)
 
@@ -102,7 +102,7 @@ pub runs_as_under : (m : Module) (info : ModuleInfo) (explicit : Bool) (named : 
     AreLabelNames m named → IsTrue (is_accepted m info) → DeclarationsHaveForms m →
     AllWrittenHaveForms explicit m info → ScopesHold m info →
     RunsAs m info (program_under named m info explicit)
-runs_as_under m info explicit named are accepted declarations have scope settings fit meaning typed g
+runs_as_under m info explicit named are accepted declarations have scope g settings fit meaning typed
     f found arguments typed_arguments world turns past keeps =
     let shape = module_shape m info in
     let outer = outer_names (module_names m) m in

@@ -2,7 +2,7 @@
 --
 -- Throughout, m is a module, t a type's tree, r a type of an expression, and n are the names that
 -- types are spelled with.
-use Rattle.std.specs.Prelude.{◌≡◌, ◌↔◌, ℕ, ◌++◌, List, Some, None, IsTrue, true, Bool, length}
+use Rattle.std.specs.Prelude.{◌≡◌, ◌↔◌, ℕ, suc, ◌++◌, List, Some, None, IsTrue, true, Bool, length}
 use Rattle.std.specs.List.{list_all}
 use Rattle.std.specs.Option.{option_map}
 use Rattle.naga_ir.specs.declared.expression.Literal.{Literal}
@@ -32,10 +32,11 @@ use Rattle.shader_runs.specs.World.{Meaning, Settings}
 use Rattle.text_meaning.specs.Abstraction.{function_read, program_read}
 use Rattle.module_meaning.specs.Accepted.{is_accepted}
 use Rattle.module_meaning.specs.AlikeTypes.{are_alike}
-use Rattle.module_meaning.specs.Bindings.{BindsUnder}
+use Rattle.module_meaning.specs.Bindings.{BindsAt, BindsUnder}
 use Rattle.module_meaning.specs.DeclarationForms.{DeclarationsHaveForms, IsInitialiser}
-use Rattle.module_meaning.specs.Faithful.{HasInterfaceOf, RunsAs}
+use Rattle.module_meaning.specs.Faithful.{HasInterfaceOf, RunsAs, RunsAt}
 use Rattle.module_meaning.specs.Written.{AllWrittenHaveForms, WrittenHaveForms}
+use Rattle.module_meaning.specs.Written.{WrittenHaveFormsAt, WrittenHaveFormsBefore}
 use Rattle.module_meaning.specs.InfoSizes.{type_is_fit, resolution_is_fit}
 use Rattle.module_meaning.specs.Interface.{global_expression_value}
 use Rattle.module_meaning.specs.Layouts.{KeepsLayouts, TellsLayouts}
@@ -48,8 +49,9 @@ use Rattle.module_meaning.specs.Names.{AreLabelNames, expression_name, item_labe
 use Rattle.module_meaning.specs.Names.{ItemsAreDistinguished, labels_named_in, module_names}
 use Rattle.module_meaning.specs.Names.{named_apart, wgsl_names}
 use Rattle.module_meaning.specs.Ranges.{resolution_fits}
-use Rattle.module_meaning.specs.Premises.{handles_are_counted, scope_holds, ScopesHold}
-use Rattle.module_meaning.specs.Resolution.{ResolvesUnder}
+use Rattle.module_meaning.specs.Premises.{handles_are_counted, scope_holds, ScopeHoldsIn}
+use Rattle.module_meaning.specs.Premises.{ScopesHold, ScopesHoldBefore}
+use Rattle.module_meaning.specs.Resolution.{ResolvesAt, ResolvesUnder}
 use Rattle.module_meaning.specs.ModuleShapes.{module_shape}
 use Rattle.module_meaning.specs.Namings.{function_naming, namings_under, outer_names}
 use Rattle.module_meaning.specs.TypeIdentity.{identity}
@@ -102,7 +104,7 @@ IsAProgram =
 
 -- it declares what the module declares
 abbrev pub HasTheInterface : Type 0
-HasTheInterface = OfAcceptedInScope (λ named. HasInterfaceOf)
+HasTheInterface = OfAccepted (λ named m info explicit. HasInterfaceOf m info)
 
 -- in memory each of its structs stands as in the module, if its members' offsets are to be kept
 abbrev pub KeepsTheLayouts : Type 0
@@ -155,6 +157,35 @@ IsReadAsItsShapes = OfAccepted (λ named m info explicit program.
 -- it does what the module does
 abbrev pub RunsAsTheModule : Type 0
 RunsAsTheModule = OfAcceptedInScope (λ named. RunsAs)
+
+-- ---- one function
+-- Of one function, with the names of labels such as they may have: in an accepted module it has the
+-- module's `let`s where all that is written of it has forms, whatever stands in the others.
+abbrev pub OneBinds : Type 0
+OneBinds =
+    (m : Module) (info : ModuleInfo) (explicit : Bool) (named : LabelNames) →
+    IsTrue (is_accepted m info) → (number : ℕ) → WrittenHaveFormsAt explicit m info number →
+    BindsAt named m info explicit (program_under named m info explicit) number
+
+-- what holds of one function where all that the module declares has a form too
+abbrev pub OfOne : (LabelNames → (explicit : Bool) → Module → ModuleInfo → ℕ → Type 0) → Type 0
+OfOne Holds =
+    (m : Module) (info : ModuleInfo) (explicit : Bool) (named : LabelNames) →
+    IsTrue (is_accepted m info) → AreLabelNames m named → DeclarationsHaveForms m →
+    (number : ℕ) → Holds named explicit m info number
+
+-- its identifiers and words, and the module's, stand for what they were written for, where the rules
+-- of scope hold in it
+abbrev pub OneResolves : Type 0
+OneResolves = OfOne (λ named explicit m info number.
+    WrittenHaveFormsAt explicit m info number → ScopeHoldsIn m info number →
+    ResolvesAt named m info (program_under named m info explicit) number)
+
+-- it does what the module does, where this is asked of it and of those before it, which it may call
+abbrev pub OneRuns : Type 0
+OneRuns = OfOne (λ named explicit m info number.
+    WrittenHaveFormsBefore explicit m info (suc number) → ScopesHoldBefore m info (suc number) →
+    RunsAt m info (program_under named m info explicit) number)
 
 -- the check of scope decides the rules
 abbrev pub ScopesAreChecked : Type 0

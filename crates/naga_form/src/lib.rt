@@ -10,6 +10,7 @@ ghost use Rattle.naga_form.specs.Laws.{TellsTheLayouts};
 ghost use Rattle.naga_form.specs.Laws.{InitialisersHaveValues, ResolvesAsMeant};
 ghost use Rattle.naga_form.specs.Laws.{BindsAsCounted, FunctionsAreRead, IsReadAsItsShapes};
 ghost use Rattle.naga_form.specs.Laws.{RunsAsTheModule, ScopesAreChecked, IsConsistent};
+ghost use Rattle.naga_form.specs.Laws.{OneBinds, OneResolves, OneRuns};
 ghost use Rattle.naga_form.specs.Laws.{HasAMeaning, HasAWorld, NamesTell};
 ghost use Rattle.naga_form.specs.Laws.{EveryHasAWorld, IsNotStuck, EveryIsNotStuck};
 ghost use Rattle.naga_form.specs.Laws.{AlikeAreDistinguished};
@@ -30,7 +31,7 @@ pub fn is_a_program()
     ensures { IsAProgram }
 {}
 
-/// It declares what the module declares, where the rules of scope hold in the module.
+/// It declares what the module declares.
 pub fn has_the_interface()
     ensures { HasTheInterface }
 {}
@@ -57,15 +58,18 @@ pub fn initialisers_have_values()
 {}
 
 /// Each of its identifiers and words stands for what it was written for, where the rules of scope
-/// hold in the module.
+/// hold in the module. Of one function it is so, whatever stands in the others.
 pub fn resolves_as_meant()
-    ensures { ResolvesAsMeant }
+    ensures whole { ResolvesAsMeant }
+    ensures one { OneResolves }
 {}
 
 /// Its `let`s are those of the emitted handles that are bound and of the results of statements,
-/// each under its handle's name, and each tells its handle's type where types are to be told.
+/// each under its handle's name, and each tells its handle's type where types are to be told. Of
+/// one function it is so, whatever stands in the others.
 pub fn binds_as_counted()
-    ensures { BindsAsCounted }
+    ensures whole { BindsAsCounted }
+    ensures one { OneBinds }
 {}
 
 /// What is written of a function, of which what is written has a form, is read as its shape is
@@ -80,9 +84,11 @@ pub fn is_read_as_its_shapes()
     ensures { IsReadAsItsShapes }
 {}
 
-/// It does what the module does, where the rules of scope hold in the module.
+/// It does what the module does, where the rules of scope hold in the module. Of one function it is
+/// so, whatever stands in those after it.
 pub fn runs_as_the_module()
-    ensures { RunsAsTheModule }
+    ensures whole { RunsAsTheModule }
+    ensures one { OneRuns }
 {}
 
 /// The check of scope holds of an accepted module exactly where the rules of scope hold in each of

@@ -73,7 +73,7 @@ called_alike : (R : Option Value → Type 0) (a b : Bool) (x x' : ReachedOrHalte
 called_alike R a true x x' t e h = subst (λ a. Answers R x (run_if_arguments_fit a x' t)) (sym e) (h refl)
 called_alike R a false x x' t e h = subst (λ a. Answers R (run_if_arguments_fit false x t) (run_if_arguments_fit a x' t)) (sym e) (same_answer tt)
 
-numbered_within : (fs : List Function) (g : ℕ) (f : Function) → function_numbered fs g ≡ Some f → g < length fs
+pub numbered_within : (fs : List Function) (g : ℕ) (f : Function) → function_numbered fs g ≡ Some f → g < length fs
 numbered_within [] g f e = absurd (none-some f e)
 numbered_within (k ∷ fs) g f e = go (nat_eq g (length fs)) refl e (numbered_within fs g f)
   where

@@ -73,10 +73,13 @@ abbrev pub is_in_no_type : Program → List ℕ → Bool
 is_in_no_type p w =
     is_none (place_among w (map (λ s. s.name) p.structs ++ map (λ v. v.name) p.overrides))
 
--- no function gives a name that a type has, so that a type means the same wherever it stands
+-- a function gives no name that a type has
+abbrev pub hides_no_type : Program → TextFunction → Bool
+hides_no_type p f = list_all (is_in_no_type p) (own_names f)
+
+-- no function does, so that a type means the same wherever it stands
 abbrev pub types_are_not_hidden : Program → Bool
-types_are_not_hidden p =
-    list_all (λ f. list_all (is_in_no_type p) (own_names f)) (program_read p).functions
+types_are_not_hidden p = list_all (hides_no_type p) (program_read p).functions
 
 -- ---- initialisers and attributes
 -- the identifiers and words of an initialiser, if there is one

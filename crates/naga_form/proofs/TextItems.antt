@@ -1,0 +1,99 @@
+-- The items of what is written for a module: all that the module declares, and functions that have the
+-- names of the module's, whatever else stands in them.
+--
+-- Throughout, fs are functions from the number g on, ess says what is known of each, and named tells the
+-- names of the labels that front ends gave.
+use Rattle.std.proofs.Common.{[], ◌≡◌, ℕ, suc, ◌+◌, ◌∙◌, Bool, List, ◌∷◌, add-one, ap, length}
+use Rattle.std.proofs.Common.{map, refl, subst, sym}
+use Rattle.std.specs.Prelude.{IsTrue, reverse}
+use mathlib.Core.List.{reverse_aux}
+use Rattle.std.proofs.lemmas.List.{length-map, length-reverse}
+use Rattle.naga_ir.specs.declared.module.Function as ir_function
+use Rattle.naga_ir.specs.declared.module.Module.{Module}
+use Rattle.naga_info.specs.declared.info.ExpressionInfo.{ExpressionInfo}
+use Rattle.naga_info.specs.declared.info.ModuleInfo.{ModuleInfo}
+use Rattle.shader_runs.specs.Correct.{AreNamed, ItemsFit}
+use Rattle.shader_runs.specs.Form.{form_module_with}
+use Rattle.shader_runs.specs.Program as shapes
+use Rattle.shader_runs.specs.Scope.{ModuleNames}
+use Rattle.shader_runs.specs.Text.{TextFunction}
+use Rattle.text_meaning.specs.Abstraction.{function_read, functions_of, program_read}
+use Rattle.wgsl_text.specs.Declarations.{Program}
+use Rattle.wgsl_text.specs.Functions.{Function}
+use Rattle.module_meaning.specs.Accepted.{is_accepted}
+use Rattle.module_meaning.specs.DeclarationForms.{DeclarationsHaveForms}
+use Rattle.module_meaning.specs.FunctionNumbers.{all_functions, all_infos}
+use Rattle.module_meaning.specs.FunctionShapes.{function_shapes}
+use Rattle.module_meaning.specs.ModuleShapes.{module_shape}
+use Rattle.module_meaning.specs.Names.{LabelNames, module_names}
+use Rattle.module_meaning.specs.Namings.{outer_names}
+use Rattle.naga_form.specs.Declarations.{program_under}
+use Rattle.naga_form.specs.Functions.{function_form, functions_under}
+use Rattle.naga_form.proofs.AcceptedFunctions.{functions_counted}
+use Rattle.naga_form.proofs.AcceptedGroups.{declarations_are}
+use Rattle.naga_form.proofs.ModuleFits.{constants, functions_tell}
+use Rattle.naga_form.proofs.ReadDeclarations.{constants_read, overrides_read, variables_read}
+use Rattle.naga_form.proofs.WrittenFunctions.{all_functions_under}
+
+module _ (m : Module) (info : ModuleInfo) (explicit : Bool) (named : LabelNames) where
+  abbrev pub p : shapes.Module
+  p = module_shape m info
+
+  abbrev pub n : ModuleNames
+  n = outer_names (module_names m) m
+
+  abbrev pub program : Program
+  program = program_under named m info explicit
+
+  -- the functions that are written, in their order
+  abbrev pub forms : List Function
+  forms = functions_under named explicit (module_names m) m info 0 (all_functions m) (all_infos info)
+
+  -- each behind those before it has its name
+  forms_named : (g : ℕ) (fs : List ir_function.Function) (ess : List (List ExpressionInfo)) →
+      (behind : List TextFunction) → length behind ≡ g → AreNamed n behind →
+      AreNamed n
+      (reverse_aux
+      (map function_read (functions_under named explicit (module_names m) m info g fs ess)) behind)
+  forms_named g [] ess behind at are = are
+  forms_named g (f ∷ fs) [] behind at are = are
+  forms_named g (f ∷ fs) (es ∷ ess) behind at are =
+      let own = function_read (function_form explicit (module_names m) (named g) m info g f es) in
+      forms_named (g + 1) fs ess (own ∷ behind) (ap suc at ∙ sym (add-one g))
+      (ap n.function (sym at), are)
+
+  -- and there are as many as the module has
+  forms_counted : (g : ℕ) (fs : List ir_function.Function) (ess : List (List ExpressionInfo)) →
+      length (functions_under named explicit (module_names m) m info g fs ess)
+      ≡ length (function_shapes m info fs ess)
+  forms_counted g [] ess = refl
+  forms_counted g (f ∷ fs) [] = refl
+  forms_counted g (f ∷ fs) (es ∷ ess) = ap suc (forms_counted (g + 1) fs ess)
+
+  module _ (accepted : IsTrue (is_accepted m info)) where
+    pub are_forms : functions_of program ≡ forms
+    are_forms = all_functions_under m info explicit named (functions_counted m info accepted)
+
+    module _ (declarations : DeclarationsHaveForms m) where
+      pub items_fit : ItemsFit p n (program_read program).functions
+      items_fit =
+          subst (λ fs. ItemsFit p n (reverse (map function_read fs))) (sym are_forms) (record {
+            distinct = functions_tell m info accepted;
+            constants = constants m info accepted declarations;
+            named = forms_named 0 (all_functions m) (all_infos info) [] refl tt;
+            counted = length-reverse (map function_read forms)
+                ∙ (length-map forms function_read
+                ∙ (forms_counted 0 (all_functions m) (all_infos info)
+                ∙ sym (length-reverse (function_shapes m info (all_functions m) (all_infos info)))));
+          })
+
+      -- what is written declares what the module does
+      pub reads_items : program_read program ≡ form_module_with p n (program_read program).functions
+      reads_items =
+          let own = (declarations_are m info accepted).size in
+          λ i. record {
+            constants = constants_read m info own declarations i;
+            overrides = overrides_read m info i;
+            globals = variables_read m declarations i;
+            functions = (program_read program).functions;
+          }
