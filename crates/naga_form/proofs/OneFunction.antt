@@ -12,6 +12,7 @@ use Rattle.naga_ir.specs.declared.module.Module.{Module}
 use Rattle.naga_info.specs.declared.info.ExpressionInfo.{ExpressionInfo}
 use Rattle.naga_info.specs.declared.info.ModuleInfo.{ModuleInfo}
 use Rattle.naga_names.specs.Keys.{NameMap}
+use Rattle.shader_runs.specs.World.{Vocabulary}
 use Rattle.shader_runs.specs.Bindings.{bound_names, lines_lets}
 use Rattle.shader_runs.specs.Constants.{follow_module}
 use Rattle.shader_runs.specs.Form.{form_function, form_module_with}
@@ -24,7 +25,6 @@ use Rattle.shader_runs.proofs.Resolution.{function_resolves_as_meant}
 use Rattle.text_meaning.specs.Abstraction.{function_read, functions_of, program_read, statements_read}
 use Rattle.text_meaning.specs.Resolution.{hides_no_type}
 use Rattle.wgsl_text.specs.Functions.{Function}
-use Rattle.wgsl_text.specs.Requests.{is_request}
 use Rattle.module_meaning.specs.Accepted.{is_accepted}
 use Rattle.module_meaning.specs.Bindings.{BindsAt}
 use Rattle.module_meaning.specs.DeclarationForms.{DeclarationsHaveForms}
@@ -39,6 +39,7 @@ use Rattle.module_meaning.specs.Resolution.{BodyResolves, ResolvesAt}
 use Rattle.module_meaning.specs.Written.{WrittenHaveFormsAt, WrittenHaveFormsBefore}
 use Rattle.naga_form.specs.Declarations.{program_under}
 use Rattle.naga_form.specs.Functions.{function_form, functions_under}
+use Rattle.naga_form.proofs.DeclaredNames.{one_vocabulary}
 use Rattle.naga_form.proofs.Abstraction.{function_reads}
 use Rattle.naga_form.proofs.AcceptedFunctions.{accepted_at, functions_known, of_number}
 use Rattle.naga_form.proofs.AcceptedGroups.{declarations_are}
@@ -196,10 +197,15 @@ module _ (m : Module) (info : ModuleInfo) (explicit : Bool) (named : LabelNames)
         let first = first_namings m info accepted explicit named are (suc g) have scopes in
         let within = numbered_within (module_shape m info).functions g f found in
         let counted = first_counted m info accepted explicit named are (suc g) have scopes (omega (arith, within)) in
+        let shape = module_shape m info in
+        let outer = outer_names (module_names m) m in
         ap
-        (λ (text : TextModule). follow_module text settings world meaning is_request turns (function_name m (module_names m) g) arguments past)
+        (λ (vocabulary : Vocabulary). follow_module (program_read (program_under named m info explicit)) shape.parts settings world meaning vocabulary turns (function_name m (module_names m) g) arguments past)
+        (one_vocabulary m info explicit named)
+        ∙ (ap
+        (λ (text : TextModule). follow_module text shape.parts settings world meaning outer.vocabulary turns (function_name m (module_names m) g) arguments past)
         (reads_items m info explicit named accepted declarations
         ∙ ap (form_module_with (p m info explicit named) (n m info explicit named)) (texts_split m info accepted explicit named are (suc g) have scopes))
-        ∙ first_run_alike (module_shape m info) (outer_names (module_names m) m) texts first
+        ∙ first_run_alike shape outer texts first
         (first_fits m info accepted explicit named are (suc g) have scopes declarations) settings fit meaning typed g (omega (arith, counted)) f
-        found arguments typed_arguments world turns past keeps
+        found arguments typed_arguments world turns past keeps)
