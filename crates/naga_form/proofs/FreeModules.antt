@@ -26,9 +26,11 @@ use Rattle.shader_runs.specs.Constants.{run_module}
 use Rattle.shader_runs.specs.Premises.{AllFit, EachWord, IsTyped, SettingsFit, OperatesOutside}
 use Rattle.shader_runs.specs.Correct.{ModuleFits}
 use Rattle.shader_runs.specs.Progress.{IsNotStuck}
+use Rattle.shader_runs.specs.Results.{ResultsAreReturnedIn}
 use Rattle.shader_runs.specs.Scope.{ModuleNames, Names, Naming}
 use Rattle.shader_runs.specs.ScopeRules.{ScopeHolds}
 use Rattle.shader_runs.proofs.Progress.{runs_are_not_stuck}
+use Rattle.shader_runs.proofs.Results.{results_are_returned}
 use Rattle.shader_runs.proofs.ScopeRules.{scope_check_is_the_rules}
 use Rattle.shader_runs.proofs.OneWorld.{has_typed_world}
 use Rattle.naga_form.proofs.AcceptedFunctions.{functions_known, accepted_at, group_at}
@@ -133,6 +135,10 @@ module _ (m : ir_module.Module) (info : ModuleInfo) (accepted : IsTrue (is_accep
     -- one world keeps the types
     pub has_world : HasTypedWorld m info
     has_world = has_typed_world program names namings module_fits_freely
+
+    -- no call misses a result that its callee returns on all paths
+    pub gives_results : ResultsAreReturnedIn program
+    gives_results = results_are_returned program names namings module_fits_freely
 
     -- no run of the module is stuck
     pub never_stuck : (settings : Settings) → SettingsFit program settings → (meaning : Meaning) →

@@ -9,6 +9,7 @@ use Rattle.shader_runs.specs.Constants.{run_module, follow_module}
 use Rattle.shader_runs.specs.Text.{TextModule}
 use Rattle.shader_runs.specs.Correct.{KeepsTypes}
 use Rattle.shader_runs.specs.Progress.{IsNotStuck}
+use Rattle.shader_runs.specs.Results.{ResultsAreReturnedIn}
 use Rattle.shader_runs.proofs.Progress.{runs_are_not_stuck}
 use Rattle.shader_runs.specs.World.{Vocabulary}
 use Rattle.text_meaning.specs.Abstraction.{program_read}
@@ -36,6 +37,11 @@ module _ (m : Module) (info : ModuleInfo) (explicit : Bool) (accepted : IsTrue (
   pub has_world : HasTypedWorld m info
   has_world =
       every.has_world m info accepted (types_are_distinguished m)
+      (are_written_out m declarations) (only_empty m info accepted explicit have) scopes
+
+  pub gives_results : ResultsAreReturnedIn (module_shape m info)
+  gives_results =
+      every.gives_results m info accepted (types_are_distinguished m)
       (are_written_out m declarations) (only_empty m info accepted explicit have) scopes
 
   -- under whatever names labels may have

@@ -2,7 +2,7 @@
 --
 -- Throughout, m is a module, t a type's tree, r a type of an expression, and n are the names that
 -- types are spelled with.
-use Rattle.std.specs.Prelude.{◌≡◌, ◌↔◌, ℕ, suc, ◌++◌, List, Some, None, IsTrue, true, Bool, length}
+use Rattle.std.specs.Prelude.{◌≡◌, ◌↔◌, ℕ, suc, ◌++◌, ◌∷◌, List, Some, None, IsTrue, true, Bool, length}
 use Rattle.std.specs.List.{list_all}
 use Rattle.std.specs.Option.{option_map}
 use Rattle.naga_ir.specs.declared.expression.Literal.{Literal}
@@ -26,7 +26,10 @@ use Rattle.naga_form.specs.Declarations.{program_under}
 use Rattle.wgsl_text.specs.Reading.{HasOneReading, ReadsType, type_layout}
 use Rattle.wgsl_text.specs.Requests.{is_request}
 use Rattle.shader_runs.specs.Form.{form_function, form_module}
+use Rattle.shader_runs.specs.Points.{PointsAgreeIn}
 use Rattle.shader_runs.specs.Premises.{IsTyped, SettingsFit}
+use Rattle.shader_runs.specs.Results.{ResultsAreReturnedIn}
+use Rattle.shader_runs.specs.Scope.{Naming}
 use Rattle.shader_runs.specs.Value.{Value}
 use Rattle.shader_runs.specs.World.{Meaning, Settings}
 use Rattle.text_meaning.specs.Abstraction.{function_read, program_read}
@@ -233,6 +236,25 @@ IsNotStuck = OfAcceptedInScope (λ named. IsNeverStuck)
 -- no run of the module is
 abbrev pub EveryIsNotStuck : Type 0
 EveryIsNotStuck = OfEveryWritable NoRunIsStuck
+
+-- In each function and entry point, after those before it and in front of the later ones, both runs
+-- pass the same points: there a handle in scope that is bound has the module's value under its name,
+-- and what is written for any other handle in scope gives that value.
+abbrev pub PointsAgreeThere : Type 0
+PointsAgreeThere = OfAcceptedInScope (λ named m info program.
+    (later : List Naming) (f : Naming) (fs : List Naming) →
+    namings_under named (module_names m) m info ≡ later ++ (f ∷ fs) →
+    PointsAgreeIn (module_shape m info) (outer_names (module_names m) m) later f fs)
+
+-- where each function with a result returns a value on all paths, no call misses a result
+abbrev pub WrittenGiveResults : Type 0
+WrittenGiveResults =
+    (m : Module) (info : ModuleInfo) (explicit : Bool) → IsTrue (is_accepted m info) →
+    DeclarationsHaveForms m → AllWrittenHaveForms explicit m info → ScopesHold m info →
+    ResultsAreReturnedIn (module_shape m info)
+
+abbrev pub EveryGivesResults : Type 0
+EveryGivesResults = OfEveryWritable (λ m info. ResultsAreReturnedIn (module_shape m info))
 
 -- two types without a spelling have values of one type only where they are told by the same
 abbrev pub UnspelledAreDistinguished : Type 0

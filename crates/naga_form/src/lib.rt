@@ -10,6 +10,7 @@ ghost use Rattle.naga_form.specs.Laws.{TellsTheLayouts};
 ghost use Rattle.naga_form.specs.Laws.{InitialisersHaveValues, ResolvesAsMeant};
 ghost use Rattle.naga_form.specs.Laws.{BindsAsCounted, FunctionsAreRead, IsReadAsItsShapes};
 ghost use Rattle.naga_form.specs.Laws.{RunsAsTheModule, ScopesAreChecked, IsConsistent};
+ghost use Rattle.naga_form.specs.Laws.{EveryGivesResults, PointsAgreeThere, WrittenGiveResults};
 ghost use Rattle.naga_form.specs.Laws.{OneBinds, OneResolves, OneRuns};
 ghost use Rattle.naga_form.specs.Laws.{HasAMeaning, HasAWorld, NamesTell};
 ghost use Rattle.naga_form.specs.Laws.{EveryHasAWorld, IsNotStuck, EveryIsNotStuck};
@@ -89,6 +90,21 @@ pub fn is_read_as_its_shapes()
 pub fn runs_as_the_module()
     ensures whole { RunsAsTheModule }
     ensures one { OneRuns }
+{}
+
+/// At each point that a run of it passes, inside branches, cases, blocks and each turn of a loop
+/// too, names in scope have the values that the module uses, and what is written without a name
+/// still gives them.
+pub fn points_agree()
+    ensures { PointsAgreeThere }
+{}
+
+/// Where each function with a result returns a value on all paths, no call of an accepted module
+/// misses a result, if the rules of scope hold in it: of one of which all that is declared and
+/// written has forms, and of every one that holds nothing that no text is ever written for.
+pub fn results_are_returned()
+    ensures written { WrittenGiveResults }
+    ensures every { EveryGivesResults }
 {}
 
 /// The check of scope holds of an accepted module exactly where the rules of scope hold in each of

@@ -122,15 +122,14 @@ LinesAreTheForm f body q =
     lines_behind (form_all f 0 body start) (point_in_text f.function body q)
     ≡ form_all f (named_at f.function 0 body q) (statements_at body q) (handles_at f 0 body q start)
 
--- of each function of a module, behind those before it, called with arguments of its types at any
+-- of a function of a module, after those before it, called with arguments of its types at any
 -- history: where the module's run of its body passes a point, the text's run of its lines passes
 -- the point there, in the same turns and after the same events; what stands behind it is written as
 -- the form says, and the two facts hold. The first point is the start. The points in a callee are
 -- those of the callee's own call
-abbrev pub PointsAgree : Type 0
-PointsAgree =
-    (p : Module) (n : ModuleNames) (later : List Naming) (f : Naming) (fs : List Naming) →
-    ModuleFits p n (later ++ (f ∷ fs)) →
+abbrev pub PointsAgreeIn :
+    Module → ModuleNames → (later : List Naming) → Naming → (fs : List Naming) → Type 0
+PointsAgreeIn p n later f fs =
     (settings : Settings) → SettingsFit p settings →
     (m : Meaning) → IsTyped p m →
     (vs : List Value) → IsTrue (has_types p.parts f.function.argument_types vs) →
@@ -150,3 +149,9 @@ PointsAgree =
     × TextPasses l turns (form_all f 0 body start) in_text first_names t names t1
     × LinesAreTheForm f body q
     × FactsHold c l f (handles_at f 0 body q start) kept names
+
+-- of each function of a module whose scope holds
+abbrev pub PointsAgree : Type 0
+PointsAgree =
+    (p : Module) (n : ModuleNames) (later : List Naming) (f : Naming) (fs : List Naming) →
+    ModuleFits p n (later ++ (f ∷ fs)) → PointsAgreeIn p n later f fs

@@ -95,12 +95,15 @@ IsComplete k (Gives v t) = IsReturned k v
 IsComplete k (Halts x t) = NotUnreturned x
 
 -- where each function with a result returns a value on all paths, no call misses a result
-abbrev pub ResultsAreReturned : Type 0
-ResultsAreReturned =
-    (p : Module) (n : ModuleNames) (fs : List Naming) →
-    ModuleFits p n fs →
+abbrev pub ResultsAreReturnedIn : Module → Type 0
+ResultsAreReturnedIn p =
     AllGiveResults p.functions →
     (settings : Settings) (m : Meaning) (g : ℕ) (f : Function) →
     function_numbered p.functions g ≡ Some f →
     (vs : List Value) (w : World) (turns : ℕ) (t : List Event) →
     IsComplete f.result (run_module p settings w m turns g vs t)
+
+-- in each module whose scope holds
+abbrev pub ResultsAreReturned : Type 0
+ResultsAreReturned =
+    (p : Module) (n : ModuleNames) (fs : List Naming) → ModuleFits p n fs → ResultsAreReturnedIn p
