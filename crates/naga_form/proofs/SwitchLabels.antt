@@ -177,11 +177,11 @@ module _ (n : Naming) (annotated : ℕ → Option TypeSpecifier) (source : Sourc
   return_tells s None = refl
   return_tells s (Some h) = refl
 
-  act_tells : (word : List ℕ) (arguments : Arguments) (outcome : Option ℕ) →
-      statement_switches (act_line n annotated word arguments outcome) ≡ []
-  act_tells word arguments None = refl
-  act_tells word arguments (Some h) =
-      let_tells (annotated h) (n.names.numbered h) (Call (Named word) arguments)
+  act_tells : (word : List ℕ) (args : Arguments) (outcome : Option ℕ) →
+      statement_switches (act_line n annotated word args outcome) ≡ []
+  act_tells word args None = refl
+  act_tells word args (Some h) =
+      let_tells (annotated h) (n.names.numbered h) (Call (Named word) args)
 
   barriers_tell : (words : List (List ℕ)) (rest : tree.Statements) →
       statements_switches (barrier_lines words rest) ≡ statements_switches rest
