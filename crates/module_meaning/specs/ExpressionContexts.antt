@@ -19,16 +19,17 @@ use Rattle.module_meaning.specs.InfoSizes.{is_handle_space}
 use Rattle.module_meaning.specs.Names.{module_names, name_in}
 use Rattle.module_meaning.specs.OperatorTable.{if_there, run_word}
 use Rattle.module_meaning.specs.TypeIdentity.{identity, identity_code}
-use Rattle.module_meaning.specs.Types.{type_names, spelled_resolution, type_of_values}
+use Rattle.module_meaning.specs.Types.{called_spelling, type_of_values}
 use Rattle.shader_runs.specs.Program.{Constructed, ConstantTree, NamedConstant, no_constant}
 
 -- ---- types
--- types are spelled under the module's names; one without a form is told by what it is
+-- operators are called by types under the module's names; a type without a form, or a struct that
+-- no text declares, is told by what it is
 abbrev pub expression_context : Module → (known : ℕ → Option TypeResolution) → ExpressionContext
 expression_context m known =
     record {
       types = m.types;
-      spelled = spelled_resolution (type_names m);
+      spelled = called_spelling m;
       numbers = λ r. identity_code (identity m.types r);
       known = known;
     }

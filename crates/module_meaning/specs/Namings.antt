@@ -19,6 +19,7 @@ use Rattle.module_meaning.specs.FunctionShapes.{function_shape, function_shapes}
 use Rattle.module_meaning.specs.Names.{function_name, argument_name, expression_name, global_name}
 use Rattle.module_meaning.specs.Names.{LabelNames, local_name, name_in, numbered_name}
 use Rattle.module_meaning.specs.ExpressionContexts.{named_count}
+use Rattle.module_meaning.specs.Undeclared.{declared_struct_names}
 use Rattle.shader_runs.specs.Program.{Function}
 use Rattle.shader_runs.specs.Scope.{ModuleNames, Names, Naming}
 use Rattle.text_meaning.specs.Vocabulary.{vocabulary_of}
@@ -36,14 +37,14 @@ numbered_key m i =
     option_map_or key.Constant (slice_get (named_handles 0 m.constants) i)
     (key.Override (i - named_count m.constants))
 
--- the names of the module's items
+-- the names of the module's items, of which those of structs are operators where a text declares them
 abbrev pub outer_names : NameMap → ir_module.Module → ModuleNames
 outer_names names m =
     record {
       constant = λ i. name_in names (numbered_key m i);
       global = global_name names;
       function = function_name m names;
-      vocabulary = vocabulary_of [];
+      vocabulary = vocabulary_of (declared_struct_names names m);
     }
 
 -- the names that the text of the function with this number uses

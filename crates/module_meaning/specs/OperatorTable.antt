@@ -70,7 +70,8 @@ pub data Formless : Type 0 where
   Cast : ScalarKind → (width : Option ℕ) → Formless
   -- the part at an index, of what has no parts
   PartAt : (index : ℕ) → Formless
-  -- a value of a type without a form, which these numbers tell, from so many components
+  -- a value of a type without a form, or of a struct that no text declares, which these numbers
+  -- tell, from so many components
   ValueOf : (numbers : List ℕ) → (components : ℕ) → Formless
   -- a load of a cooperative matrix of scalars whose type has no form
   MatrixLoad : (columns rows : CooperativeSize) → CooperativeRole → (row_major : Bool) → Formless

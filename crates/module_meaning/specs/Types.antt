@@ -22,7 +22,7 @@ use Rattle.naga_words.specs.Segments.{known_text}
 use Rattle.naga_words.specs.Spelling.{Context, type_segments, resolution_segments}
 use Rattle.module_meaning.specs.TypeIdentity.{identity, word_of_unspelled_type}
 use Rattle.module_meaning.specs.Names.{module_names}
-use Rattle.module_meaning.specs.Undeclared.{names_undeclared}
+use Rattle.module_meaning.specs.Undeclared.{is_undeclared_struct, names_undeclared}
 use Rattle.shader_runs.specs.Value.{ValueType, BooleanType, IntegerType, PointerType, OtherType}
 
 -- a module's types, with the names of its structs and overrides
@@ -40,6 +40,12 @@ spelled_type t ty = unwrap_or (known_text (type_segments (spelling_context t) ty
 -- the spelling of an expression's type
 abbrev pub spelled_resolution : TypeNames → TypeResolution → Option (List ℕ)
 spelled_resolution t r = known_text (resolution_segments (spelling_context t) r)
+
+-- The spelling by which an operator is called that makes a value of this type. A struct that no text
+-- declares has a name, too, but no text calls anything by that.
+abbrev pub called_spelling : Module → TypeResolution → Option (List ℕ)
+called_spelling m r =
+    if is_undeclared_struct m r then None else spelled_resolution (type_names m) r
 
 -- The type that the `let` of a handle tells, if it is to tell one, by its spelling. A type whose
 -- spelling would name a struct that no text declares is not told.

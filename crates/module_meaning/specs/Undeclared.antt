@@ -1,12 +1,13 @@
 -- Structs that no text declares: those that WGSL's own functions give, and those of external textures.
 -- A text can't name them, so that no type over one is spellable, though each has a form by its handle.
 --
--- Throughout, s are the special types of a module m, types are its types, h is the handle of one, it a
--- type by itself, r a type of an expression, es is what is known of a function's expressions, base is
--- the handle of one, and index the number of a part.
+-- Throughout, s are the special types of a module m, types are its types, h is the handle of one, p is
+-- one beside its handle, it a type by itself, r a type of an expression, names are those of the
+-- module's items, es is what is known of a function's expressions, base is the handle of one, and
+-- index the number of a part.
 use Rattle.std.specs.Prelude.{ℕ, zero, suc, Bool, true, false, not, ◌&&◌, ◌||◌, List, [], ◌∷◌, codes}
-use Rattle.std.specs.Prelude.{Option, Some, nat_eq, nat_lt, length, slice_get, if◌then◌else◌}
-use Rattle.std.specs.List.{list_any}
+use Rattle.std.specs.Prelude.{None, Option, Some, nat_eq, nat_lt, length, slice_get, if◌then◌else◌}
+use Rattle.std.specs.List.{enumerate_from, filter_map, list_any}
 use Rattle.std.specs.Option.{option_and_then, option_map_or}
 use Rattle.indexmap.specs.IndexMap.{values}
 use Rattle.naga_info.specs.Resolution.{handle_of, inner_of}
@@ -19,6 +20,7 @@ use Rattle.naga_ir.specs.declared.types.StructMember.{StructMember}
 use Rattle.naga_ir.specs.declared.types.Type_.{Type_}
 use Rattle.naga_ir.specs.declared.types.TypeInner.{TypeInner}
 use Rattle.naga_ir.specs.declared.types.TypeInner.TheVariants as inner
+use Rattle.naga_names.specs.Keys.{NameMap}
 use Rattle.naga_names.specs.Reset.{members_of}
 use Rattle.naga_names.specs.declared.key.NameKey.TheVariants as key
 use Rattle.naga_words.specs.Spelling.{is_struct}
@@ -38,6 +40,22 @@ is_undeclared s h =
 -- the type at this handle is a struct that a text declares
 abbrev pub is_declared : SpecialTypes → (h : ℕ) → TypeInner → Bool
 is_declared s h it = is_struct it && not (is_undeclared s h)
+
+-- the type is itself such a struct
+abbrev pub is_undeclared_struct : Module → TypeResolution → Bool
+is_undeclared_struct m (Handle h) =
+    option_map_or (λ t. is_struct t.inner && is_undeclared m.special_types h)
+    (slice_get m.types h) false
+is_undeclared_struct m (Value it) = false
+
+-- the names of the structs that a text declares, in their order, by the names of the module's items
+abbrev pub declared_struct_name : NameMap → SpecialTypes → ℕ × Type_ → Option (List ℕ)
+declared_struct_name names s p =
+    if is_declared s p.0 p.1.inner then Some (name_in names (key.Type_ p.0)) else None
+
+abbrev pub declared_struct_names : NameMap → Module → List (List ℕ)
+declared_struct_names names m =
+    filter_map (declared_struct_name names m.special_types) (enumerate_from 0 m.types)
 
 -- The type at a handle is such a struct, or is over one, as `own` tells of the types that stand
 -- before it.

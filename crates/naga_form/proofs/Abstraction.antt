@@ -8,8 +8,7 @@ use Rattle.std.specs.Option.{option_map, is_some}
 use Rattle.std.proofs.lemmas.Option.{slice_get_within}
 use Rattle.naga_names.proofs.Refusal.{element}
 use Rattle.naga_info.specs.declared.info.TypeResolution.TheVariants.{Handle}
-use Rattle.naga_form.proofs.Operators.{SpellsTypes}
-use Rattle.naga_form.proofs.TypeTrees.{resolution_row}
+use Rattle.naga_form.proofs.Operators.{spelled_as_trees, SpellsTypes}
 use Rattle.module_meaning.proofs.ExpressionForms.{spelled_of_spellable, has_form_parts}
 use Rattle.module_meaning.specs.Sampling.{offset_is_written}
 use Rattle.module_meaning.specs.Writable.{is_written_out}
@@ -47,7 +46,7 @@ use Rattle.module_meaning.specs.Written.{IsWrittenIn, OfLocal, WrittenHaveForms}
 use Rattle.naga_form.proofs.WrittenHandles.{all_rest}
 use Rattle.module_meaning.specs.ExpressionForms.{expression_has_form}
 use Rattle.module_meaning.specs.ExpressionForms.{constant_is_written}
-use Rattle.module_meaning.specs.ExpressionContexts.{written_constant}
+use Rattle.module_meaning.specs.ExpressionContexts.{types_known, written_constant}
 use Rattle.naga_names.specs.Keys.{NameMap}
 use Rattle.wgsl_text.specs.Reading.{type_layout}
 use Rattle.wgsl_text.specs.Types.{TypeSpecifier, Named, pointer_tree}
@@ -169,8 +168,8 @@ module _ (named : ℕ → List ℕ) (m : Module) (info : ModuleInfo) (g : ℕ) (
   d = source.declared
 
   -- types are spelled as their trees are
-  types_spelled : SpellsTypes d.context source.type_names
-  types_spelled r = resolution_row text-append (type_names m) (λ handle. true) r
+  types_spelled : SpellsTypes m d.context source.type_names
+  types_spelled = spelled_as_trees m (types_known es)
 
   known_at : (h : ℕ) (e : ir.Expression) → slice_get f.expressions h ≡ Some e →
       is_some (d.context.known h) ≡ true
@@ -186,7 +185,7 @@ module _ (named : ℕ → List ℕ) (m : Module) (info : ModuleInfo) (g : ℕ) (
 
   -- a constant that is written out
   out_reads : (x : ℕ) → W x → is_written_out f.expressions x ≡ true →
-      ReadsOut own source types_spelled places_are f.expressions m es x
+      ReadsOut m own source types_spelled places_are f.expressions es x
   out_reads x w is =
       read_out own.names.outer m info es source.type_names types_spelled (names_are_read m) constants W
       f.expressions
@@ -194,7 +193,7 @@ module _ (named : ℕ → List ℕ) (m : Module) (info : ModuleInfo) (g : ℕ) (
       (λ h e at w. (has_form_parts m es f.expressions e (written h e at w)).0) (suc x) x w is
 
   are_read : (h : ℕ) (e : ir.Expression) → slice_get f.expressions h ≡ Some e → W h →
-      ItemsRead own source types_spelled places_are f.expressions m es e
+      ItemsRead m own source types_spelled places_are f.expressions es e
   are_read h (expression.Constant handle) at w =
       constants handle
       (has_form_parts m es f.expressions (expression.Constant handle)
@@ -219,7 +218,7 @@ module _ (named : ℕ → List ℕ) (m : Module) (info : ModuleInfo) (g : ℕ) (
     where
       by : (o : Option ℕ) → offset_is_written f.expressions o ≡ true →
           AllByRecursion W (option_to_list o) →
-          AllByRecursion (ReadsOut own source types_spelled places_are f.expressions m es)
+          AllByRecursion (ReadsOut m own source types_spelled places_are f.expressions es)
           (option_to_list o)
       by None is w = tt
       by (Some x) is w = (out_reads x w.0 is, tt)
@@ -230,7 +229,7 @@ module _ (named : ℕ → List ℕ) (m : Module) (info : ModuleInfo) (g : ℕ) (
       ((x : ℕ) → W x → plain_read (operand x) ≡ like x) → (h : ℕ) → W h →
       plain_read (own_if own source operand (slice_get f.expressions h)) ≡ runs.own_form own like (expression_of own.function h)
   handle_reads operand like same h w =
-      own_if_reads own source types_spelled places_are f.expressions m es operand like h (slice_get f.expressions h)
+      own_if_reads m own source types_spelled places_are f.expressions es operand like h (slice_get f.expressions h)
       (λ e at. all_map same (expression_operands e) (closed.operands h e at w))
       (λ e at. (has_form_parts m es f.expressions e (written h e at w)).0)
       (λ e at. (known_at h e at, are_read h e at w))
@@ -505,4 +504,4 @@ function_reads explicit named m info g f es own_size have size =
     (locals_have_forms explicit m info f es have)
     (IsWrittenIn m info f es) (written_are_closed m info f es) have.expressions
     (constants_read (outer_names (module_names m) m) m info (type_names m)
-    (λ r. resolution_row text-append (type_names m) (λ handle. true) r) (names_are_read m) own_size)
+    (spelled_as_trees m (λ h. None)) (names_are_read m) own_size)

@@ -2,10 +2,10 @@
 -- types, are of one type: by the type whose value they are, or by the operator that they apply.
 use Rattle.module_meaning.specs.Names.{TypesAreDistinguished}
 use Rattle.std.proofs.Common.{◌≡◌, ℕ, Bool, true, false, List, [], ◌∷◌, refl, sym, ap, ◌∙◌, subst}
-use Rattle.std.proofs.Common.{Option, Some, None, map, drop, if◌then◌else◌}
-use Rattle.std.specs.Prelude.{IsTrue, slice_get, unwrap_or}
+use Rattle.std.proofs.Common.{Option, Some, None, map, drop, if◌then◌else◌, nat_eq}
+use Rattle.std.specs.Prelude.{IsTrue, slice_get, get_or, unwrap_or, ◌&&◌}
 use Rattle.std.specs.Option.{option_map, option_map_or, is_some}
-use Rattle.std.proofs.lemmas.Bool.{true≢false}
+use Rattle.std.proofs.lemmas.Bool.{false≢true, true≢false}
 use Rattle.std.proofs.lemmas.Option.{same_Some}
 use Rattle.naga_ir.specs.Operands.{expression_operands}
 use Rattle.naga_ir.specs.declared.expression.Expression.{Expression}
@@ -18,28 +18,32 @@ use Rattle.naga_ir.specs.declared.module.Function.{Function}
 use Rattle.naga_ir.specs.declared.module.Module.{Module}
 use Rattle.naga_ir.specs.declared.types.CooperativeRole.{CooperativeRole}
 use Rattle.naga_ir.specs.declared.types.CooperativeSize.{CooperativeSize}
+use Rattle.naga_ir.specs.declared.types.TypeInner.{TypeInner}
+use Rattle.naga_ir.specs.declared.types.Type_.{Type_}
 use Rattle.naga_ir.specs.declared.types.VectorSize.{VectorSize}
 use Rattle.naga_info.specs.declared.info.ModuleInfo.{ModuleInfo}
 use Rattle.naga_info.specs.declared.info.TypeResolution.{TypeResolution}
-use Rattle.naga_info.specs.declared.info.TypeResolution.TheVariants.{Handle}
+use Rattle.naga_info.specs.declared.info.TypeResolution.TheVariants.{Handle, Value}
 use Rattle.shader_runs.specs.Typing.{Signature}
 use Rattle.shader_runs.specs.Value.{Word, Spelled, PartWord, IndexWord, Selector, MemberNamed}
 use Rattle.std.specs.List.{flat_map}
 use Rattle.std.specs.Prelude.{take}
 use Rattle.module_meaning.specs.Accepted.{is_accepted}
 use Rattle.module_meaning.specs.AgreeingOperators.{Group, operator_key}
-use Rattle.module_meaning.specs.AlikeTypes.{is_spelled}
 use Rattle.module_meaning.specs.ExpressionOperators.{applied_operator, constructor, matrix_load, is_atomic_pointer, sample_operator, query_operator}
 use Rattle.module_meaning.specs.ExpressionShapes.{part_selector, letter}
 use Rattle.module_meaning.specs.ExpressionTypes.{wanted_type, LikeThis, only}
 use Rattle.module_meaning.specs.OperatorTable.{Operator, AtomicLoad, CooperativeLoad, MatrixLoad, WithoutForm, ValueOf, Construct, Level, run_word, one_word, asks}
 use Rattle.module_meaning.specs.Types.{word_of_values}
-use Rattle.module_meaning.specs.TypeIdentity.{identity, identity_code, word_of_unspelled_type, vector_number}
-use Rattle.module_meaning.specs.Types.{type_names, spelled_resolution}
+use Rattle.module_meaning.specs.TypeIdentity.{identity, identity_at, identity_code, Itself, Nothing, StructAt, word_of_unspelled_type, vector_number}
+use Rattle.module_meaning.specs.Types.{called_spelling, type_names, spelled_resolution}
+use Rattle.module_meaning.specs.Undeclared.{is_undeclared, is_undeclared_struct}
+use Rattle.module_meaning.proofs.ExpressionForms.{called_spelled}
+use Rattle.naga_words.specs.Spelling.{is_struct}
 use Rattle.naga_form.proofs.AcceptedGroups.{agree}
 use Rattle.naga_form.proofs.AgreeingExpressions.{are, own_type, operands_are, own_is, use_of, by_identity, same_values}
 use Rattle.naga_form.proofs.AgreeingUses.{IsApplied, value_at, results_agree}
-use Rattle.naga_form.proofs.OperatorKeys.{IsFormed, IsKeyed, Negated, Keyed, KeyIn, keyed, sound, spells, form_spelled}
+use Rattle.naga_form.proofs.OperatorKeys.{IsFormed, IsKeyed, Negated, Keyed, KeyIn, keyed, sound, spells}
 use Rattle.naga_form.proofs.SameValues.{IsFit, numbers_by_words}
 use Rattle.naga_form.proofs.Signatures.{IsCalled, by_operator, by_zero, by_constant, by_index, by_part, by_letters, IsOfExpression, group_context, declared_for}
 use Rattle.naga_form.proofs.TypedWords.{no_blank, share_a_word}
@@ -50,7 +54,7 @@ module _ (m : Module) (info : ModuleInfo) (accepted : IsTrue (is_accepted m info
   pub data Call (g : Group) (e : Expression) (w : Word) : Type 0 where
     Composed : (ty n : ℕ) (k : List ℕ) → ((f : Option Function) → wanted_type m f g.known e ≡ LikeThis (Handle ty)) →
         applied_operator (group_context m info g) e ≡ Some (constructor (group_context m info g) (Handle ty) n) → operator_key m.types g.known e ≡ Some k →
-        (is_spelled m.types (Handle ty) ≡ true → IsFormed m (are m info accepted distinguished) e) →
+        (is_some (called_spelling m (Handle ty)) ≡ true → IsFormed m (are m info accepted distinguished) e) →
         w ≡ Spelled (run_word (constructor (group_context m info g) (Handle ty) n)) → Call g e w
     Zeroed : (ty : ℕ) → ((f : Option Function) → wanted_type m f g.known e ≡ LikeThis (Handle ty)) → expression_operands e ≡ [] →
         w ≡ Spelled (run_word (constructor (group_context m info g) (Handle ty) 0)) → Call g e w
@@ -133,18 +137,88 @@ module _ (m : Module) (info : ModuleInfo) (accepted : IsTrue (is_accepted m info
   abbrev value_word : Option (List ℕ) → TypeResolution → (components : ℕ) → List ℕ
   value_word o r n = run_word (option_map_or (λ spelling. Construct spelling n) o (WithoutForm (ValueOf (identity_code (identity m.types r)) n)))
 
+  -- what is called by its type has the type's word
+  called_word : (r : TypeResolution) (w : List ℕ) → called_spelling m r ≡ Some w →
+      word_of_values m r ≡ w
+  called_word r w at =
+      ap (λ o. unwrap_or o (word_of_unspelled_type (identity m.types r))) (called_spelled m r w at).1
+
+  -- a struct is told from all other types
+  struct_code : (r : TypeResolution) (h : ℕ) → identity_code (identity m.types r) ≡ 1 ∷ h ∷ [] →
+      r ≡ Handle h
+  struct_code (Value it) h e = by (is_struct it) e
+    where
+      by : (b : Bool) → identity_code (if b then Nothing else Itself it) ≡ 1 ∷ h ∷ [] →
+          Value it ≡ Handle h
+      by true e = absurd (false≢true (ap (λ xs. nat_eq (get_or xs 0 0) 1) e))
+      by false e = absurd (false≢true (ap (λ xs. nat_eq (get_or xs 0 0) 1) e))
+  struct_code (Handle k) h e = by (slice_get m.types k) e
+    where
+      told : (it : TypeInner) (b : Bool) →
+          identity_code (if b then StructAt k else Itself it) ≡ 1 ∷ h ∷ [] → Handle k ≡ Handle h
+      told it true e = ap (λ xs. Handle (get_or xs 1 0)) e
+      told it false e = absurd (false≢true (ap (λ xs. nat_eq (get_or xs 0 0) 1) e))
+
+      by : (o : Option Type_) → identity_code (identity_at k (option_map (λ t. t.inner) o)) ≡ 1 ∷ h ∷ [] →
+          Handle k ≡ Handle h
+      by None e = absurd (false≢true (ap (λ xs. nat_eq (get_or xs 0 0) 1) e))
+      by (Some t) e = told t.inner (is_struct t.inner) e
+
+  undeclared_code : (r : TypeResolution) → is_undeclared_struct m r ≡ true →
+      (h : ℕ) × (r ≡ Handle h) × (identity_code (identity m.types r) ≡ 1 ∷ h ∷ [])
+  undeclared_code (Value it) is = absurd (false≢true is)
+  undeclared_code (Handle h) is = by (slice_get m.types h) is
+    where
+      told : (it : TypeInner) (b : Bool) → (b && is_undeclared m.special_types h) ≡ true →
+          identity_code (if b then StructAt h else Itself it) ≡ 1 ∷ h ∷ []
+      told it true is = refl
+      told it false is = absurd (false≢true is)
+
+      by : (o : Option Type_) →
+          option_map_or (λ t. is_struct t.inner && is_undeclared m.special_types h) o false ≡ true →
+          (k : ℕ) × (Handle h ≡ Handle k)
+          × (identity_code (identity_at h (option_map (λ t. t.inner) o)) ≡ 1 ∷ k ∷ [])
+      by None is = absurd (false≢true is)
+      by (Some t) is = (h, refl, told t.inner (is_struct t.inner) is)
+
+  one_struct : (r s : TypeResolution) → is_undeclared_struct m r ≡ true →
+      identity_code (identity m.types r) ≡ identity_code (identity m.types s) → r ≡ s
+  one_struct r s is e =
+      let told = undeclared_code r is in
+      told.1 ∙ sym (struct_code s told.0 (sym e ∙ told.2))
+
+  -- types by which nothing is called have one word where they are told by the same
+  not_called_alike : (r s : TypeResolution) → called_spelling m r ≡ None → called_spelling m s ≡ None →
+      identity_code (identity m.types r) ≡ identity_code (identity m.types s) →
+      word_of_values m r ≡ word_of_values m s
+  not_called_alike r s at bt e = by (is_undeclared_struct m r) refl (is_undeclared_struct m s) refl at bt
+    where
+      by : (a : Bool) → is_undeclared_struct m r ≡ a → (b : Bool) → is_undeclared_struct m s ≡ b →
+          (if a then None else spelled_resolution (type_names m) r) ≡ None →
+          (if b then None else spelled_resolution (type_names m) s) ≡ None →
+          word_of_values m r ≡ word_of_values m s
+      by true is b is_b at bt = ap (word_of_values m) (one_struct r s is e)
+      by false is true is_b at bt = sym (ap (word_of_values m) (one_struct s r is_b (sym e)))
+      by false is false is_b at bt =
+          ap (λ o. unwrap_or o (word_of_unspelled_type (identity m.types r))) at
+          ∙ (ap (λ c. 32 ∷ c) e
+          ∙ sym (ap (λ o. unwrap_or o (word_of_unspelled_type (identity m.types s))) bt))
+
   -- the word of a type's value tells the type's word
   one_type : (r s : TypeResolution) (n k : ℕ) → IsFit m r → IsFit m s →
-      value_word (spelled_resolution (type_names m) r) r n ≡ value_word
-      (spelled_resolution (type_names m) s) s k → word_of_values m r ≡ word_of_values m s
-  one_type r s n k p q e = by (spelled_resolution (type_names m) r) refl (spelled_resolution (type_names m) s) refl e
+      value_word (called_spelling m r) r n ≡ value_word (called_spelling m s) s k →
+      word_of_values m r ≡ word_of_values m s
+  one_type r s n k p q e = by (called_spelling m r) refl (called_spelling m s) refl e
     where
-      by : (x : Option (List ℕ)) → spelled_resolution (type_names m) r ≡ x → (y : Option (List ℕ)) → spelled_resolution (type_names m) s ≡ y → value_word x r n ≡ value_word y s k →
-          unwrap_or x (word_of_unspelled_type (identity m.types r)) ≡ unwrap_or y (word_of_unspelled_type (identity m.types s))
-      by (Some v) at (Some w) bt e = e
-      by (Some v) at None bt e = absurd (no_blank v _ (spells m (are m info accepted distinguished) r p v at) e)
-      by None at (Some w) bt e = absurd (no_blank w _ (spells m (are m info accepted distinguished) s q w bt) (sym e))
-      by None at None bt e = ap (λ c. 32 ∷ drop 2 c) e
+      by : (x : Option (List ℕ)) → called_spelling m r ≡ x → (y : Option (List ℕ)) →
+          called_spelling m s ≡ y → value_word x r n ≡ value_word y s k →
+          word_of_values m r ≡ word_of_values m s
+      by (Some v) at (Some w) bt e = called_word r v at ∙ (e ∙ sym (called_word s w bt))
+      by (Some v) at None bt e =
+          absurd (no_blank v _ (spells m (are m info accepted distinguished) r p v (called_spelled m r v at).1) e)
+      by None at (Some w) bt e =
+          absurd (no_blank w _ (spells m (are m info accepted distinguished) s q w (called_spelled m s w bt).1) (sym e))
+      by None at None bt e = not_called_alike r s at bt (ap (drop 2) e)
 
   -- an operator over operands is not a value of a type without a form
   not_formless : (o : Operator) (count : ℕ) (k numbers : List ℕ) (n : ℕ) → IsKeyed m (are m info accepted distinguished) o count k → run_word o ≡ run_word (WithoutForm (ValueOf numbers n)) → ⊥
@@ -160,7 +234,7 @@ module _ (m : Module) (info : ModuleInfo) (accepted : IsTrue (is_accepted m info
     pub both_values : (r s : TypeResolution) (n k : ℕ) → IsFit m r → IsFit m s →
         wanted_type m a.function a.group.known a.expression ≡ LikeThis r →
         wanted_type m b.function b.group.known b.expression ≡ LikeThis s →
-        value_word (spelled_resolution (type_names m) r) r n ≡ value_word (spelled_resolution (type_names m) s) s k → x.result ≡ y.result
+        value_word (called_spelling m r) r n ≡ value_word (called_spelling m s) s k → x.result ≡ y.result
     both_values r s n k p q wanted other e =
         by_identity m info accepted distinguished a b
         (own_is m info accepted distinguished a r wanted
@@ -204,16 +278,16 @@ module _ (m : Module) (info : ModuleInfo) (accepted : IsTrue (is_accepted m info
           applied_operator (group_context m info a.group) a.expression ≡
           Some (constructor (group_context m info a.group) (Handle ty) n) →
           operator_key m.types a.group.known a.expression ≡ Some k →
-          (is_spelled m.types (Handle ty) ≡ true → IsFormed m (are m info accepted distinguished) a.expression) →
+          (is_some (called_spelling m (Handle ty)) ≡ true → IsFormed m (are m info accepted distinguished) a.expression) →
           (p : Operator) (l : List ℕ) →
           applied_operator (group_context m info b.group) b.expression ≡ Some p →
           operator_key m.types b.group.known b.expression ≡ Some l →
           IsFormed m (are m info accepted distinguished) b.expression →
           run_word (constructor (group_context m info a.group) (Handle ty) n) ≡ run_word p → x.result ≡ y.result
-      composed_applied ty n k ao ak formed p l bo bk bf e = by (spelled_resolution (type_names m) (Handle ty)) refl
+      composed_applied ty n k ao ak formed p l bo bk bf e = by (called_spelling m (Handle ty)) refl
         where
-          by : (o : Option (List ℕ)) → spelled_resolution (type_names m) (Handle ty) ≡ o → x.result ≡ y.result
-          by (Some w) at = both_applied _ p k l ao ak (formed (sym (form_spelled m (are m info accepted distinguished) (Handle ty)) ∙ ap is_some at)) bo bk bf e
+          by : (o : Option (List ℕ)) → called_spelling m (Handle ty) ≡ o → x.result ≡ y.result
+          by (Some w) at = both_applied _ p k l ao ak (formed (ap is_some at)) bo bk bf e
           by None at =
               absurd (not_formless p _ l (identity_code (identity m.types (Handle ty))) n
               (keyed m (are m info accepted distinguished) b.group.known b.expression l p bk bo bf)

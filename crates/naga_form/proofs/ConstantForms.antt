@@ -11,9 +11,9 @@ use Rattle.std.specs.List.{AllByRecursion, list_all}
 use Rattle.std.specs.Option.{is_some, option_and_then, option_map, option_map_or}
 use Rattle.std.proofs.lemmas.Bool.{and_parts}
 use Rattle.std.proofs.lemmas.Option.{slice_get_within}
-use Rattle.module_meaning.proofs.ExpressionForms.{spelled_of_spellable}
+use Rattle.module_meaning.proofs.ExpressionForms.{declared_of_spellable, spelled_of_spellable}
 use Rattle.module_meaning.specs.AlikeTypes.{is_spelled}
-use Rattle.module_meaning.specs.Undeclared.{is_spellable}
+use Rattle.module_meaning.specs.Undeclared.{is_spellable, is_undeclared_struct}
 use Rattle.module_meaning.specs.ExpressionOperators.{ExpressionContext, constructor}
 use Rattle.module_meaning.specs.ExpressionShapes.{Declared, built, tree_over, tree_then, tree_within}
 use Rattle.module_meaning.specs.ExpressionShapes.{trees, trees_of}
@@ -93,7 +93,7 @@ names_are_read m = record {
 -- ---- what is read
 module _ (outer : ModuleNames) (m : Module) (constants : ℕ → Option ConstantTree)
     (known other : ℕ → Option TypeResolution) (t : TypeNames)
-    (spells : SpellsTypes (expression_context m other) t) where
+    (spells : SpellsTypes m (expression_context m other) t) where
   abbrev d : Declared
   d = declared_over m constants known
 
@@ -125,8 +125,9 @@ module _ (outer : ModuleNames) (m : Module) (constants : ℕ → Option Constant
     OutOf (expression.Constant handle) = IsReadAs outer (constants handle) (constant handle)
     OutOf (expression.Override handle) =
         t.override_name handle ≡ outer.constant (override_number m handle)
-    OutOf (expression.ZeroValue ty) = Unit {0}
-    OutOf (expression.Compose ty components) = AllByRecursion ReadsOut components.items
+    OutOf (expression.ZeroValue ty) = is_undeclared_struct m (Handle ty) ≡ false
+    OutOf (expression.Compose ty components) =
+        (is_undeclared_struct m (Handle ty) ≡ false) × AllByRecursion ReadsOut components.items
     OutOf (expression.Splat size value) = ReadsOut value
     OutOf e = ⊥
 
@@ -154,14 +155,14 @@ module _ (outer : ModuleNames) (m : Module) (constants : ℕ → Option Constant
         let op = constructor a (Handle ty) 0 in
         built_read h is op [] (built_form a t ty 0 [])
         (called_applied op (constructor_called a (Handle ty) 0) (type_tree t ty)
-        (constructor_spelled a (Handle ty) 0 (type_tree t ty) (spells (Handle ty))) [])
+        (constructor_spelled a (Handle ty) 0 (type_tree t ty) (spells (Handle ty) out)) [])
     over_read h is (expression.Compose ty components) out =
         let count = length components.items in
         let op = constructor a (Handle ty) count in
-        let ps = parts_read components.items out in
+        let ps = parts_read components.items out.1 in
         let b = built_read h is op ps.0 (built_form a t ty count (map part components.items))
         (called_applied op (constructor_called a (Handle ty) count) (type_tree t ty)
-        (constructor_spelled a (Handle ty) count (type_tree t ty) (spells (Handle ty)))
+        (constructor_spelled a (Handle ty) count (type_tree t ty) (spells (Handle ty) out.0))
         (map part components.items)
         ∙ ap (Apply (run_word op)) ps.2) in
         (b.0, ap (option_and_then (built d h op)) ps.1 ∙ b.1, b.2)
@@ -178,7 +179,7 @@ module _ (outer : ModuleNames) (m : Module) (constants : ℕ → Option Constant
 
 -- ---- of a function
 module _ (outer : ModuleNames) (m : Module) (info : ModuleInfo) (es : List ExpressionInfo)
-    (t : TypeNames) (spells : SpellsTypes (expression_context m (types_known es)) t)
+    (t : TypeNames) (spells : SpellsTypes m (expression_context m (types_known es)) t)
     (named : NamesAreRead outer m t)
     (constants : (c : ℕ) → constant_is_written m c ≡ true →
     IsReadAs outer (written_constant m info c) (written_constant_form m t c))
@@ -223,9 +224,10 @@ module _ (outer : ModuleNames) (m : Module) (info : ModuleInfo) (es : List Expre
       out_of each (expression.Literal value) w written is = written
       out_of each (expression.Constant handle) w written is = constants handle written
       out_of each (expression.Override handle) w written is = named.overrides handle
-      out_of each (expression.ZeroValue ty) w written is = tt
+      out_of each (expression.ZeroValue ty) w written is =
+          declared_of_spellable m (Handle ty) written
       out_of each (expression.Compose ty components) w written is =
-          each_of each components.items w is
+          (declared_of_spellable m (Handle ty) written, each_of each components.items w is)
       out_of each (expression.Splat size value) w written is = each value w.0 is
       out_of each _ w written is = absurd cc
 
@@ -244,7 +246,7 @@ module _ (outer : ModuleNames) (m : Module) (info : ModuleInfo) (es : List Expre
 
 -- ---- of a module
 module _ (outer : ModuleNames) (m : Module) (info : ModuleInfo) (t : TypeNames)
-    (spells : SpellsTypes (expression_context m (λ h. None)) t)
+    (spells : SpellsTypes m (expression_context m (λ h. None)) t)
     (named : NamesAreRead outer m t)
     (size : length m.global_expressions ≡ length info.const_expression_types.items) where
   -- a constant, over what is said of the module's own expressions
@@ -309,10 +311,10 @@ module _ (outer : ModuleNames) (m : Module) (info : ModuleInfo) (t : TypeNames)
       out_of each (expression.Constant handle) is =
           constant_read own tree_of part each handle is
       out_of each (expression.Override handle) is = named.overrides handle
-      out_of each (expression.ZeroValue ty) is = tt
+      out_of each (expression.ZeroValue ty) is = declared_of_spellable m (Handle ty) is
       out_of each (expression.Compose ty components) is =
-          all_read each components.items
-          (and_parts (is_spellable m (Handle ty)) (list_all own components.items) is).1
+          let both = and_parts (is_spellable m (Handle ty)) (list_all own components.items) is in
+          (declared_of_spellable m (Handle ty) both.0, all_read each components.items both.1)
       out_of each (expression.Splat n value) is = each value is
       out_of each _ is = absurd cc
 

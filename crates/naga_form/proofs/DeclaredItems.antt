@@ -34,7 +34,6 @@ use Rattle.wgsl_text.proofs.Words.{passes}
 use Rattle.wgsl_text.specs.Declarations.{Program}
 use Rattle.wgsl_text.specs.Expressions.{Expression}
 use Rattle.wgsl_text.specs.Reading.{type_layout}
-use Rattle.wgsl_text.specs.Requests.{is_request}
 use Rattle.wgsl_text.specs.Types.{Named, plain_type_words}
 use Rattle.wgsl_text.specs.Words.{stands_in}
 use Rattle.naga_form.proofs.AcceptedFunctions.{entry_points_counted, stage_variables_within}
@@ -46,7 +45,7 @@ use Rattle.naga_form.proofs.HiddenNames.{functions_hide_none, hides_none}
 use Rattle.naga_form.proofs.ItemKeys.{item_is_no_word, no_word_of_item, type_has}
 use Rattle.naga_form.proofs.ItemTargets.{initialiser_found, override_found, program_reads}
 use Rattle.naga_form.proofs.ItemTargets.{variable_found}
-use Rattle.naga_form.proofs.OperatingWords.{names_no_item, operates_freely, plain_types_free}
+use Rattle.naga_form.proofs.OperatingWords.{free_parts, names_no_item, operates_freely, plain_types_free}
 use Rattle.naga_form.proofs.PartTypes.{known_within}
 use Rattle.naga_form.proofs.SameValues.{one_layout, or_nothing, spelling_of, tree_is}
 use Rattle.naga_form.proofs.StageTargets.{stages_named}
@@ -61,8 +60,7 @@ plain_names_no_item w plain =
     let free = passes (λ v. operates_freely (type_layout (Named v))) plain_type_words w
     plain_types_free plain in
     ap names_no_item (sym (named_text w))
-    ∙ (and_parts (not (is_request (type_layout (Named w)))) (names_no_item (type_layout (Named w)))
-    free).1
+    ∙ (free_parts (type_layout (Named w)) free).no_item
 
 module _ (m : Module) (info : ModuleInfo) (explicit : Bool) (labels : LabelNames)
     (are : AreLabelNames m labels) (accepted : IsTrue (is_accepted m info))

@@ -23,13 +23,13 @@ abbrev pub begins_free : Bytes → Bool
 begins_free [] = false
 begins_free (b ∷ bytes) = nat_eq b 1
 
--- the names of a module's items, where these words ask for events
+-- the names of a module's items, where these words ask for events, and all others are operators'
 abbrev pub free_names : (asks : Bytes → Bool) → ModuleNames
 free_names asks = record {
   constant = free_name 0;
   global = free_name 1;
   function = free_name 2;
-  is_request = asks;
+  vocabulary = record { is_request = asks; is_operator = λ word. true };
 }
 
 -- the names in a function behind so many others
@@ -134,11 +134,12 @@ pub asks_freely : (asks : Bytes → Bool) (p : Module) (earlier : ℕ) (f : Func
 asks_freely asks p earlier f w not_so does = (does, word_stands_free asks p earlier f w not_so)
 
 pub operates_freely : (asks : Bytes → Bool) (p : Module) (earlier : ℕ) (f : Function) (w : Bytes) → begins_free w ≡ false → asks w ≡ false → OperatesBy p (freely_named asks earlier f) w
-operates_freely asks p earlier f w not_so does = (does, word_stands_free asks p earlier f w not_so)
+operates_freely asks p earlier f w not_so does = (does, refl, word_stands_free asks p earlier f w not_so)
 
 pub operates_outside : (asks : Bytes → Bool) (p : Module) (w : Bytes) → begins_free w ≡ false → asks w ≡ false → OperatesOutside p (free_names asks) w
 operates_outside asks p w not_so does = record {
   asks_nothing = does;
+  operates = refl;
   functions = λ g lt. apart (free_name 2 g) w refl not_so;
   constants = λ i lt. apart (free_name 0 i) w refl not_so;
   globals = λ i lt. apart (free_name 1 i) w refl not_so;

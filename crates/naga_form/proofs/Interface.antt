@@ -35,7 +35,9 @@ use Rattle.naga_words.specs.Contexts.{names_of, Names as TypeNames}
 use Rattle.wgsl_words.specs.Words.{space_access_word, space_word}
 use Rattle.wgsl_text.specs.Expressions.{Expression}
 use Rattle.wgsl_text.specs.Reading.{type_layout}
-use Rattle.wgsl_text.specs.Requests.{is_request}
+use Rattle.shader_runs.specs.World.{Vocabulary}
+use Rattle.text_meaning.specs.Vocabulary.{vocabulary_read}
+use Rattle.naga_form.proofs.DeclaredNames.{one_vocabulary}
 use Rattle.wgsl_text.specs.Types.{TypeSpecifier, Named}
 use Rattle.wgsl_text.proofs.Text.{text-append}
 use Rattle.shader_runs.specs.Constants.{module_initialiser_value, text_initialiser_value}
@@ -475,24 +477,33 @@ module _ (m : Module) (info : ModuleInfo) (explicit : Bool) (labels : LabelNames
   abbrev named : List Naming
   named = namings_under labels (module_names m) m info
 
+  abbrev program_told : TextModule
+  program_told = program_read (program_under labels m info explicit)
+
   -- and so one value on both sides
   values_alike : (settings : Settings) → SettingsFit program_of_shapes settings →
       (meaning : Meaning) → IsTyped program_of_shapes meaning → (world : World) → (h : ℕ) →
       IsInitialiser m h →
-      text_initialiser_value (program_read (program_under labels m info explicit)) settings world
-      meaning is_request (expression_read (global_form m (type_names m) h)) ≡
+      text_initialiser_value program_told program_of_shapes.parts settings world meaning
+      (vocabulary_read (program_under labels m info explicit))
+      (expression_read (global_form m (type_names m) h)) ≡
       global_expression_value m info settings meaning h
   values_alike settings fit meaning typed world h initial =
       let own = (declarations_are m info accepted).size in
       let read = initialisers_read m info own declarations h initial in
       ap
+      (λ (vocabulary : Vocabulary).
+      text_initialiser_value program_told program_of_shapes.parts settings world meaning vocabulary
+      (expression_read (global_form m (type_names m) h)))
+      (one_vocabulary m info explicit labels)
+      ∙ (ap
       (λ (text : TextModule).
-      text_initialiser_value text settings world meaning is_request
+      text_initialiser_value text program_of_shapes.parts settings world meaning outer.vocabulary
       (expression_read (global_form m (type_names m) h)))
       (reads_as_shapes_under m info explicit labels accepted declarations have)
       ∙ (ap
-      (text_initialiser_value (form_module program_of_shapes outer named) settings world meaning
-      is_request) read.2
+      (text_initialiser_value (form_module program_of_shapes outer named) program_of_shapes.parts
+      settings world meaning outer.vocabulary) read.2
       ∙ (initialisers_are_alike program_of_shapes outer named
       (module_fits_under m info accepted declarations explicit have labels are
       ((scopes_are_checked_under m info accepted labels).1 scopes)) settings fit meaning typed world read.0
@@ -500,7 +511,7 @@ module _ (m : Module) (info : ModuleInfo) (explicit : Bool) (labels : LabelNames
       (global_in_range m info accepted h read.0
       (written_within m h (declarations.initialisers h initial)) read.1)
       ∙ sym (ap (option_and_then (module_initialiser_value program_of_shapes settings meaning))
-      read.1)))
+      read.1))))
 
   -- the cases of its switches end, so that no label is lost
   ends : (g : ℕ) (f : ir_function.Function) → slice_get (all_functions m) g ≡ Some f → AllEnd f.body
@@ -514,8 +525,8 @@ module _ (m : Module) (info : ModuleInfo) (explicit : Bool) (labels : LabelNames
   tells_interface : TellsInterfaceOf m info (program_under labels m info explicit)
   tells_interface settings fit meaning typed world =
       let read : Expression → Option Value = λ e.
-      text_initialiser_value (program_read (program_under labels m info explicit)) settings world
-      meaning is_request (expression_read e) in
+      text_initialiser_value program_told program_of_shapes.parts settings world meaning
+      (vocabulary_read (program_under labels m info explicit)) (expression_read e) in
       let value = global_expression_value m info settings meaning in
       let same = values_alike settings fit meaning typed world in
       let first : length m.functions + 0 ≡ length m.functions = omega arith in

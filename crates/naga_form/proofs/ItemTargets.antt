@@ -39,10 +39,9 @@ use Rattle.naga_form.proofs.Fits.{mapped_length}
 use Rattle.naga_form.proofs.FixedNames.{constant_no_variable, variables_tell}
 use Rattle.naga_form.proofs.ModuleFits.{counts, global_words, module_fits_under}
 use Rattle.naga_form.proofs.NamedConstants.{override_within}
-use Rattle.naga_form.proofs.Operators.{SpellsTypes}
+use Rattle.naga_form.proofs.Operators.{spelled_as_trees, SpellsTypes}
 use Rattle.naga_form.proofs.Runs.{reads_as_shapes_under}
 use Rattle.naga_form.proofs.ScopeRules.{scopes_are_checked_under}
-use Rattle.naga_form.proofs.TypeTrees.{resolution_row}
 use Rattle.naga_form.specs.ConstantForms.{global_form}
 use Rattle.naga_form.specs.Declarations.{program_under}
 
@@ -93,8 +92,8 @@ module _ (m : Module) (info : ModuleInfo) (explicit : Bool) (named : LabelNames)
         ∙ constant_stands p n fs fits (override_number m o) (override_within m info o x.0 x.1))
 
     -- ---- initialisers
-    spells : SpellsTypes (expression_context m (λ h. None)) (type_names m)
-    spells r = resolution_row text-append (type_names m) (λ handle. true) r
+    spells : SpellsTypes m (expression_context m (λ h. None)) (type_names m)
+    spells = spelled_as_trees m (λ h. None)
 
     -- one that is written names what its tree does
     pub initialiser_found : (h : ℕ) → global_is_written m h ≡ true →

@@ -96,7 +96,7 @@ module _ (f : Function) where
         constant = λ h. codes "limit";
         global = second (codes "data") (codes "linear");
         function = λ h. codes "main";
-        is_request = λ word. false;
+        vocabulary = record { is_request = λ word. false; is_operator = λ word. true };
       };
       argument = second (codes "index") (codes "target");
       local_ = λ h. codes "sum";

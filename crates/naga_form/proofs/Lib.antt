@@ -30,6 +30,7 @@ pub mod FreeNames
 pub mod FreeWords
 pub mod FunctionsFit
 pub mod DeclaredItems
+pub mod DeclaredNames
 pub mod DeclaredStructs
 pub mod ExpressionNames
 pub mod GivenNames

@@ -10,7 +10,8 @@ use Rattle.shader_runs.specs.Text.{TextModule}
 use Rattle.shader_runs.specs.Correct.{KeepsTypes}
 use Rattle.shader_runs.specs.Progress.{IsNotStuck}
 use Rattle.shader_runs.proofs.Progress.{runs_are_not_stuck}
-use Rattle.wgsl_text.specs.Requests.{is_request}
+use Rattle.shader_runs.specs.World.{Vocabulary}
+use Rattle.text_meaning.specs.Abstraction.{program_read}
 use Rattle.module_meaning.specs.Accepted.{is_accepted}
 use Rattle.module_meaning.specs.Meanings.{HasTypedWorld, IsNeverStuck}
 use Rattle.module_meaning.specs.ModuleShapes.{module_shape}
@@ -19,6 +20,7 @@ use Rattle.module_meaning.specs.DeclarationForms.{DeclarationsHaveForms}
 use Rattle.module_meaning.specs.Premises.{ScopesHold}
 use Rattle.module_meaning.specs.Namings.{namings_under, outer_names}
 use Rattle.module_meaning.specs.Written.{AllWrittenHaveForms}
+use Rattle.naga_form.proofs.DeclaredNames.{one_vocabulary}
 use Rattle.naga_form.proofs.DistinguishedItems.{types_are_distinguished}
 use Rattle.naga_form.proofs.FreeModules as every
 use Rattle.naga_form.proofs.ModuleFits.{module_fits_under}
@@ -41,14 +43,20 @@ module _ (m : Module) (info : ModuleInfo) (explicit : Bool) (accepted : IsTrue (
       IsNeverStuck m info (program_under named m info explicit)
   never_stuck named are settings fit meaning typed g f found arguments typed_arguments world turns past =
       let shape = module_shape m info in
-      subst (λ (text : TextModule). IsNotStuck
+      let outer = outer_names (module_names m) m in
+      subst (λ (vocabulary : Vocabulary). IsNotStuck
       (run_module shape settings world meaning turns g arguments past) ×
       (KeepsTypes (run_module shape settings world meaning turns g arguments past) →
-      IsNotStuck (follow_module text settings world meaning is_request turns
+      IsNotStuck (follow_module (program_read (program_under named m info explicit)) shape.parts
+      settings world meaning vocabulary turns (function_name m (module_names m) g) arguments past)))
+      (sym (one_vocabulary m info explicit named))
+      (subst (λ (text : TextModule). IsNotStuck
+      (run_module shape settings world meaning turns g arguments past) ×
+      (KeepsTypes (run_module shape settings world meaning turns g arguments past) →
+      IsNotStuck (follow_module text shape.parts settings world meaning outer.vocabulary turns
       (function_name m (module_names m) g) arguments past)))
       (sym (reads_as_shapes_under m info explicit named accepted declarations have))
-      (runs_are_not_stuck shape (outer_names (module_names m) m)
-      (namings_under named (module_names m) m info)
+      (runs_are_not_stuck shape outer (namings_under named (module_names m) m info)
       (module_fits_under m info accepted declarations explicit have named are
       ((scopes_are_checked_under m info accepted named).1 scopes)) (all_well_formed m info accepted)
-      settings fit meaning typed g f found arguments typed_arguments world turns past)
+      settings fit meaning typed g f found arguments typed_arguments world turns past))

@@ -12,6 +12,10 @@ use Rattle.naga_ir.specs.declared.module.Function as ir_function
 use Rattle.naga_info.specs.declared.info.ExpressionInfo.{ExpressionInfo}
 use Rattle.naga_info.specs.declared.info.ModuleInfo.{ModuleInfo}
 use Rattle.module_meaning.specs.Conversions.{keeps_bits}
+use Rattle.module_meaning.specs.Undeclared.{declared_struct_names, is_declared}
+use Rattle.naga_form.proofs.DeclaredNames.{declared_stands}
+use Rattle.std.proofs.Math.Bool.{or-true}
+use Rattle.wgsl_text.specs.Operators.{is_built_in}
 use Rattle.module_meaning.specs.ExpressionOperators.{cast_to, constructor}
 use Rattle.module_meaning.specs.ExpressionShapes.{Declared, shape_of, applied_or, applied_shape}
 use Rattle.module_meaning.specs.ExpressionShapes.{constant_shape}
@@ -32,7 +36,7 @@ use Rattle.naga_form.proofs.OperatingWords.{formless_free, is_signed, atomic_loa
 use Rattle.naga_form.proofs.OperatingWords.{matrix_load_free, hit_free, request_free}
 use Rattle.naga_form.proofs.OperatingWords.{corners_free}
 use Rattle.naga_form.proofs.OperatingWords.{splat_free, math_free, relation_free}
-use Rattle.naga_form.proofs.OperatingWords.{names_no_item}
+use Rattle.naga_form.proofs.OperatingWords.{free_parts, names_no_item}
 use Rattle.naga_form.proofs.TreeWords.{constant_words, levels_words, offset_words, or_false_words}
 use Rattle.naga_form.proofs.TreeWords.{written_words}
 use Rattle.naga_info.proofs.Options.{then_some}
@@ -60,7 +64,7 @@ use Rattle.naga_ir.specs.declared.module.Module.{Module}
 use Rattle.naga_keywords.specs.Plain.{is_word}
 use Rattle.naga_names.specs.declared.key.NameKey.TheVariants as key
 use Rattle.wgsl_text.specs.Requests.{is_request}
-use Rattle.wgsl_text.specs.Words.{is_builtin}
+use Rattle.wgsl_text.specs.Words.{is_builtin, stands_in}
 use Rattle.naga_form.proofs.Fits.{named_by_all_is}
 use Rattle.naga_form.proofs.ExpressionNames.{label_no_item, label_no_word}
 use Rattle.module_meaning.specs.ExpressionLabels.{expression_labels}
@@ -169,8 +173,11 @@ module _ (m : Module) (info : ModuleInfo) (types : TypesAreFit m) (p : shapes.Mo
 
   operates : (w : List ℕ) → operates_freely w ≡ true → OperatesBy p own w
   operates w free =
-      let both = and_parts (not (is_request w)) (names_no_item w) free in
-      (not-true (is_request w) both.0, free_word w both.1)
+      let parts = free_parts w free in (
+        parts.asks_nothing,
+        ap (λ b. b || stands_in (declared_struct_names (module_names m) m) w) parts.operates,
+        free_word w parts.no_item,
+      )
 
   asks_by : (w : List ℕ) → asks_freely w ≡ true → AsksBy p own w
   asks_by w free =
@@ -186,13 +193,15 @@ module _ (m : Module) (info : ModuleInfo) (types : TypesAreFit m) (p : shapes.Mo
       by (NumberedKey h) is e = item_not_numbered m (k, has.0) h has.1 (sym e)
       by (NamedKey j) is e = label_no_item m f named are j (named_in j is) (k, has.0) has.1 (sym e)
 
-  -- nor is that of a struct, which asks for nothing
+  -- nor is that of a struct that a text declares, which makes its values and asks for nothing
   struct_operates : (h : ℕ) (t : Type_) → slice_get m.types h ≡ Some t →
+      is_declared m.special_types h t.inner ≡ true →
       OperatesBy p own (name_in (module_names m) (key.Type_ h))
-  struct_operates h t at =
+  struct_operates h t at declared =
       let has = type_has m h t at in
       let w = name_in (module_names m) (key.Type_ h) in (
         no_request w (item_is_identifier m (key.Type_ h, has.0) has.1),
+        ap (λ b. is_built_in w || b) (declared_stands m h t at declared) ∙ or-true (is_built_in w),
         (
           no_function_is m p counts w (type_is_no_item m h t at),
           item_is_no_name (key.Type_ h) has refl,

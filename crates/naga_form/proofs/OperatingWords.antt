@@ -6,7 +6,7 @@ use Rattle.std.specs.Char.{is_ascii_digit}
 use Rattle.std.specs.List.{AllByRecursion, list_all}
 use Rattle.std.specs.Prelude.{◌&&◌, ◌||◌, if◌then◌else◌, not}
 use Rattle.std.specs.Option.{option_map_or}
-use Rattle.std.proofs.lemmas.Bool.{and_from, and_parts, eqb-true, false≢true, or_parts}
+use Rattle.std.proofs.lemmas.Bool.{and_from, and_parts, eqb-true, false≢true, not-true, or_parts}
 use Rattle.module_meaning.specs.OperatorTable.{BinarySign, UnarySign, Select, Math}
 use Rattle.module_meaning.specs.OperatorTable.{Relational, Splat, run_word}
 use Rattle.module_meaning.specs.OperatorTable.{Derivative, with_type, Formless, Cast, PartAt}
@@ -43,6 +43,7 @@ use Rattle.naga_ir.specs.declared.types.VectorSize.TheVariants.{Bi, Tri, Quad}
 use Rattle.naga_keywords.specs.Plain.{is_identifier_char, is_word}
 use Rattle.wgsl_text.proofs.Words.{all_words, passes}
 use Rattle.wgsl_text.specs.Keywords.{builtin_words}
+use Rattle.wgsl_text.specs.Operators.{is_built_in}
 use Rattle.wgsl_text.specs.Reading.{type_layout}
 use Rattle.wgsl_text.specs.Requests.{head_word, is_request, request_words}
 use Rattle.wgsl_text.specs.Types.{Named, plain_type_words, type_templates}
@@ -60,22 +61,33 @@ names_no_item (c ∷ rest) =
     not (nat_eq c 95) &&
     (is_signed (c ∷ rest) && (not (is_word (c ∷ rest)) || is_builtin (c ∷ rest)))
 
--- and it asks for nothing, or asks for an event
+-- and it asks for nothing and is an operator's in every text, or asks for an event
 abbrev pub operates_freely : List ℕ → Bool
-operates_freely w = not (is_request w) && names_no_item w
+operates_freely w = not (is_request w) && (is_built_in w && names_no_item w)
 
 abbrev pub asks_freely : List ℕ → Bool
 asks_freely w = is_request w && names_no_item w
 
+pub record OperatesFreely (w : List ℕ) : Type 0 where
+  pub asks_nothing : is_request w ≡ false
+  pub operates : is_built_in w ≡ true
+  pub no_item : names_no_item w ≡ true
+
+pub free_parts : (w : List ℕ) → operates_freely w ≡ true → OperatesFreely w
+free_parts w free =
+    let one = and_parts (not (is_request w)) (is_built_in w && names_no_item w) free in
+    let two = and_parts (is_built_in w) (names_no_item w) one.1 in
+    record { asks_nothing = not-true (is_request w) one.0; operates = two.0; no_item = two.1 }
+
 -- as are the signs and the words of the operators that have a form
 pub unary_free : (op : UnaryOperator) → operates_freely (run_word (UnarySign op)) ≡ true
-unfolding is_request is_builtin builtin_words
+unfolding is_request is_built_in is_builtin builtin_words
 unary_free unary.Negate = refl
 unary_free unary.LogicalNot = refl
 unary_free unary.BitwiseNot = refl
 
 pub binary_free : (op : BinaryOperator) → operates_freely (run_word (BinarySign op)) ≡ true
-unfolding is_request is_builtin builtin_words
+unfolding is_request is_built_in is_builtin builtin_words
 binary_free operator.Add = refl
 binary_free operator.Subtract = refl
 binary_free operator.Multiply = refl
@@ -96,11 +108,11 @@ binary_free operator.ShiftLeft = refl
 binary_free operator.ShiftRight = refl
 
 pub choice_free : operates_freely (run_word Select) ≡ true
-unfolding is_request is_builtin builtin_words
+unfolding is_request is_built_in is_builtin builtin_words
 choice_free = refl
 
 pub splat_free : (size : VectorSize) → operates_freely (run_word (Splat size)) ≡ true
-unfolding is_request is_builtin builtin_words
+unfolding is_request is_built_in is_builtin builtin_words
 splat_free Bi = refl
 splat_free Tri = refl
 splat_free Quad = refl
@@ -108,19 +120,19 @@ splat_free Quad = refl
 -- as are the words of functions of mathematics and of relations, and what stands for one that has
 -- no word
 pub math_free : (fun : MathFunction) → operates_freely (run_word (Math fun)) ≡ true
-unfolding is_request is_builtin builtin_words
+unfolding is_request is_built_in is_builtin builtin_words
 math_free math.Abs = refl
 math_free _ = refl
 
 pub relation_free : (fun : RelationalFunction) → operates_freely (run_word (Relational fun)) ≡ true
-unfolding is_request is_builtin builtin_words
+unfolding is_request is_built_in is_builtin builtin_words
 relation_free relational.All = refl
 relation_free _ = refl
 
 -- as are the words of derivatives, which ask
 pub derivative_free : (along : DerivativeAxis) (how : DerivativeControl) →
     asks_freely (run_word (Derivative along how)) ≡ true
-unfolding is_request is_builtin builtin_words
+unfolding is_request is_built_in is_builtin builtin_words
 derivative_free axis.X control.Coarse = refl
 derivative_free axis.X control.Fine = refl
 derivative_free axis.X control.None = refl
@@ -134,7 +146,7 @@ derivative_free axis.Width control.None = refl
 -- as are the words of operations on images, whether they have a form or not
 pub sample_free : (l : Level) (compares clamped arrayed offset : Bool) →
     asks_freely (run_word (Sample l compares clamped arrayed offset)) ≡ true
-unfolding is_request is_builtin builtin_words
+unfolding is_request is_built_in is_builtin builtin_words
 sample_free Automatic true true arrayed offset = refl
 sample_free Automatic true false arrayed offset = refl
 sample_free Automatic false true arrayed offset = refl
@@ -158,7 +170,7 @@ sample_free Graded false false arrayed offset = refl
 
 gather_free : (c : Option SwizzleComponent) (l : Level) (compares clamped arrayed offset : Bool) →
     asks_freely (run_word (Gather c l compares clamped arrayed offset)) ≡ true
-unfolding is_request is_builtin builtin_words
+unfolding is_request is_built_in is_builtin builtin_words
 gather_free None Automatic true true arrayed offset = refl
 gather_free None Automatic true false arrayed offset = refl
 gather_free None Automatic false true arrayed offset = refl
@@ -270,14 +282,14 @@ sampling_free of_depths (Some c) l compares clamped arrayed offset =
 
 pub texel_free : (arrayed sample level : Bool) →
     asks_freely (run_word (Texel arrayed (texel_of sample level))) ≡ true
-unfolding is_request is_builtin builtin_words
+unfolding is_request is_built_in is_builtin builtin_words
 texel_free arrayed true true = refl
 texel_free arrayed true false = refl
 texel_free arrayed false true = refl
 texel_free arrayed false false = refl
 
 pub query_free : (query : ImageQuery) → asks_freely (run_word (query_operator query)) ≡ true
-unfolding is_request is_builtin builtin_words
+unfolding is_request is_built_in is_builtin builtin_words
 query_free (query.Size level) = refl
 query_free query.NumLevels = refl
 query_free query.NumLayers = refl
@@ -285,22 +297,22 @@ query_free query.NumSamples = refl
 
 -- as are the words of these two, which ask for nothing
 pub length_free : operates_freely (run_word ArrayLength) ≡ true
-unfolding is_request is_builtin builtin_words
+unfolding is_request is_built_in is_builtin builtin_words
 length_free = refl
 
 pub product_free : operates_freely (run_word CooperativeMultiplyAdd) ≡ true
-unfolding is_request is_builtin builtin_words
+unfolding is_request is_built_in is_builtin builtin_words
 product_free = refl
 
 -- as is the cast of bits to any type
 pub bits_free : (word : List ℕ) → operates_freely (with_type (codes "bitcast") word) ≡ true
-unfolding is_request is_builtin builtin_words
+unfolding is_request is_built_in is_builtin builtin_words
 bits_free word = refl
 
 -- what stands for what has no form: a blank, and behind it no blank
 pub formless_free : (what : Formless) → formless_asks what ≡ false →
     operates_freely (run_word (WithoutForm what)) ≡ true
-unfolding is_request is_builtin builtin_words
+unfolding is_request is_built_in is_builtin builtin_words
 formless_free (Cast kind width) silent = refl
 formless_free (PartAt index) silent = refl
 formless_free (ValueOf numbers components) silent = refl
@@ -308,22 +320,22 @@ formless_free (MatrixLoad columns rows role row_major) silent = absurd cc
 
 -- as are what a ray query found and the corners of that
 pub hit_free : (committed : Bool) → operates_freely (run_word (RayIntersection committed)) ≡ true
-unfolding is_request is_builtin builtin_words
+unfolding is_request is_built_in is_builtin builtin_words
 hit_free true = refl
 hit_free false = refl
 
 pub corners_free : (committed : Bool) → operates_freely (run_word (RayCorners committed)) ≡ true
-unfolding is_request is_builtin builtin_words
+unfolding is_request is_built_in is_builtin builtin_words
 corners_free true = refl
 corners_free false = refl
 
 -- as are the loads and stores of atomics and the loads of matrices, which ask
 pub atomic_load_free : asks_freely (run_word AtomicLoad) ≡ true
-unfolding is_request is_builtin builtin_words
+unfolding is_request is_built_in is_builtin builtin_words
 atomic_load_free = refl
 
 pub atomic_store_free : asks_freely (run_word AtomicStore) ≡ true
-unfolding is_request is_builtin builtin_words
+unfolding is_request is_built_in is_builtin builtin_words
 atomic_store_free = refl
 
 load_among_free : (columns rows : CooperativeSize) (role : CooperativeRole) (row_major : Bool)
@@ -333,7 +345,7 @@ load_among_free : (columns rows : CooperativeSize) (role : CooperativeRole) (row
     (option_map_or (CooperativeLoad row_major) o
     (WithoutForm (MatrixLoad columns rows role row_major)))) ≡
     true
-unfolding is_request is_builtin builtin_words
+unfolding is_request is_built_in is_builtin builtin_words
 load_among_free columns rows role true (Some w) = refl
 load_among_free columns rows role false (Some w) = refl
 load_among_free columns rows role row_major None = refl
@@ -346,13 +358,13 @@ matrix_load_free a columns rows role place = load_among_free columns rows role p
 -- as are the types of one word, and words of types with parts, whatever these are
 pub plain_types_free :
     all_words (λ w. operates_freely (type_layout (Named w))) plain_type_words ≡ true
-unfolding is_request is_builtin builtin_words
+unfolding is_request is_built_in is_builtin builtin_words
 plain_types_free = refl
 
 pub templates_free : (rest : List ℕ) →
     AllByRecursion
     (λ row. all_words (λ w. operates_freely (w ++ 60 ∷ rest)) row.0 ≡ true) type_templates
-unfolding is_request is_builtin builtin_words
+unfolding is_request is_built_in is_builtin builtin_words
 templates_free rest =
     (refl, (refl, (refl, (refl, (refl, (refl, (refl, (refl, (refl, tt)))))))))
 

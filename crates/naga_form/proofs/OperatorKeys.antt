@@ -38,7 +38,8 @@ use Rattle.module_meaning.specs.TypeIdentity.{vector_number, truth_number, word_
 use Rattle.std.specs.Prelude.{unwrap_or}
 use Rattle.naga_form.specs.TypeTrees.{resolution_tree}
 use Rattle.module_meaning.specs.TypeParts.{known_inner}
-use Rattle.module_meaning.specs.Types.{type_names, spelled_resolution}
+use Rattle.module_meaning.specs.Types.{called_spelling, type_names, spelled_resolution}
+use Rattle.module_meaning.proofs.ExpressionForms.{called_spelled}
 use Rattle.naga_form.proofs.AlikeTypes.{form_read}
 use Rattle.naga_form.proofs.SameValues.{TypesAreCounted, IsFit, numbers_by_words, tree_of, spelling_of, tree_is}
 use Rattle.naga_form.proofs.TypedWords.{share_a_word}
@@ -125,13 +126,6 @@ module _ (m : Module) (are : TypesAreCounted m) where
       by None = refl
       by (Some w) = refl
 
-  spelled_some : (r : TypeResolution) → is_spelled m.types r ≡ true → (w : List ℕ) × (spelled_resolution (type_names m) r ≡ Some w)
-  spelled_some r has = by (spelled_resolution (type_names m) r) refl (form_spelled r ∙ has)
-    where
-      by : (o : Option (List ℕ)) → spelled_resolution (type_names m) r ≡ o → is_some o ≡ true → (w : List ℕ) × (spelled_resolution (type_names m) r ≡ Some w)
-      by (Some w) at is = (w, at)
-      by None at is = absurd (cc)
-
   spelled_none : (r : TypeResolution) → is_spelled m.types r ≡ false → spelled_resolution (type_names m) r ≡ None
   spelled_none r has = by (spelled_resolution (type_names m) r) refl (form_spelled r ∙ has)
     where
@@ -181,21 +175,27 @@ module _ (m : Module) (are : TypesAreCounted m) where
   cast_keyed known kind (Some width) (Some (inner.Matrix c r s)) = target_keyed (inner.Matrix c r (converted_scalar s kind (Some width))) (refl, tt, refl) false kind (Some width)
   cast_keyed known kind convert _ = Keyed refl
 
-  -- a constructor of a type with a form
+  -- a constructor that is called by its type
   constructor_keyed : (known : List TypeResolution) (ty components : ℕ) →
-      is_spelled m.types (Handle ty) ≡ true →
+      is_some (called_spelling m (Handle ty)) ≡ true →
       IsKeyed (constructor (context known) (Handle ty) components) components
       (constructor_key m.types ty)
-  constructor_keyed known ty components has =
-      let w = spelled_some (Handle ty) has in
-      subst (λ o. IsKeyed (option_map_or (λ spelling. Construct spelling components) o
-      (WithoutForm (ValueOf (identity_code (identity m.types (Handle ty))) components)))
-      components (constructor_key m.types ty)) (sym w.1)
-      (Keyed (record { typed = Handle ty; fit = tt; spelled = w.1; key = ap (λ b. if b then typed_key m.types false (Handle ty) else one_key 0 ty) has }))
+  constructor_keyed known ty components is = by (called_spelling m (Handle ty)) refl is
+    where
+      by : (o : Option (List ℕ)) → called_spelling m (Handle ty) ≡ o → is_some o ≡ true →
+          IsKeyed (option_map_or (λ spelling. Construct spelling components) o
+          (WithoutForm (ValueOf (identity_code (identity m.types (Handle ty))) components)))
+          components (constructor_key m.types ty)
+      by (Some w) at is =
+          let spelled = (called_spelled m (Handle ty) w at).1 in
+          let has : is_spelled m.types (Handle ty) ≡ true =
+          sym (form_spelled (Handle ty)) ∙ ap is_some spelled in
+          Keyed (record { typed = Handle ty; fit = tt; spelled = spelled; key = ap (λ b. if b then typed_key m.types false (Handle ty) else one_key 0 ty) has })
+      by None at is = absurd (cc)
 
-  -- what is composed has a form
+  -- what is composed is called by its type
   abbrev pub IsFormed : Expression → Type 0
-  IsFormed (expression.Compose ty parts) = is_spelled m.types (Handle ty) ≡ true
+  IsFormed (expression.Compose ty parts) = is_some (called_spelling m (Handle ty)) ≡ true
   IsFormed _ = Unit {0}
 
   same_keyed : (o p : Operator) (n : ℕ) (x y : List ℕ) → IsKeyed o n x → Some x ≡ Some y → Some o ≡ Some p → IsKeyed p n y

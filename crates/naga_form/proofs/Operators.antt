@@ -51,7 +51,13 @@ use Rattle.module_meaning.specs.ExpressionShapes.{applied_shape, asking}
 use Rattle.module_meaning.specs.OperatorTable.{Operator, BinarySign, UnarySign, AtomicLoad, asks}
 use Rattle.module_meaning.specs.OperatorTable.{AtomicStore, CooperativeLoad, MatrixLoad}
 use Rattle.module_meaning.specs.OperatorTable.{own_math_word, run_word}
+use Rattle.module_meaning.specs.ExpressionContexts.{expression_context}
 use Rattle.module_meaning.specs.ExpressionForms.{expression_is_written}
+use Rattle.module_meaning.specs.Types.{spelled_resolution, type_names}
+use Rattle.module_meaning.specs.Undeclared.{is_undeclared_struct}
+use Rattle.module_meaning.proofs.ExpressionForms.{declared_of_spellable}
+use Rattle.naga_form.proofs.TypeTrees.{resolution_row}
+use Rattle.wgsl_text.proofs.Text.{text-append}
 use Rattle.naga_ir.specs.declared.module.Module.{Module}
 use Rattle.naga_info.specs.declared.info.ExpressionInfo.{ExpressionInfo}
 use Rattle.module_meaning.specs.Shapes.{operator_shape}
@@ -131,9 +137,18 @@ callee_word type (UnarySign op) spelled =
     named_text (mark_text (unary_mark (unary_form op))) ∙ sym (unary_row op)
 callee_word type op spelled = called_word type op spelled
 
--- types are spelled as their trees are
-abbrev pub SpellsTypes : ExpressionContext → TypeNames → Type 0
-SpellsTypes a t = (r : TypeResolution) → a.spelled r ≡ option_map type_layout (resolution_tree t r)
+-- types are spelled as their trees are, but for structs that no text declares
+abbrev pub SpellsTypes : Module → ExpressionContext → TypeNames → Type 0
+SpellsTypes m a t =
+    (r : TypeResolution) → is_undeclared_struct m r ≡ false →
+    a.spelled r ≡ option_map type_layout (resolution_tree t r)
+
+-- so they are under the names of a module
+pub spelled_as_trees : (m : Module) (known : ℕ → Option TypeResolution) →
+    SpellsTypes m (expression_context m known) (type_names m)
+spelled_as_trees m known r declared =
+    ap (λ b. if b then None else spelled_resolution (type_names m) r) declared
+    ∙ resolution_row text-append (type_names m) (λ handle. true) r
 
 -- what is spelled by a type is spelled by the tree of that
 spelled_by : (spelled : List ℕ → Operator) (other : Operator)
@@ -174,11 +189,11 @@ cast_text : (bits : Bool) (t : TypeSpecifier) →
 cast_text false t = refl
 cast_text true t = bits_text t
 
-cast_spelled : (a : ExpressionContext) (t : TypeNames) → SpellsTypes a t → (kind : ScalarKind)
+cast_spelled : (m : Module) (a : ExpressionContext) (t : TypeNames) → SpellsTypes m a t → (kind : ScalarKind)
     (convert : Option ℕ) (operand : Option TypeInner) →
     Spells (option_and_then (conversion_tree t kind convert) operand) (cast a kind convert operand)
-cast_spelled a t spells kind convert None = tt
-cast_spelled a t spells kind convert (Some it) = by (conversion_target it kind convert)
+cast_spelled m a t spells kind convert None = tt
+cast_spelled m a t spells kind convert (Some it) = by (conversion_target it kind convert)
   where
     bits : Bool
     bits = keeps_bits it convert
@@ -190,13 +205,13 @@ cast_spelled a t spells kind convert (Some it) = by (conversion_target it kind c
     by None = tt
     by (Some new) =
         spelled_by (cast_to bits) (WithoutForm (Cast kind convert)) (cast_tree bits)
-        (cast_text bits) (a.spelled (Value new)) (inner_tree t new) (spells (Value new))
+        (cast_text bits) (a.spelled (Value new)) (inner_tree t new) (spells (Value new) refl)
 
-matrix_spelled : (a : ExpressionContext) (t : TypeNames) → SpellsTypes a t →
+matrix_spelled : (m : Module) (a : ExpressionContext) (t : TypeNames) → SpellsTypes m a t →
     (columns rows : CooperativeSize) (role : CooperativeRole) (place : CooperativeData) →
     Spells (matrix_tree t columns rows role place.row_major (scalar_pointed a place.pointer))
     (matrix_load a columns rows role place)
-matrix_spelled a t spells columns rows role place = by (scalar_pointed a place.pointer)
+matrix_spelled m a t spells columns rows role place = by (scalar_pointed a place.pointer)
   where
     without : Operator
     without = WithoutForm (MatrixLoad columns rows role place.row_major)
@@ -210,22 +225,24 @@ matrix_spelled a t spells columns rows role place = by (scalar_pointed a place.p
     by (Some s) =
         let it = inner.CooperativeMatrix columns rows s role in
         spelled_by (CooperativeLoad place.row_major) without (load_tree place.row_major)
-        (load_text place.row_major) (a.spelled (Value it)) (inner_tree t it) (spells (Value it))
+        (load_text place.row_major) (a.spelled (Value it)) (inner_tree t it) (spells (Value it) refl)
 
 pub untyped : (o : Option Operator) → SpellsIf None o
 untyped None = tt
 untyped (Some op) = tt
 
-pub operator_spelled : (a : ExpressionContext) (t : TypeNames) → SpellsTypes a t →
-    (e : ir.Expression) →
+-- what is written is spelled by the type by which its operator is called
+pub operator_spelled : (m : Module) (a : ExpressionContext) (t : TypeNames) → SpellsTypes m a t →
+    (es : List ExpressionInfo) (e : ir.Expression) → expression_is_written m es e ≡ true →
     SpellsIf (operator_type a t e) (applied_operator a e)
-operator_spelled a t spells (expression.Compose ty components) =
-    constructor_spelled a (Handle ty) (length components.items) (type_tree t ty) (spells (Handle ty))
-operator_spelled a t spells (expression.As operand kind convert) =
-    cast_spelled a t spells kind convert (type_known a operand)
-operator_spelled a t spells (expression.CooperativeLoad columns rows role place) =
-    matrix_spelled a t spells columns rows role place
-operator_spelled a t spells e = untyped (applied_operator a e)
+operator_spelled m a t spells es (expression.Compose ty components) is =
+    constructor_spelled a (Handle ty) (length components.items) (type_tree t ty)
+    (spells (Handle ty) (declared_of_spellable m (Handle ty) is))
+operator_spelled m a t spells es (expression.As operand kind convert) is =
+    cast_spelled m a t spells kind convert (type_known a operand)
+operator_spelled m a t spells es (expression.CooperativeLoad columns rows role place) is =
+    matrix_spelled m a t spells columns rows role place
+operator_spelled m a t spells es e is = untyped (applied_operator a e)
 
 -- ---- what is read
 -- a call whose operands are all expressions is its word over them

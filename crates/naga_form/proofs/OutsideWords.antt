@@ -1,8 +1,7 @@
 -- The words of the trees of a module's own expressions: each is an operator's, and none is a name of an
 -- item that runs know.
-use Rattle.std.proofs.Common.{◌≡◌, ℕ, true, false, List, Some}
-use Rattle.std.specs.Prelude.{not, slice_get}
-use Rattle.std.proofs.lemmas.Bool.{and_parts, not-true}
+use Rattle.std.proofs.Common.{◌≡◌, ℕ, true, false, List, Some, ap, ◌∙◌}
+use Rattle.std.specs.Prelude.{slice_get, ◌||◌}
 use Rattle.naga_info.specs.declared.info.ModuleInfo.{ModuleInfo}
 use Rattle.naga_ir.specs.declared.module.Constant as ir_constant
 use Rattle.naga_ir.specs.declared.module.Module.{Module}
@@ -14,6 +13,11 @@ use Rattle.module_meaning.specs.ModuleShapes.{initialiser}
 use Rattle.module_meaning.specs.Names.{module_names, name_in}
 use Rattle.module_meaning.specs.Namings.{outer_names}
 use Rattle.module_meaning.specs.OperatorTable.{run_word, Splat}
+use Rattle.module_meaning.specs.Undeclared.{declared_struct_names, is_declared}
+use Rattle.naga_form.proofs.DeclaredNames.{declared_stands}
+use Rattle.std.proofs.Math.Bool.{or-true}
+use Rattle.wgsl_text.specs.Operators.{is_built_in, is_operator}
+use Rattle.wgsl_text.specs.Words.{stands_in}
 use Rattle.shader_runs.specs.Premises.{EachWord, OperatesOutside}
 use Rattle.shader_runs.specs.Program as shapes
 use Rattle.shader_runs.specs.Program.{ConstantTree}
@@ -22,7 +26,7 @@ use Rattle.wgsl_text.specs.Requests.{is_request}
 use Rattle.naga_form.proofs.ItemKeys.{CountsItems, IsNoItem, no_constant_is, no_function_is}
 use Rattle.naga_form.proofs.ItemKeys.{no_global_is, type_has, type_is_no_item, word_is_no_item}
 use Rattle.naga_form.proofs.Names.{item_is_identifier}
-use Rattle.naga_form.proofs.OperatingWords.{names_no_item, operates_freely, splat_free}
+use Rattle.naga_form.proofs.OperatingWords.{free_parts, operates_freely, splat_free}
 use Rattle.naga_form.proofs.SameValues.{TypesAreFit}
 use Rattle.naga_form.proofs.SpelledWords.{made_word}
 use Rattle.naga_form.proofs.TreeWords.{global_words as tree_words, initialiser_words}
@@ -33,12 +37,17 @@ module _ (m : Module) (info : ModuleInfo) (types : TypesAreFit m) (p : shapes.Mo
   abbrev names : ModuleNames
   names = outer_names (module_names m) m
 
+  abbrev structs : List (List ℕ)
+  structs = declared_struct_names (module_names m) m
+
   abbrev Operates : List ℕ → Type 0
   Operates w = OperatesOutside p names w
 
-  operates : (w : List ℕ) → is_request w ≡ false → IsNoItem m w → Operates w
-  operates w asks_nothing none = record {
+  operates : (w : List ℕ) → is_request w ≡ false → is_operator structs w ≡ true → IsNoItem m w →
+      Operates w
+  operates w asks_nothing is none = record {
     asks_nothing = asks_nothing;
+    operates = is;
     functions = no_function_is m p counts w none;
     constants = no_constant_is m p counts w none;
     globals = no_global_is m p counts w none;
@@ -46,16 +55,21 @@ module _ (m : Module) (info : ModuleInfo) (types : TypesAreFit m) (p : shapes.Mo
 
   free_operates : (w : List ℕ) → operates_freely w ≡ true → Operates w
   free_operates w free =
-      let both = and_parts (not (is_request w)) (names_no_item w) free in
-      operates w (not-true (is_request w) both.0) (word_is_no_item m w both.1)
+      let parts = free_parts w free in
+      operates w parts.asks_nothing (ap (λ b. b || stands_in structs w) parts.operates)
+      (word_is_no_item m w parts.no_item)
 
   struct_operates : (h : ℕ) (t : Type_) → slice_get m.types h ≡ Some t →
+      is_declared m.special_types h t.inner ≡ true →
       Operates (name_in (module_names m) (key.Type_ h))
-  struct_operates h t at =
+  struct_operates h t at declared =
       let has = type_has m h t at in
       operates (name_in (module_names m) (key.Type_ h))
       (no_request (name_in (module_names m) (key.Type_ h))
       (item_is_identifier m (key.Type_ h, has.0) has.1))
+      (ap (λ b. is_built_in (name_in (module_names m) (key.Type_ h)) || b)
+      (declared_stands m h t at declared)
+      ∙ or-true (is_built_in (name_in (module_names m) (key.Type_ h))))
       (type_is_no_item m h t at)
 
   splat_operates : (size : VectorSize) → Operates (run_word (Splat size))

@@ -50,7 +50,7 @@ use Rattle.module_meaning.specs.ExpressionContexts.{declared, expression_context
 use Rattle.module_meaning.specs.Types.{scalar_values, type_of_values, word_of_values, values_of}
 use Rattle.module_meaning.specs.TypeIdentity.{identity, identity_code, word_of_unspelled_type, level, kind_number}
 use Rattle.module_meaning.specs.TypeParts.{known_inner, has_computed_parts}
-use Rattle.module_meaning.specs.Types.{spelled_resolution, type_names}
+use Rattle.module_meaning.specs.Types.{called_spelling}
 use Rattle.naga_form.proofs.AcceptedGroups.{IsSoundGroup, types_are_counted, operands_known, own_known}
 use Rattle.naga_form.proofs.ModulePlaces.{expression_is, handle_type_is}
 use Rattle.naga_form.proofs.SameValues.{TypesAreCounted, IsFit, numbers_by_values, values_by_numbers}
@@ -273,7 +273,7 @@ module _ (m : ir_module.Module) (info : ModuleInfo) (accepted : IsTrue (is_accep
     applied_fits otherwise hs fits (Some o) no_sign = tt
 
     no_constructor : (r : TypeResolution) (n : ℕ) → IsNoSign (Some (constructor (expression_context m (types_known es)) r n))
-    no_constructor r n = by (spelled_resolution (type_names m) r)
+    no_constructor r n = by (called_spelling m r)
       where
         by : (o : Option Bytes) → IsNoSign (Some (option_map_or (λ spelling. Construct spelling n) o (WithoutForm (ValueOf (identity_code (identity m.types r)) n))))
         by None = tt

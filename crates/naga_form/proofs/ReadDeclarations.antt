@@ -56,7 +56,8 @@ use Rattle.naga_form.specs.Types.{type_form}
 use Rattle.naga_form.proofs.ConstantForms.{IsReadAs, globals_read, names_are_read}
 use Rattle.naga_form.proofs.NamedConstants.{is_named, override_numbered}
 use Rattle.naga_form.proofs.NamedConstants.{constants_counted, overrides_counted}
-use Rattle.naga_form.proofs.TypeTrees.{inner_tree_row, resolution_row}
+use Rattle.naga_form.proofs.TypeTrees.{inner_tree_row}
+use Rattle.naga_form.proofs.Operators.{spelled_as_trees}
 use Rattle.naga_form.proofs.WrittenTypes.{tree_there}
 
 -- ---- pointers to variables
@@ -107,7 +108,7 @@ pub written_is_read : (m : Module) (info : ModuleInfo) →
     (global_form m (type_names m) h)
 written_is_read m info size h is =
     globals_read (outer_names (module_names m) m) m info (type_names m)
-    (λ r. resolution_row text-append (type_names m) (λ handle. true) r) (names_are_read m) size h is
+    (spelled_as_trees m (λ h. None)) (names_are_read m) size h is
 
 module _ (m : Module) where
   abbrev names : NameMap

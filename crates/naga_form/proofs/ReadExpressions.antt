@@ -15,6 +15,8 @@ use Rattle.shader_runs.specs.Program.{Constructed, Fixed, no_constant}
 use Rattle.naga_form.specs.Expressions.{operator_type}
 use Rattle.naga_form.proofs.Operators.{SpellsIf, SpellsTypes, constructor_spelled, operator_spelled}
 use Rattle.naga_form.proofs.Operators.{untyped, zero_read}
+use Rattle.module_meaning.proofs.ExpressionForms.{declared_of_spellable}
+use Rattle.module_meaning.specs.Undeclared.{is_undeclared_struct}
 use Rattle.std.specs.Prelude.{◌||◌}
 use Rattle.module_meaning.specs.ExpressionOperators.{is_depth_image, level_of, sample_operator}
 use Rattle.module_meaning.specs.ExpressionOperators.{type_known}
@@ -176,9 +178,10 @@ global_read false e = refl
 abbrev ArePlain : (operand : ℕ → PlainForm) (like : ℕ → Plain) → List ℕ → Type 0
 ArePlain operand like hs = AllByRecursion (λ x. plain_read (operand x) ≡ like x) hs
 
-module _ (n : Naming) (code : Source) (spells : SpellsTypes code.declared.context code.type_names)
+module _ (m : Module) (n : Naming) (code : Source)
+    (spells : SpellsTypes m code.declared.context code.type_names)
     (places : (h : ℕ) → is_place (handle_type n.function h) ≡ points code.declared.context h)
-    (all : List ir.Expression) (m : Module) (es : List ExpressionInfo) where
+    (all : List ir.Expression) (es : List ExpressionInfo) where
   -- an operator where one is applied, and what stands there where none is
   applied_reads : (operand : ℕ → PlainForm) (like : ℕ → Plain) (hs : List ℕ) →
       ArePlain operand like hs → (otherwise : PlainForm) →
@@ -192,20 +195,21 @@ module _ (n : Naming) (code : Source) (spells : SpellsTypes code.declared.contex
       (all_map (λ h is. value_is (operand h) ∙ ap runs.value_form is) hs same)
 
   applies : (operand : ℕ → PlainForm) (like : ℕ → Plain) (e : ir.Expression) →
-      ArePlain operand like (expression_operands e) →
+      ArePlain operand like (expression_operands e) → expression_is_written m es e ≡ true →
       plain_read
       (applied_plain no_form (operator_type code.declared.context code.type_names e) operand (expression_operands e)
       (applied_operator code.declared.context e)) ≡
       runs.own_form n like
       (Some (applied_or shapes.Result (expression_operands e) (applied_operator code.declared.context e)))
-  applies operand like e same =
+  applies operand like e same written =
       applied_reads operand like (expression_operands e) same no_form shapes.Result refl
       (operator_type code.declared.context code.type_names e)
       (applied_operator code.declared.context e)
-      (operator_spelled code.declared.context code.type_names spells e)
+      (operator_spelled m code.declared.context code.type_names spells es e written)
 
   -- a zero value, where the type of its handle is known
   zero_reads : (operand : ℕ → PlainForm) (like : ℕ → Plain) (ty : ℕ) →
+      is_undeclared_struct m (Handle ty) ≡ false →
       (o : Option TypeResolution) → is_some o ≡ true →
       plain_read
       (own_plain n code operand (expression.ZeroValue ty)) ≡
@@ -215,13 +219,13 @@ module _ (n : Naming) (code : Source) (spells : SpellsTypes code.declared.contex
       (option_map
       (λ r. Constructed (run_word (constructor code.declared.context (Handle ty) 0)) (code.declared.value_type r) no_constant)
       o)))
-  zero_reads operand like ty (Some r) known =
+  zero_reads operand like ty declared (Some r) known =
       ap AsValue
       (zero_read operand (λ h. plain_read (operand h))
       (type_tree code.type_names ty)
       (constructor code.declared.context (Handle ty) 0)
-      (constructor_spelled code.declared.context (Handle ty) 0 (type_tree code.type_names ty) (spells (Handle ty))))
-  zero_reads operand like ty None known = absurd cc
+      (constructor_spelled code.declared.context (Handle ty) 0 (type_tree code.type_names ty) (spells (Handle ty) declared)))
+  zero_reads operand like ty declared None known = absurd cc
 
   -- what is written out as a constant is read as that
   abbrev pub ReadsOut : ℕ → Type 0
@@ -260,11 +264,12 @@ module _ (n : Naming) (code : Source) (spells : SpellsTypes code.declared.contex
       global_read (code.declared.is_held handle)
       (tree_expressions.Name (n.names.outer.global handle))
   own_reads operand like h (expression.ZeroValue ty) same w known =
-      zero_reads operand like ty (code.declared.context.known h) known.0
+      zero_reads operand like ty (declared_of_spellable m (Handle ty) w) (code.declared.context.known h)
+      known.0
   own_reads operand like h (expression.Compose ty components) same w known =
-      applies operand like (expression.Compose ty components) same
+      applies operand like (expression.Compose ty components) same w
   own_reads operand like h (expression.As e kind convert) same w known =
-      applies operand like (expression.As e kind convert) same
+      applies operand like (expression.As e kind convert) same w
   own_reads operand like h (expression.Access base index) same w known =
       index_read (handle_type n.function base) (points code.declared.context base) (places base)
       (as_value (operand index)) (like index)
@@ -301,7 +306,7 @@ module _ (n : Naming) (code : Source) (spells : SpellsTypes code.declared.contex
   own_reads operand like h (expression.FunctionArgument number) same w known = refl
   own_reads operand like h (expression.LocalVariable handle) same w known = refl
   own_reads operand like h (expression.Derivative axis how expr) same w known =
-      applies operand like (expression.Derivative axis how expr) same
+      applies operand like (expression.Derivative axis how expr) same w
   own_reads operand like h
       (expression.ImageSample
       image sampler gather coordinate array_index offset level depth_ref clamp) same w known =
@@ -359,27 +364,27 @@ module _ (n : Naming) (code : Source) (spells : SpellsTypes code.declared.contex
           (constant_forms n.names.outer (trees (written_zero level unwritten ++ option_to_list c)))))
           (sym out.0.1)
   own_reads operand like h (expression.ImageLoad image coordinate array_index x level) same w known =
-      applies operand like (expression.ImageLoad image coordinate array_index x level) same
+      applies operand like (expression.ImageLoad image coordinate array_index x level) same w
   own_reads operand like h (expression.ImageQuery image query) same w known =
-      applies operand like (expression.ImageQuery image query) same
+      applies operand like (expression.ImageQuery image query) same w
   own_reads operand like h (expression.ArrayLength array) same w known =
-      applies operand like (expression.ArrayLength array) same
+      applies operand like (expression.ArrayLength array) same w
   own_reads operand like h (expression.CooperativeLoad columns rows role place) same w known =
-      applies operand like (expression.CooperativeLoad columns rows role place) same
+      applies operand like (expression.CooperativeLoad columns rows role place) same w
   own_reads operand like h (expression.CooperativeMultiplyAdd x y z) same w known =
-      applies operand like (expression.CooperativeMultiplyAdd x y z) same
+      applies operand like (expression.CooperativeMultiplyAdd x y z) same w
   own_reads operand like h (expression.Unary op expr) same w known =
-      applies operand like (expression.Unary op expr) same
+      applies operand like (expression.Unary op expr) same w
   own_reads operand like h (expression.Binary op left right) same w known =
-      applies operand like (expression.Binary op left right) same
+      applies operand like (expression.Binary op left right) same w
   own_reads operand like h (expression.Select condition accept reject) same w known =
-      applies operand like (expression.Select condition accept reject) same
+      applies operand like (expression.Select condition accept reject) same w
   own_reads operand like h (expression.Splat size value) same w known =
-      applies operand like (expression.Splat size value) same
+      applies operand like (expression.Splat size value) same w
   own_reads operand like h (expression.Math fun arg arg1 arg2 arg3) same w known =
-      applies operand like (expression.Math fun arg arg1 arg2 arg3) same
+      applies operand like (expression.Math fun arg arg1 arg2 arg3) same w
   own_reads operand like h (expression.Relational fun argument) same w known =
-      applies operand like (expression.Relational fun argument) same
+      applies operand like (expression.Relational fun argument) same w
   own_reads operand like h (expression.CallResult function) same w known = refl
   own_reads operand like h (expression.AtomicResult ty comparison) same w known = refl
   own_reads operand like h (expression.WorkGroupUniformLoadResult ty) same w known = refl

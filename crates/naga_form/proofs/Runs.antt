@@ -10,12 +10,12 @@ use Rattle.naga_ir.specs.declared.module.Module.{Module}
 use Rattle.naga_info.specs.declared.info.ExpressionInfo.{ExpressionInfo}
 use Rattle.naga_info.specs.declared.info.ModuleInfo.{ModuleInfo}
 use Rattle.shader_runs.specs.Scope.{Naming}
+use Rattle.shader_runs.specs.World.{Vocabulary}
 use Rattle.shader_runs.specs.Text.{TextModule}
 use Rattle.shader_runs.specs.Constants.{follow_module}
 use Rattle.shader_runs.specs.Form.{form_function, form_functions, form_module}
 use Rattle.shader_runs.proofs.Calls.{runs_alike}
 use Rattle.text_meaning.specs.Abstraction.{function_read, functions_of, program_read}
-use Rattle.wgsl_text.specs.Requests.{is_request}
 use Rattle.module_meaning.specs.Accepted.{is_accepted}
 use Rattle.module_meaning.specs.DeclarationForms.{DeclarationsHaveForms}
 use Rattle.module_meaning.specs.Faithful.{RunsAs}
@@ -32,6 +32,7 @@ use Rattle.naga_form.specs.Functions.{functions_under}
 use Rattle.naga_form.proofs.Abstraction.{function_reads}
 use Rattle.naga_form.proofs.AcceptedFunctions.{functions_counted, of_number}
 use Rattle.naga_form.proofs.AcceptedGroups.{declarations_are}
+use Rattle.naga_form.proofs.DeclaredNames.{one_vocabulary}
 use Rattle.naga_form.proofs.ExpressionNames.{expression_names_are}
 use Rattle.naga_form.proofs.ModuleFits.{module_fits_under}
 use Rattle.naga_form.proofs.ReadDeclarations.{constants_read, overrides_read, variables_read}
@@ -103,16 +104,22 @@ pub runs_as_under : (m : Module) (info : ModuleInfo) (explicit : Bool) (named : 
     RunsAs m info (program_under named m info explicit)
 runs_as_under m info explicit named are accepted declarations have scope settings fit meaning typed g
     f found arguments typed_arguments world turns past keeps =
+    let shape = module_shape m info in
+    let outer = outer_names (module_names m) m in
     ap
+    (λ (vocabulary : Vocabulary).
+    follow_module (program_read (program_under named m info explicit)) shape.parts settings world
+    meaning vocabulary turns (function_name m (module_names m) g) arguments past)
+    (one_vocabulary m info explicit named)
+    ∙ (ap
     (λ (text : TextModule).
-    follow_module text settings world meaning is_request turns
+    follow_module text shape.parts settings world meaning outer.vocabulary turns
     (function_name m (module_names m) g) arguments past)
     (reads_as_shapes_under m info explicit named accepted declarations have)
-    ∙ runs_alike (module_shape m info) (outer_names (module_names m) m)
-    (namings_under named (module_names m) m info)
+    ∙ runs_alike shape outer (namings_under named (module_names m) m info)
     (module_fits_under m info accepted declarations explicit have named are
     ((scopes_are_checked_under m info accepted named).1 scope)) settings fit meaning typed g f found
-    arguments typed_arguments world turns past keeps
+    arguments typed_arguments world turns past keeps)
 
 pub runs_as : (m : Module) (info : ModuleInfo) (explicit : Bool) → IsTrue (is_accepted m info) →
     DeclarationsHaveForms m → AllWrittenHaveForms explicit m info → ScopesHold m info →

@@ -27,7 +27,8 @@ use Rattle.module_meaning.specs.OperatorTable.{Operator, Construct, CooperativeL
 use Rattle.module_meaning.specs.OperatorTable.{ValueOf, MatrixLoad, PartAt, AtomicLoad, Level}
 use Rattle.module_meaning.specs.OperatorTable.{SpellsAType, TypeIsSound, asks}
 use Rattle.module_meaning.specs.ExpressionContexts.{expression_context}
-use Rattle.module_meaning.specs.Types.{type_names, spelled_resolution}
+use Rattle.module_meaning.specs.Types.{called_spelling, type_names, spelled_resolution}
+use Rattle.module_meaning.proofs.ExpressionForms.{called_spelled}
 use Rattle.wgsl_text.specs.Reading.{type_layout}
 use Rattle.wgsl_text.specs.Types.{TypeSpecifier}
 use Rattle.naga_form.specs.TypeTrees.{resolution_tree}
@@ -46,13 +47,13 @@ module _ (m : Module) (are : TypesAreCounted m) where
     context = expression_context m known
 
     pub constructor_is_sound : (ty components : ℕ) → TypeIsSound (constructor context (Handle ty) components)
-    constructor_is_sound ty components = by (spelled_resolution (type_names m) (Handle ty)) refl
+    constructor_is_sound ty components = by (called_spelling m (Handle ty)) refl
       where
-        by : (o : Option (List ℕ)) → spelled_resolution (type_names m) (Handle ty) ≡ o →
+        by : (o : Option (List ℕ)) → called_spelling m (Handle ty) ≡ o →
             TypeIsSound (option_map_or (λ spelling. Construct spelling components) o
             (WithoutForm (ValueOf (context.numbers (Handle ty)) components)))
         by None is = tt
-        by (Some w) is = spells (Handle ty) tt w is
+        by (Some w) is = spells (Handle ty) tt w (called_spelled m (Handle ty) w is).1
 
     -- a conversion to a type that is fit
     target_is_sound : (it : TypeInner) → IsFit m (Value it) →

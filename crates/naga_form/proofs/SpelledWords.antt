@@ -1,7 +1,8 @@
 -- The words of operators that spell a type of the module: what holds of the words that are no names, and
 -- of the names of its structs, holds of each.
-use Rattle.std.proofs.Common.{◌≡◌, ℕ, true, List, Option, Some, None, refl, sym, ap, ◌∙◌, subst}
-use Rattle.std.specs.Prelude.{slice_get, ◌⊎◌}
+use Rattle.std.proofs.Common.{◌≡◌, ℕ, Bool, true, false, List, Option, Some, None, refl, sym, ap}
+use Rattle.std.proofs.Common.{◌∙◌, subst}
+use Rattle.std.specs.Prelude.{slice_get, not, ◌&&◌, ◌⊎◌, if◌then◌else◌}
 use Rattle.std.specs.Option.{option_map, option_map_or}
 use mathlib.Core.Logic.{inl, inr}
 use Rattle.naga_info.specs.declared.info.TypeResolution.{TypeResolution}
@@ -13,7 +14,9 @@ use Rattle.module_meaning.specs.ExpressionContexts.{expression_context}
 use Rattle.module_meaning.specs.ExpressionOperators.{constructor, ExpressionContext}
 use Rattle.module_meaning.specs.Names.{module_names, name_in}
 use Rattle.module_meaning.specs.OperatorTable.{Construct, Operator, run_word, ValueOf, WithoutForm}
-use Rattle.module_meaning.specs.Types.{type_names}
+use Rattle.module_meaning.specs.Types.{spelled_resolution, type_names}
+use Rattle.module_meaning.specs.Undeclared.{is_declared, is_undeclared, is_undeclared_struct}
+use Rattle.naga_words.specs.Spelling.{is_struct}
 use Rattle.wgsl_text.proofs.Text.{text-append}
 use Rattle.wgsl_text.proofs.Types.{named_text}
 use Rattle.wgsl_text.specs.Reading.{type_layout}
@@ -27,42 +30,64 @@ use Rattle.naga_form.proofs.WrittenTypes.{free_form, IsStructNamed}
 module _ (m : Module) (types : TypesAreFit m) (W : List ℕ → Type 0)
     (free : (w : List ℕ) → operates_freely w ≡ true → W w)
     (structs : (h : ℕ) (t : Type_) → slice_get m.types h ≡ Some t →
-    W (name_in (module_names m) (key.Type_ h))) where
+    is_declared m.special_types h t.inner ≡ true → W (name_in (module_names m) (key.Type_ h))) where
   abbrev context : ExpressionContext
   context = expression_context m (λ h. None)
 
   struct_name : (h : ℕ) → (type_names m).struct_name h ≡ name_in (module_names m) (key.Type_ h)
   struct_name h = or_nothing (module_names m (key.Type_ h))
 
-  layout_is : (t : TypeSpecifier) →
-      (operates_freely (type_layout t) ≡ true) ⊎ IsStructNamed (type_names m) t →
+  -- a struct that is not undeclared is declared
+  is_told : (r : TypeResolution) (h : ℕ) (t : Type_) → r ≡ Handle h → slice_get m.types h ≡ Some t →
+      is_struct t.inner ≡ true → is_undeclared_struct m r ≡ false →
+      is_declared m.special_types h t.inner ≡ true
+  is_told r h t at there is declared =
+      let told : is_undeclared m.special_types h ≡ false =
+      ap (λ b. b && is_undeclared m.special_types h) (sym is)
+      ∙ (ap
+      (λ o. option_map_or (λ u. is_struct u.inner && is_undeclared m.special_types h) o false)
+      (sym there)
+      ∙ (ap (is_undeclared_struct m) (sym at) ∙ declared)) in
+      λ i. is i && not (told i)
+
+  layout_is : (r : TypeResolution) (t : TypeSpecifier) → is_undeclared_struct m r ≡ false →
+      (operates_freely (type_layout t) ≡ true) ⊎ IsStructNamed (type_names m) r t →
       W (type_layout t)
-  layout_is t (inl is) = free (type_layout t) is
-  layout_is t (inr is) =
+  layout_is r t declared (inl is) = free (type_layout t) is
+  layout_is r t declared (inr is) =
       subst W
       (sym
       (ap type_layout (is.named ∙ ap Named (struct_name is.handle))
       ∙ named_text (name_in (module_names m) (key.Type_ is.handle))))
-      (structs is.handle is.type is.there)
+      (structs is.handle is.type is.there
+      (is_told r is.handle is.type is.at is.there is.is declared))
 
-  -- what is spelled by a type is called by that, or by what no text has where it has no form
+  -- what is spelled by a type is called by that, or by what no text has where it has no form or is a
+  -- struct that no text declares
   pub spelled_words : (r : TypeResolution) → IsFit m r → (P : Operator → Type 0) →
       (makes : List ℕ → Operator) → (without : Operator) →
       ((word : List ℕ) → W word → P (makes word)) → P without →
       P (option_map_or makes (context.spelled r) without)
-  spelled_words r fit P makes without is none = by (resolution_tree (type_names m) r) refl
+  spelled_words r fit P makes without is none = declared_or_not (is_undeclared_struct m r) refl
     where
-      row : context.spelled r ≡ option_map type_layout (resolution_tree (type_names m) r)
+      row : spelled_resolution (type_names m) r
+          ≡ option_map type_layout (resolution_tree (type_names m) r)
       row = resolution_row text-append (type_names m) (λ handle. true) r
 
-      by : (o : Option TypeSpecifier) → resolution_tree (type_names m) r ≡ o →
-          P (option_map_or makes (context.spelled r) without)
-      by (Some t) at =
+      by : is_undeclared_struct m r ≡ false → (o : Option TypeSpecifier) →
+          resolution_tree (type_names m) r ≡ o →
+          P (option_map_or makes (spelled_resolution (type_names m) r) without)
+      by declared (Some t) at =
           subst (λ o. P (option_map_or makes o without)) (sym (row ∙ ap (option_map type_layout) at))
-          (is (type_layout t) (layout_is t (free_form m types r fit t at)))
-      by None at =
+          (is (type_layout t) (layout_is r t declared (free_form m types r fit t at)))
+      by declared None at =
           subst (λ o. P (option_map_or makes o without)) (sym (row ∙ ap (option_map type_layout) at))
           none
+
+      declared_or_not : (b : Bool) → is_undeclared_struct m r ≡ b →
+          P (option_map_or makes (if b then None else spelled_resolution (type_names m) r) without)
+      declared_or_not true at = none
+      declared_or_not false at = by at (resolution_tree (type_names m) r) refl
 
   -- what is called by this where it is made of a type
   abbrev pub unmade : (components ty : ℕ) → Operator

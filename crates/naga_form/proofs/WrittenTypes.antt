@@ -2,12 +2,12 @@
 -- is.
 use Rattle.std.proofs.Common.{[], ◌≡◌, ℕ, zero, suc, ◌<◌, Bool, true, false, List, ◌∷◌, ◌++◌}
 use Rattle.std.proofs.Common.{Option, Some, None, refl, sym, ap, subst, slice_get}
-use Rattle.std.proofs.Common.{codes}
+use Rattle.std.proofs.Common.{codes, true≢false}
 use Rattle.std.specs.Prelude.{if◌then◌else◌, unwrap_or, ◌⊎◌, ◌||◌, not}
 use mathlib.Core.Logic.{inl, inr}
 use Rattle.std.specs.List.{AllByRecursion}
 use Rattle.std.specs.Option.{is_some, option_map}
-use Rattle.std.proofs.lemmas.Bool.{ltb-true}
+use Rattle.std.proofs.lemmas.Bool.{and_parts, ltb-true, not-true}
 use Rattle.std.proofs.lemmas.Option.{same_Some}
 use Rattle.naga_info.proofs.Options.{map_some, then_some}
 use Rattle.naga_info.specs.declared.info.ExpressionInfo.{ExpressionInfo}
@@ -17,6 +17,8 @@ use Rattle.naga_ir.specs.declared.image.ImageClass.{ImageClass}
 use Rattle.naga_ir.specs.declared.image.ImageClass.TheVariants as class
 use Rattle.naga_ir.specs.declared.image.ImageDimension.{ImageDimension}
 use Rattle.naga_ir.specs.declared.module.Module.{Module}
+use Rattle.naga_ir.specs.declared.types.AddressSpace.{AddressSpace}
+use Rattle.naga_ir.specs.declared.types.AddressSpace.TheVariants as space
 use Rattle.naga_ir.specs.declared.types.ArraySize.{ArraySize}
 use Rattle.naga_ir.specs.declared.types.ArraySize.TheVariants as size
 use Rattle.naga_ir.specs.declared.types.Scalar.{Scalar}
@@ -29,6 +31,7 @@ use Rattle.naga_words.specs.Contexts.{Names, names_of}
 use Rattle.naga_words.specs.Spelling.{is_struct, length_within, size_within}
 use Rattle.naga_words.specs.Words.{sampler_word}
 use Rattle.module_meaning.specs.AlikeTypes.{is_spelled, type_key as form_numbers}
+use Rattle.module_meaning.specs.InfoSizes.{is_handle_pointer, is_handle_space, resolution_is_fit}
 use Rattle.module_meaning.specs.Undeclared.{is_undeclared, names_undeclared}
 use Rattle.module_meaning.specs.Types.{type_names}
 use Rattle.wgsl_text.proofs.Building.{in_front}
@@ -44,6 +47,7 @@ use Rattle.wgsl_text.specs.Words.{stands_in}
 use Rattle.wgsl_words.specs.Words.{scalar_word, scalar_word_of, space_word, space_access_word}
 use Rattle.naga_form.proofs.AlikeTypes.{form_is_read, form_read}
 use Rattle.naga_form.proofs.OperatingWords.{operates_freely, plain_types_free, templates_free}
+use Rattle.naga_form.proofs.AlikeLaw.{each_named}
 use Rattle.naga_form.proofs.SameValues.{IsFit, TypesAreFit, tree_is}
 use Rattle.naga_form.proofs.TypeTrees.{depth_is_plain}
 use Rattle.naga_form.specs.TypeTrees.{array_tree, found_tree_by, image_tree, inner_tree_by}
@@ -197,39 +201,46 @@ query_plain : (b : Bool) → is_plain (ray_tree (codes "ray_query") b) ≡ true
 query_plain true = refl
 query_plain false = refl
 
--- a struct by its name
-pub record IsStructNamed (n : Names) (t : TypeSpecifier) : Type 0 where
+-- the type at a handle, a struct, by its name
+pub record IsStructNamed (n : Names) (r : TypeResolution) (t : TypeSpecifier) : Type 0 where
   pub handle : ℕ
+  pub at : r ≡ Handle handle
   pub type : Type_
   pub there : slice_get n.types handle ≡ Some type
   pub is : is_struct type.inner ≡ true
   pub named : t ≡ Named (n.struct_name handle)
 
+-- a pointer outside the space of handles
+space_has_word : (a : AddressSpace) → is_handle_space a ≡ false → is_some (space_word a) ≡ true
+space_has_word space.Handle not_so = absurd (true≢false not_so)
+space_has_word a not_so = refl
+
+space_plain : (a : AddressSpace) → is_handle_space a ≡ false → (o : Option TypeSpecifier)
+    (t : TypeSpecifier) → pointer_tree_in (space_word a) (space_access_word a) o ≡ Some t →
+    is_plain t ≡ true
+space_plain a not_so o t e = by (space_word a) (space_has_word a not_so) e
+  where
+    by : (s : Option (List ℕ)) → is_some s ≡ true →
+        pointer_tree_in s (space_access_word a) o ≡ Some t → is_plain t ≡ true
+    by None has e = absurd cc
+    by (Some space) has e = mapped_plain _ (pointer_plain space (space_access_word a)) o t e
+
 -- each tree is spelled as no name is, or it is the name of a struct
 module _ (n : Names) where
-  abbrev IsKnown : TypeSpecifier → Type 0
-  IsKnown t = (is_plain t ≡ true) ⊎ IsStructNamed n t
-
-  inner_plain : (f : ℕ → Option TypeSpecifier) →
-      ((b : ℕ) (x : TypeSpecifier) → f b ≡ Some x → IsKnown x) → (it : TypeInner) →
-      (t : TypeSpecifier) → inner_tree_by n f it ≡ Some t → IsKnown t
-  inner_plain f all (inner.Scalar s) t e = inl (scalar_plain s t e)
-  inner_plain f all (inner.Vector v s) t e =
-      inl (mapped_plain (of_one _) (λ x. refl) (scalar_tree s) t e)
-  inner_plain f all (inner.Matrix c r s) t e =
-      inl (mapped_plain (of_one _) (λ x. refl) (scalar_tree s) t e)
-  inner_plain f all (inner.CooperativeMatrix c r s l) t e =
-      inl (mapped_plain _ (λ x. refl) (scalar_tree s) t e)
-  inner_plain f all (inner.Atomic s) t e =
-      inl (mapped_plain (of_one _) (λ x. refl) (scalar_tree s) t e)
-  inner_plain f all (inner.Pointer base a) t e = by (space_word a) e
-    where
-      by : (s : Option (List ℕ)) → pointer_tree_in s (space_access_word a) (f base) ≡ Some t →
-          IsKnown t
-      by None e = all base t e
-      by (Some space) e =
-          inl (mapped_plain _ (pointer_plain space (space_access_word a)) (f base) t e)
-  inner_plain f all (inner.ValuePointer v s a) t e = inl (by (space_word a) e)
+  inner_plain : (f : ℕ → Option TypeSpecifier) → (it : TypeInner) →
+      is_handle_pointer it ≡ false → (t : TypeSpecifier) → inner_tree_by n f it ≡ Some t →
+      is_plain t ≡ true
+  inner_plain f (inner.Scalar s) fit t e = scalar_plain s t e
+  inner_plain f (inner.Vector v s) fit t e =
+      mapped_plain (of_one _) (λ x. refl) (scalar_tree s) t e
+  inner_plain f (inner.Matrix c r s) fit t e =
+      mapped_plain (of_one _) (λ x. refl) (scalar_tree s) t e
+  inner_plain f (inner.CooperativeMatrix c r s l) fit t e =
+      mapped_plain _ (λ x. refl) (scalar_tree s) t e
+  inner_plain f (inner.Atomic s) fit t e =
+      mapped_plain (of_one _) (λ x. refl) (scalar_tree s) t e
+  inner_plain f (inner.Pointer base a) fit t e = space_plain a fit (f base) t e
+  inner_plain f (inner.ValuePointer v s a) fit t e = by (space_word a) e
     where
       by : (o : Option (List ℕ)) →
           value_pointer_tree_in o (space_access_word a) (value_tree v s) ≡ Some t →
@@ -237,44 +248,51 @@ module _ (n : Names) where
       by None e = absurd cc
       by (Some space) e =
           mapped_plain _ (pointer_plain space (space_access_word a)) (value_tree v s) t e
-  inner_plain f all (inner.Array base l stride) t e =
-      inl (mapped_plain _ (array_plain n _ l) (f base) t e)
-  inner_plain f all (inner.BindingArray base l) t e =
-      inl (mapped_plain _ (array_plain n _ l) (f base) t e)
-  inner_plain f all (inner.Struct members span) t e = absurd cc
-  inner_plain f all (inner.Image dim arrayed c) t e = inl (image_plain dim arrayed c t e)
-  inner_plain f all (inner.Sampler comparison) t e =
-      inl (same_plain _ t (sampler_plain comparison) e)
-  inner_plain f all (inner.AccelerationStructure b) t e =
-      inl (same_plain _ t (structure_plain b) e)
-  inner_plain f all (inner.RayQuery b) t e = inl (same_plain _ t (query_plain b) e)
+  inner_plain f (inner.Array base l stride) fit t e =
+      mapped_plain _ (array_plain n _ l) (f base) t e
+  inner_plain f (inner.BindingArray base l) fit t e =
+      mapped_plain _ (array_plain n _ l) (f base) t e
+  inner_plain f (inner.Struct members span) fit t e = absurd cc
+  inner_plain f (inner.Image dim arrayed c) fit t e = image_plain dim arrayed c t e
+  inner_plain f (inner.Sampler comparison) fit t e =
+      same_plain _ t (sampler_plain comparison) e
+  inner_plain f (inner.AccelerationStructure b) fit t e =
+      same_plain _ t (structure_plain b) e
+  inner_plain f (inner.RayQuery b) fit t e = same_plain _ t (query_plain b) e
 
-  found_plain : (f : ℕ → Option TypeSpecifier) →
-      ((b : ℕ) (x : TypeSpecifier) → f b ≡ Some x → IsKnown x) → (h : ℕ) →
-      (o : Option Type_) → slice_get n.types h ≡ o → (t : TypeSpecifier) →
-      found_tree_by n f h o ≡ Some t → IsKnown t
-  found_plain f all h None at t e = absurd cc
-  found_plain f all h (Some y) at t e = by (is_struct y.inner) refl e
-    where
-      by : (struct : Bool) → is_struct y.inner ≡ struct →
-          (if struct then Some (Named (n.struct_name h)) else inner_tree_by n f y.inner) ≡ Some t →
-          IsKnown t
-      by true is e =
-          inr
-          (record { handle = h; type = y; there = at; is = is; named = sym (same_Some _ t e) })
-      by false is e = inner_plain f all y.inner t e
+  module _ (fit : (h : ℕ) (t : Type_) → slice_get n.types h ≡ Some t →
+      is_handle_pointer t.inner ≡ false) where
+    found_plain : (f : ℕ → Option TypeSpecifier) → (h : ℕ) → (o : Option Type_) →
+        slice_get n.types h ≡ o → (t : TypeSpecifier) → found_tree_by n f h o ≡ Some t →
+        (is_plain t ≡ true) ⊎ IsStructNamed n (Handle h) t
+    found_plain f h None at t e = absurd cc
+    found_plain f h (Some y) at t e = by (is_struct y.inner) refl e
+      where
+        by : (struct : Bool) → is_struct y.inner ≡ struct →
+            (if struct then Some (Named (n.struct_name h)) else inner_tree_by n f y.inner) ≡ Some t →
+            (is_plain t ≡ true) ⊎ IsStructNamed n (Handle h) t
+        by true is e =
+            inr
+            (record {
+              handle = h;
+              at = refl;
+              type = y;
+              there = at;
+              is = is;
+              named = sym (same_Some _ t e);
+            })
+        by false is e = inl (inner_plain f y.inner (fit h y at) t e)
 
-  within_plain : (k h : ℕ) (t : TypeSpecifier) → tree_within k n h ≡ Some t → IsKnown t
-  within_plain zero h t e = absurd cc
-  within_plain (suc k) h t e =
-      found_plain (tree_within k n) (within_plain k) h (slice_get n.types h) refl t e
-
-  resolution_plain : (r : TypeResolution) (t : TypeSpecifier) → resolution_tree n r ≡ Some t →
-      IsKnown t
-  unfolding type_tree
-  resolution_plain (Handle h) t e = within_plain (suc h) h t e
-  resolution_plain (Value it) t e =
-      inner_plain (type_tree n) (λ b x is. within_plain (suc b) b x is) it t e
+    resolution_plain : (r : TypeResolution) → resolution_is_fit r ≡ true → (t : TypeSpecifier) →
+        resolution_tree n r ≡ Some t → (is_plain t ≡ true) ⊎ IsStructNamed n r t
+    unfolding type_tree
+    resolution_plain (Handle h) is t e = found_plain (tree_within h n) h (slice_get n.types h) refl t e
+    resolution_plain (Value it) is t e =
+        inl
+        (inner_plain (type_tree n) it
+        (not-true (is_handle_pointer it)
+        (and_parts (not (is_struct it)) (not (is_handle_pointer it)) is).1)
+        t e)
 
 -- a word with the parts that its rule wants
 of_rows_free : (rest : List ℕ) (rows : List (List (List ℕ) × TemplateRule)) →
@@ -306,6 +324,10 @@ free_tree (Named w) is plain =
 free_tree (Template w parts) is plain = template_free w parts is.part.0
 
 -- ---- types of a module
+is_fit : (m : Module) (r : TypeResolution) → IsFit m r → resolution_is_fit r ≡ true
+is_fit m (Handle h) fit = refl
+is_fit m (Value it) fit = fit.0
+
 module _ (m : Module) (types : TypesAreFit m) where
   -- a type of the module that has a form is one of the grammar
   pub is_type_at : (ty : ℕ) → is_spelled m.types (Handle ty) ≡ true →
@@ -336,10 +358,11 @@ module _ (m : Module) (types : TypesAreFit m) where
   -- the tree of a type is spelled as no name is, or it names a struct
   pub free_form : (r : TypeResolution) → IsFit m r →
       (t : TypeSpecifier) → resolution_tree (type_names m) r ≡ Some t →
-      (operates_freely (type_layout t) ≡ true) ⊎ IsStructNamed (type_names m) t
-  free_form r fit t is = by (resolution_plain (type_names m) r t is)
+      (operates_freely (type_layout t) ≡ true) ⊎ IsStructNamed (type_names m) r t
+  free_form r fit t is =
+      by (resolution_plain (type_names m) (each_named m.types types.fits) r (is_fit m r fit) t is)
     where
-      by : (is_plain t ≡ true) ⊎ IsStructNamed (type_names m) t →
-          (operates_freely (type_layout t) ≡ true) ⊎ IsStructNamed (type_names m) t
+      by : (is_plain t ≡ true) ⊎ IsStructNamed (type_names m) r t →
+          (operates_freely (type_layout t) ≡ true) ⊎ IsStructNamed (type_names m) r t
       by (inl plain) = inl (free_tree t (tree_is m types r fit t is) plain)
       by (inr named) = inr named

@@ -12,6 +12,7 @@ ghost use Rattle.wgsl_text.specs.Statements.{Statement, IsStatement};
 ghost use Rattle.wgsl_text.specs.Functions.{EntryPoint, Function, IsEntryPoint, IsFunction};
 ghost use Rattle.wgsl_text.specs.Declarations.{Program, IsProgram};
 ghost use Rattle.wgsl_text.specs.LargeExamples.{LargePrograms};
+ghost use Rattle.wgsl_text.specs.Operators.{OperatorWords};
 ghost use Rattle.wgsl_text.specs.Reading.{AreReadOnce, ReadsType, ReadsExpression, ReadsStatement};
 ghost use Rattle.wgsl_text.specs.Reading.{ReadsFunction, Reads, HasOneReading, type_layout};
 ghost use Rattle.wgsl_text.specs.Reading.{expression_layout, statement_layout, function_layout};
@@ -102,6 +103,11 @@ pub fn text_of_appended()
 /// these values, and no others.
 pub fn words_of_values()
     ensures { ValueWords }
+{}
+
+/// Words that are operators', and words that are not.
+pub fn operators_are_told()
+    ensures { OperatorWords }
 {}
 
 /// The words, keywords, signs, suffixes and attributes of the grammar, spelled out.
