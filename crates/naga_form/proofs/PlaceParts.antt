@@ -9,7 +9,7 @@ use Rattle.std.proofs.Common.{Option, Some, None, slice_get, if◌then◌else◌
 use Rattle.std.specs.Prelude.{IsTrue, not, unwrap_or}
 use Rattle.std.specs.List.{enumerate_from, find, flat_map}
 use Rattle.std.specs.Option.{option_map, option_map_or, is_some}
-use Rattle.std.proofs.lemmas.Bool.{true≢false}
+use Rattle.std.proofs.lemmas.Bool.{true≢false, not-true}
 use Rattle.std.proofs.lemmas.Option.{same_Some, slice_get-map}
 use Rattle.naga_ir.specs.declared.module.Module as ir_module
 use Rattle.naga_ir.specs.declared.types.AddressSpace.{AddressSpace}
@@ -22,7 +22,7 @@ use Rattle.naga_info.specs.declared.info.ModuleInfo.{ModuleInfo}
 use Rattle.naga_info.specs.declared.info.TypeResolution.{TypeResolution}
 use Rattle.naga_info.specs.declared.info.TypeResolution.TheVariants.{Value}
 use Rattle.shader_runs.specs.Typing.{IsPart}
-use Rattle.shader_runs.specs.Value.{Bytes, Parts, Elements, Components, Members, Step, At, Field, Selector, MemberNamed}
+use Rattle.shader_runs.specs.Value.{Bytes, Parts, NoParts, Elements, Components, Members, Step, At, Field, Selector, MemberNamed}
 use Rattle.shader_runs.specs.Value.{ValueType, PointerType, part_pointer, step_at, step_to, member_pointer, same_bytes, same_type}
 use Rattle.shader_runs.proofs.Update.{same_type_true, same_type_self, same_bytes_true, same_bytes_self}
 use Rattle.module_meaning.specs.Accepted.{is_accepted}
@@ -31,19 +31,21 @@ use Rattle.module_meaning.specs.AlikeTypes.{type_identity, type_key, handle_key,
 use Rattle.module_meaning.specs.InfoSizes.{is_handle_space}
 use Rattle.module_meaning.specs.Names.{ItemsAreDistinguished}
 use Rattle.module_meaning.specs.PlaceParts.{place_spaces, column_pointers, pointers_to, pointers_in, pointer_types, pointer_spelled}
-use Rattle.module_meaning.specs.PlaceParts.{pointer_to_member, member_word, member_part, parts_at, parts_behind, place_parts}
+use Rattle.module_meaning.specs.PlaceParts.{members_taken, pointer_to_member, member_word, member_part, parts_at, parts_behind, place_parts}
 use Rattle.module_meaning.specs.TypeIdentity.{identity, word_of_unspelled_type}
 use Rattle.module_meaning.specs.TypeParts.{inner_at, part_type}
 use Rattle.module_meaning.specs.Types.{type_of_values, word_of_values}
 use Rattle.naga_names.specs.Reset.{members_of}
 use Rattle.module_meaning.proofs.FunctionNumbers.{in_left}
+use Rattle.module_meaning.proofs.Lists.{list_all_at}
 use Rattle.naga_form.proofs.AcceptedGroups.{IsSoundGroup, types_are_counted}
 use Rattle.naga_form.proofs.AgreeingSignatures.{types_stand}
-use Rattle.naga_form.proofs.AgreeingUses.{IsIn, in_flat_map, in_enumerated}
-use Rattle.naga_form.proofs.AlikeParts.{is_pointer, PartsStand, PartsAlike, is_free, part_fits, FitPart, PartKind, NoKind, ElementKind, ComponentKind, MemberKind, kind_at, kind_behind}
+use Rattle.naga_form.proofs.AgreeingUses.{IsIn, in_flat_map}
+use Rattle.naga_form.proofs.ListPlaces.{made_at, made_from}
+use Rattle.naga_form.proofs.AlikeParts.{is_pointer, PartsStand, PartsAlike, IsFree, is_free, part_fits, FitPart, PartKind, NoKind, ElementKind, ComponentKind, MemberKind, kind_at, kind_behind}
 use Rattle.naga_form.proofs.AlikeParts.{has_members, AlikePlaces, Same, OneKind, OneStruct, alike_places}
 use Rattle.naga_form.proofs.ModulePlaces.{in_row}
-use Rattle.naga_form.proofs.PointerParts.{points_as, own_word, part_points, are_elements, parts_of_kind, has_elements, IsMember}
+use Rattle.naga_form.proofs.PointerParts.{points_as, own_word, part_points, are_elements, parts_of_kind, HasElements, has_elements, IsMember}
 use Rattle.naga_form.proofs.SameValues.{TypesAreCounted, IsFit, numbers_by_values, values_by_numbers}
 use Rattle.naga_form.proofs.SoundGroups.{groups_are}
 use Rattle.naga_form.proofs.TakenMembers.{in_some, IsTaking, type_of_first}
@@ -78,15 +80,17 @@ first_found {X = X} test (y ∷ xs) (suc i) x at passes = by (test y) refl (firs
 member_found : (ms : List (Bytes × Bytes)) (i : ℕ) (k : Bytes × Bytes) → slice_get ms i ≡ Some k →
     ((j : ℕ) (l : Bytes × Bytes) → slice_get ms j ≡ Some l → l.0 ≡ k.0 → i ≡ j) → member_pointer ms k.0 ≡ Some k.1
 member_found [] i k at only = absurd cc
-member_found (l ∷ ms) i k at only = by i at only (same_bytes k.0 l.0) refl
+member_found (l ∷ ms) i k at only = by i at only (same_bytes k.0 l.0) refl (λ i at only. member_found ms i k at only)
   where
     by : (i : ℕ) → slice_get (l ∷ ms) i ≡ Some k → ((j : ℕ) (x : Bytes × Bytes) → slice_get (l ∷ ms) j ≡ Some x → x.0 ≡ k.0 → i ≡ j) →
-        (b : Bool) → same_bytes k.0 l.0 ≡ b → cond b (Some l.1) (member_pointer ms k.0) ≡ Some k.1
-    by zero at only true same = ap (λ x. Some x.1) (same_Some l k at)
-    by zero at only false same = absurd (true≢false (sym (same_bytes_self k.0) ∙ (ap (λ x. same_bytes k.0 x.0) (sym (same_Some l k at)) ∙ same)))
-    by (suc i) at only true same = let one : suc i ≡ 0 = only 0 l refl (sym (same_bytes_true k.0 l.0 same)) in absurd (omega (arith, one))
-    by (suc i) at only false same =
-        member_found ms i k at (λ j x there is. let one = only (suc j) x there is in omega (arith, one))
+        (b : Bool) → same_bytes k.0 l.0 ≡ b →
+        ((i : ℕ) → slice_get ms i ≡ Some k → ((j : ℕ) (x : Bytes × Bytes) → slice_get ms j ≡ Some x → x.0 ≡ k.0 → i ≡ j) → member_pointer ms k.0 ≡ Some k.1) →
+        cond b (Some l.1) (member_pointer ms k.0) ≡ Some k.1
+    by zero at only true same more = ap (λ x. Some x.1) (same_Some l k at)
+    by zero at only false same more = absurd (true≢false (sym (same_bytes_self k.0) ∙ (ap (λ x. same_bytes k.0 x.0) (sym (same_Some l k at)) ∙ same)))
+    by (suc i) at only true same more = let one : suc i ≡ 0 = only 0 l refl (sym (same_bytes_true k.0 l.0 same)) in absurd (omega (arith, one))
+    by (suc i) at only false same more =
+        more i at (λ j x there is. let one : suc i ≡ suc j = only (suc j) x there is in omega (arith, one))
 
 module _ (m : ir_module.Module) (info : ModuleInfo) (accepted : IsTrue (is_accepted m info)) (distinguished : ItemsAreDistinguished m) where
   abbrev are : TypesAreCounted m
@@ -98,18 +102,7 @@ module _ (m : ir_module.Module) (info : ModuleInfo) (accepted : IsTrue (is_accep
   -- ---- pointers
   -- no space of places is that of handles
   place_space : (i : ℕ) (at : AddressSpace) → slice_get place_spaces i ≡ Some at → is_handle_space at ≡ false
-  place_space 0 at is = ap is_handle_space (sym (same_Some _ at is))
-  place_space 1 at is = ap is_handle_space (sym (same_Some _ at is))
-  place_space 2 at is = ap is_handle_space (sym (same_Some _ at is))
-  place_space 3 at is = ap is_handle_space (sym (same_Some _ at is))
-  place_space 4 at is = ap is_handle_space (sym (same_Some _ at is))
-  place_space 5 at is = ap is_handle_space (sym (same_Some _ at is))
-  place_space 6 at is = ap is_handle_space (sym (same_Some _ at is))
-  place_space 7 at is = ap is_handle_space (sym (same_Some _ at is))
-  place_space 8 at is = ap is_handle_space (sym (same_Some _ at is))
-  place_space 9 at is = ap is_handle_space (sym (same_Some _ at is))
-  place_space 10 at is = ap is_handle_space (sym (same_Some _ at is))
-  place_space (suc (suc (suc (suc (suc (suc (suc (suc (suc (suc (suc i))))))))))) at is = absurd cc
+  place_space i at is = not-true (is_handle_space at) (list_all_at (λ at. not (is_handle_space at)) place_spaces i at refl is)
 
   pointer_fit : (ty : ℕ) (at : AddressSpace) → is_handle_space at ≡ false → IsFit m (Value (inner.Pointer ty at))
   pointer_fit ty at free = (ap not free, tt, refl)
@@ -188,8 +181,8 @@ module _ (m : ir_module.Module) (info : ModuleInfo) (accepted : IsTrue (is_accep
 
     table_is : place_parts m info whole ≡ parts_behind m info whole first.it
     table_is =
-        ap (λ o. option_map_or (λ r. option_map_or (parts_behind m info whole) (inner_of r m.types) _) o _) first.spelled
-        ∙ ap (λ o. option_map_or (parts_behind m info whole) o _) first.itself
+        ap (λ o. option_map_or (λ r. option_map_or (parts_behind m info whole) (inner_of r m.types) NoParts) o NoParts) first.spelled
+        ∙ ap (λ o. option_map_or (parts_behind m info whole) o NoParts) first.itself
 
     -- ---- elements
     module _ (p : TypeResolution) (part : part_type m.types a.it None ≡ Some p) where
@@ -200,13 +193,14 @@ module _ (m : ir_module.Module) (info : ModuleInfo) (accepted : IsTrue (is_accep
       part_fit = subst (FitPart m are stand) part (part_fits m are stand a.it (is_free m are stand r a.it a.fit a.itself) a.points None)
 
       -- what is told by the same numbers as the part is a pointer that is spelled as in the table
-      pub record HasTable : Type 0 where
-        pub elements : are_elements kind ≡ true
-        pub table : place_parts m info whole ≡ parts_of_kind kind (word_of_values m p)
+      record HasTable : Type 0 where
+        elements : are_elements kind ≡ true
+        table : place_parts m info whole ≡ parts_of_kind kind (word_of_values m p)
 
       has_table : HasTable
       has_table = by first.places
         where
+          own : HasElements m info whole a.it p
           own = has_elements m info whole a.it a.points p part
 
           no_members : has_members kind ≡ true → ⊥
@@ -324,30 +318,60 @@ module _ (m : ir_module.Module) (info : ModuleInfo) (accepted : IsTrue (is_accep
 
       table_of_members : place_parts m info whole ≡ Members entries
       table_of_members =
-          table_is ∙ (ap (parts_behind m info whole) one_struct.itself ∙ ap (λ o. option_map_or (parts_at m info whole one_struct.to k.base) o _) inner_is)
+          table_is ∙ (ap (parts_behind m info whole) one_struct.itself ∙ ap (λ o. option_map_or (parts_at m info whole one_struct.to k.base) o NoParts) inner_is)
 
       entry_there : slice_get entries index ≡ Some entry
-      entry_there =
-          slice_get-map (λ p. member_part m info whole one_struct.to k.base p.0 p.1.ty) (enumerate_from 0 k.members.items) index
-          ∙ ap (option_map (λ p. member_part m info whole one_struct.to k.base p.0 p.1.ty))
-          (in_enumerated 0 k.members.items index k.member k.member_there ∙ (let at : 0 + index ≡ index = omega arith in ap (λ i. Some (i, k.member)) at))
+      entry_there = made_at (λ p. member_part m info whole one_struct.to k.base p.0 p.1.ty) k.members.items index k.member k.member_there
 
+      -- its word is that of no other
       only_entry : (j : ℕ) (l : Bytes × Bytes) → slice_get entries j ≡ Some l → l.0 ≡ word → index ≡ j
-      only_entry j l at is = ?
+      only_entry j l at is =
+          let made = made_from (λ p. member_part m info whole one_struct.to k.base p.0 p.1.ty) k.members.items j l at in
+          let items = ap members_of k.struct_is in
+          distinguished.members k.base k.struct k.there index j k.member made.0
+          (ap (λ xs. slice_get xs index) items ∙ k.member_there) (ap (λ xs. slice_get xs j) items ∙ made.1)
+          (sym is ∙ sym (ap (λ l. l.0) made.2))
 
       found : member_pointer entries word ≡ Some entry.1
       found = member_found entries index entry entry_there only_entry
 
       module _ (own : TypeResolution) (own_fit : IsFit m own) (alike : type_identity m.types own ≡ type_identity m.types (by_type k.at)) (taking : IsTaking m info accepted distinguished whole word own) where
         free_at : is_handle_space k.at ≡ false
-        free_at = subst (λ it. _) k.itself ?
+        free_at = subst (IsFree m are stand) k.itself (is_free m are stand r a.it a.fit a.itself)
 
-        own_values : type_of_values m own ≡ PointerType entry.1
-        own_values = ?
+        free_to : is_handle_space one_struct.to ≡ false
+        free_to = subst (IsFree m are stand) one_struct.itself (is_free m are stand first.u first.it first.fit first.itself)
+
+        key_is : type_key m.types (by_type k.at) ≡ type_key m.types (by_type one_struct.to)
+        key_is = one_struct.spaces (handle_key m.types k.member.ty)
+
+        -- where the member's type has a form, so have the pointers, and it is one
+        spelled : (o : Option (List ℕ)) → type_key m.types (by_type one_struct.to) ≡ o → is_some o ≡ true → type_of_values m own ≡ type_of_values m (by_type one_struct.to)
+        spelled None at is = absurd cc
+        spelled (Some x) at is =
+            values_by_numbers m are own (by_type one_struct.to) own_fit (pointer_fit k.member.ty one_struct.to free_to)
+            (alike ∙ (ap (λ o. unwrap_or o (word_of_unspelled_type (identity m.types (by_type k.at)))) (key_is ∙ at)
+            ∙ sym (ap (λ o. unwrap_or o (word_of_unspelled_type (identity m.types (by_type one_struct.to)))) at)))
+
+        own_pointer : type_of_values m own ≡ PointerType (word_of_values m (by_type k.at))
+        own_pointer = values_by_numbers m are own (by_type k.at) own_fit (pointer_fit k.member.ty k.at free_at) alike
+
+        -- where it has none, the table goes by the first expression that takes the member
+        by_form : (b : Bool) → is_spelled m.types (by_type one_struct.to) ≡ b →
+            type_of_values m own ≡ PointerType (word_of_values m (if b then by_type one_struct.to
+            else unwrap_or (slice_get (flat_map (members_taken m info whole word) (groups_of m info)) 0) (by_type one_struct.to)))
+        by_form true is = spelled (type_key m.types (by_type one_struct.to)) refl is
+        by_form false is =
+            let other = unwrap_or (slice_get (flat_map (members_taken m info whole word) (groups_of m info)) 0) (by_type one_struct.to) in
+            let one : type_of_values m own ≡ type_of_values m other = type_of_first m info accepted distinguished whole word own taking (by_type one_struct.to) in
+            own_pointer ∙ ap PointerType (sym (own_word m other (word_of_values m (by_type k.at)) (sym one ∙ own_pointer)))
+
+        member_values : type_of_values m own ≡ PointerType entry.1
+        member_values = by_form (is_spelled m.types (by_type one_struct.to)) refl
 
         pub member_to : IsPart (place_parts m info whole) (step_to (place_parts m info whole) s) (type_of_values m own)
         member_to =
             subst (λ whole. IsPart whole (step_to whole s) (type_of_values m own)) (sym table_of_members)
             (subst (λ s. IsPart (Members entries) (step_to (Members entries) s) (type_of_values m own)) (sym k.selected)
             (subst (λ o. IsPart (Members entries) (option_map (λ pointer. Field word) o) (type_of_values m own)) (sym found)
-            (own_values ∙ ap (λ o. PointerType (unwrap_or o [])) (sym found))))
+            (member_values ∙ ap (λ o. PointerType (unwrap_or o [])) (sym found))))

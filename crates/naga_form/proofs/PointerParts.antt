@@ -219,6 +219,14 @@ module _ (m : ir_module.Module) (info : ModuleInfo) (known : ℕ → Option Type
     part_of (inner.ValuePointer None scalar space) points whole selected within = absurd cc
     part_of _ points whole selected within = absurd cc
 
+  -- the part that a member is
+  pub member_is : (it : TypeInner) (index : ℕ) (s : Selector) (k : IsMember it index s) → part_type m.types it (Some index) ≡ Some (Value (inner.Pointer k.member.ty k.at))
+  member_is it index s k =
+      ap (λ it. part_type m.types it (Some index)) k.itself
+      ∙ (ap (λ o. option_and_then (λ it. pointed_part k.at it (Some index)) (option_map (λ t. t.inner) o)) k.there
+      ∙ (ap (λ it. pointed_part k.at it (Some index)) k.struct_is
+      ∙ ap (λ o. option_map (λ ty. Value (inner.Pointer ty k.at)) (option_map (λ member. member.ty) o)) k.member_there))
+
 -- ---- parts by their kinds
 module _ (m : ir_module.Module) (info : ModuleInfo) (whole : Bytes) where
   -- the parts of what a pointer points to, to which a computed index leads
