@@ -29,7 +29,6 @@ use Rattle.shader_runs.specs.Resolution.{text_names, tree_targets}
 use Rattle.shader_runs.specs.Scope.{ModuleNames, Naming}
 use Rattle.shader_runs.proofs.Resolution.{constant_stands, global_stands, tree_resolves}
 use Rattle.text_meaning.specs.Abstraction.{expression_read, program_read}
-use Rattle.wgsl_text.proofs.Text.{text-append}
 use Rattle.wgsl_text.specs.Declarations.{Program}
 use Rattle.naga_form.proofs.AcceptedGroups.{declarations_are}
 use Rattle.naga_form.proofs.ConstantForms.{global_read, names_are_read}

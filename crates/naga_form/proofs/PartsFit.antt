@@ -53,7 +53,6 @@ use Rattle.module_meaning.specs.Types.{called_spelling}
 use Rattle.naga_form.proofs.AcceptedGroups.{IsSoundGroup, types_are_counted, operands_known, own_known}
 use Rattle.naga_form.proofs.ModulePlaces.{expression_is, handle_type_is}
 use Rattle.naga_form.proofs.SameValues.{TypesAreCounted, IsFit, numbers_by_values, values_by_numbers}
-use Rattle.std.proofs.lemmas.Bool.{and_from}
 use Rattle.module_meaning.specs.ModuleShapes.{module_shape}
 use Rattle.module_meaning.specs.PlaceParts.{place_parts}
 use Rattle.naga_form.proofs.PlaceParts.{IsPointer, element_at, element_to, member_to}

@@ -4,16 +4,15 @@
 --
 -- The table has the parts of the first pointer that is spelled so. Pointers spelled alike are told by the
 -- same numbers, and so lead to parts of one kind.
-use Rattle.std.proofs.Common.{◌≡◌, ◌⊎◌, inl, inr, ℕ, zero, suc, ℤ, pos, Bool, true, false, cond, List, [], ◌∷◌, refl, sym, ap, ◌∙◌, subst, length, map}
+use Rattle.std.proofs.Common.{◌≡◌, ◌⊎◌, inl, inr, ℕ, zero, suc, ℤ, Bool, true, false, cond, List, [], ◌∷◌, refl, sym, ap, ◌∙◌, subst, map}
 use Rattle.std.proofs.Common.{Option, Some, None, slice_get, if◌then◌else◌, arith}
 use Rattle.std.specs.Prelude.{IsTrue, not, unwrap_or}
 use Rattle.std.specs.List.{enumerate_from, find, flat_map}
 use Rattle.std.specs.Option.{option_map, option_map_or, is_some}
 use Rattle.std.proofs.lemmas.Bool.{true≢false, not-true}
-use Rattle.std.proofs.lemmas.Option.{same_Some, slice_get-map}
+use Rattle.std.proofs.lemmas.Option.{same_Some}
 use Rattle.naga_ir.specs.declared.module.Module as ir_module
 use Rattle.naga_ir.specs.declared.types.AddressSpace.{AddressSpace}
-use Rattle.naga_ir.specs.declared.types.StructMember.{StructMember}
 use Rattle.naga_ir.specs.declared.types.TypeInner.{TypeInner}
 use Rattle.naga_ir.specs.declared.types.TypeInner.TheVariants as inner
 use Rattle.naga_ir.specs.declared.types.Type_.{Type_}
@@ -22,8 +21,8 @@ use Rattle.naga_info.specs.declared.info.ModuleInfo.{ModuleInfo}
 use Rattle.naga_info.specs.declared.info.TypeResolution.{TypeResolution}
 use Rattle.naga_info.specs.declared.info.TypeResolution.TheVariants.{Value}
 use Rattle.shader_runs.specs.Typing.{IsPart}
-use Rattle.shader_runs.specs.Value.{Bytes, Parts, NoParts, Elements, Components, Members, Step, At, Field, Selector, MemberNamed}
-use Rattle.shader_runs.specs.Value.{ValueType, PointerType, part_pointer, step_at, step_to, member_pointer, same_bytes, same_type}
+use Rattle.shader_runs.specs.Value.{Bytes, NoParts, Members, At, Field, Selector}
+use Rattle.shader_runs.specs.Value.{PointerType, step_at, step_to, member_pointer, same_bytes, same_type}
 use Rattle.shader_runs.proofs.Update.{same_type_true, same_type_self, same_bytes_true, same_bytes_self}
 use Rattle.module_meaning.specs.Accepted.{is_accepted}
 use Rattle.module_meaning.specs.AgreeingOperators.{Group, groups_of}
@@ -31,7 +30,7 @@ use Rattle.module_meaning.specs.AlikeTypes.{type_identity, type_key, handle_key,
 use Rattle.module_meaning.specs.InfoSizes.{is_handle_space}
 use Rattle.module_meaning.specs.Names.{ItemsAreDistinguished}
 use Rattle.module_meaning.specs.PlaceParts.{place_spaces, column_pointers, pointers_to, pointers_in, pointer_types, pointer_spelled}
-use Rattle.module_meaning.specs.PlaceParts.{members_taken, pointer_to_member, member_word, member_part, parts_at, parts_behind, place_parts}
+use Rattle.module_meaning.specs.PlaceParts.{members_taken, member_word, member_part, parts_at, parts_behind, place_parts}
 use Rattle.module_meaning.specs.TypeIdentity.{identity, word_of_unspelled_type}
 use Rattle.module_meaning.specs.TypeParts.{inner_at, part_type}
 use Rattle.module_meaning.specs.Types.{type_of_values, word_of_values}

@@ -1,7 +1,7 @@
 -- The members that expressions take: in an accepted module all expressions that take one member, of
 -- pointers spelled alike, have one type.
 use Rattle.module_meaning.proofs.SideBySide.{zip_at, zip_parts}
-use Rattle.std.proofs.Common.{◌≡◌, ◌⊎◌, inl, inr, ℕ, zero, suc, Bool, true, false, List, [], ◌∷◌, refl, sym, ap, ◌∙◌, subst}
+use Rattle.std.proofs.Common.{◌≡◌, ◌⊎◌, inl, inr, ℕ, zero, suc, Bool, true, false, List, [], ◌∷◌, refl, sym, ap, ◌∙◌}
 use Rattle.std.proofs.Common.{Option, Some, None, slice_get, if◌then◌else◌}
 use Rattle.std.specs.Prelude.{IsTrue, unwrap_or}
 use Rattle.std.specs.List.{flat_map, zip}
@@ -15,7 +15,7 @@ use Rattle.naga_ir.specs.declared.module.Module as ir_module
 use Rattle.naga_info.specs.declared.info.ModuleInfo.{ModuleInfo}
 use Rattle.naga_info.specs.declared.info.TypeResolution.{TypeResolution}
 use Rattle.shader_runs.specs.Typing.{Signature}
-use Rattle.shader_runs.specs.Value.{Bytes, Selector, MemberNamed, ElementAt, same_bytes, same_type, PointerType, PartWord}
+use Rattle.shader_runs.specs.Value.{Bytes, Selector, MemberNamed, ElementAt, same_type, PointerType, PartWord}
 use Rattle.shader_runs.proofs.Update.{same_type_true, same_type_self, same_bytes_true, same_bytes_self}
 use Rattle.module_meaning.specs.Accepted.{is_accepted}
 use Rattle.module_meaning.specs.AgreeingOperators.{Group, groups_of}
