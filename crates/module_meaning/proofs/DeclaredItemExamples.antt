@@ -1,7 +1,7 @@
 -- Examples of what the names of declarations stand for, computed: in types, in the attributes of
 -- entry points and of members, in a text and as a module means it.
-use Rattle.std.proofs.Common.{◌≡◌, ◌==◌, ℕ, true, false, List, [], ◌∷◌, Option, Some, None, refl, map, Vec}
-use Rattle.std.proofs.Common.{Global, String}
+use Rattle.std.proofs.Common.{◌≡◌, ◌==◌, ℕ, Bool, true, false, List, [], ◌∷◌, Option, Some, None, refl}
+use Rattle.std.proofs.Common.{map, Vec, Global, String}
 use Rattle.std.specs.Prelude.{codes, if◌then◌else◌}
 use Rattle.indexmap.specs.IndexMap.{with_entries}
 use Rattle.naga_ir.specs.declared.module.EntryPoint as ir_entry_point
@@ -13,7 +13,7 @@ use Rattle.naga_ir.specs.declared.types.ArraySize.TheVariants as size
 use Rattle.naga_ir.specs.declared.types.ScalarKind.TheVariants as kind
 use Rattle.naga_ir.specs.declared.types.StructMember as ir_member
 use Rattle.naga_ir.specs.declared.types.TypeInner.TheVariants as inner
-use Rattle.naga_info.specs.declared.info.TypeResolution.TheVariants.{Value}
+use Rattle.naga_info.specs.declared.info.TypeResolution.TheVariants.{Handle, Value}
 use Rattle.naga_names.specs.Keys.{NameMap}
 use Rattle.naga_names.specs.declared.key.NameKey.TheVariants as key
 use Rattle.shader_runs.specs.Resolution.{ConstantTarget, GlobalTarget}
@@ -21,6 +21,7 @@ use Rattle.wgsl_text.specs.Attributes as attributes
 use Rattle.wgsl_text.specs.Attributes.{WorkgroupSize}
 use Rattle.wgsl_text.specs.Declarations.{Program, no_declarations}
 use Rattle.wgsl_text.specs.Functions.{NoResult}
+use Rattle.wgsl_text.specs.Operators.{is_built_in}
 use Rattle.wgsl_text.specs.Types.{TypeSpecifier, of_two}
 use Rattle.wgsl_text.specs.WorkedTrees as worked
 use Rattle.text_meaning.specs.Resolution.{Item, StructItem, ValueItem, item_named, member_named}
@@ -28,7 +29,13 @@ use Rattle.text_meaning.specs.Resolution.{place_among, program_initialiser_targe
 use Rattle.text_meaning.specs.Resolution.{type_items}
 use Rattle.text_meaning.specs.Resolution.{types_are_not_hidden}
 use Prim.Native.String as native
+use Rattle.text_meaning.specs.Vocabulary.{vocabulary_read}
 use Rattle.module_meaning.specs.DeclaredItems.{handle_items, resolution_items, stage_variables}
+use Rattle.module_meaning.specs.ExpressionContexts.{expression_context}
+use Rattle.module_meaning.specs.ExpressionOperators.{constructor}
+use Rattle.module_meaning.specs.OperatorTable.{run_word}
+use Rattle.module_meaning.specs.Types.{called_spelling, spelled_resolution, type_names}
+use Rattle.module_meaning.specs.Undeclared.{declared_struct_names}
 use Rattle.module_meaning.specs.Resolution.{words_of_members}
 use Rattle.module_meaning.proofs.InterfaceExamples.{two}
 
@@ -115,6 +122,22 @@ struct_hidden = refl
 override_hidden : types_are_not_hidden (with_argument "depth") ≡ false
 override_hidden = refl
 
+-- a struct makes its values, and an override and a word that nothing declares make none
+abbrev makes_values : native.String → Bool
+makes_values w = (vocabulary_read text).is_operator (codes w)
+
+struct_makes : makes_values "S" ≡ true
+unfolding is_built_in
+struct_makes = refl
+
+override_makes_none : makes_values "depth" ≡ false
+unfolding is_built_in
+override_makes_none = refl
+
+nothing_makes_none : makes_values "frobnicate" ≡ false
+unfolding is_built_in
+nothing_makes_none = refl
+
 -- ---- a module
 module _ (other : ir_module.Module) (label : String Global) (members : Vec ir_member.StructMember Global)
     (o : ir_override.Override) (e : ir_entry_point.EntryPoint)
@@ -153,6 +176,24 @@ module _ (other : ir_module.Module) (label : String Global) (members : Vec ir_me
 
     scalar_meant : handle_items m 0 ≡ []
     scalar_meant = refl
+
+    -- by the name of a declared struct its values are made, and those of any other by an operator by
+    -- itself
+    abbrev structs_named : NameMap
+    structs_named (key.Type_ h) = Some (if h == 2 then codes "S" else codes "A")
+    structs_named other = None
+
+    declared_names : declared_struct_names structs_named m ≡ codes "S" ∷ codes "A" ∷ []
+    declared_names = refl
+
+    declared_called : called_spelling m (Handle 2) ≡ spelled_resolution (type_names m) (Handle 2)
+    declared_called = refl
+
+    undeclared_called : called_spelling m (Handle 1) ≡ None
+    undeclared_called = refl
+
+    undeclared_made : run_word (constructor (expression_context m (λ h. None)) (Handle 1) 2) ≡ 32 ∷ 2 ∷ 1 ∷ 1 ∷ []
+    undeclared_made = refl
 
     -- the members of a struct are named in their order, and a word is found at its member's place
     abbrev of_result : NameMap

@@ -10,8 +10,8 @@ use Rattle.module_meaning.specs.FunctionNumbers.{IsFunctionOf, all_functions, al
 use Rattle.module_meaning.specs.FunctionNumbers.{callee_count, entry_functions, function_number}
 use Rattle.naga_back.specs.declared.context.FunctionType.{FunctionType}
 use Rattle.naga_back.specs.declared.context.FunctionType.TheVariants as item
-use Rattle.std.proofs.Common.{◌≡◌, ℕ, zero, suc, ◌≤◌, ◌+◌, Bool, true, List, [], ◌∷◌, ◌++◌}
-use Rattle.std.proofs.Common.{refl, sym, ap, ◌∙◌, length, Some, slice_get, map, arith}
+use Rattle.std.proofs.Common.{◌≡◌, ℕ, ◌≤◌, ◌+◌, Bool, true, List}
+use Rattle.std.proofs.Common.{sym, ap, ◌∙◌, length, Some, slice_get, map, arith}
 use Rattle.std.proofs.Common.{◌⊎◌, inl, inr, eqb-true, ◌==◌, subst}
 use Rattle.std.specs.List.{list_all, zip}
 use Rattle.std.specs.Prelude.{IsTrue}

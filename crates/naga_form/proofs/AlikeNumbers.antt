@@ -2,7 +2,7 @@
 -- type is a pointer in the space of handles.
 use Rattle.std.proofs.Common.{◌≡◌, ℕ, zero, suc, Bool, true, false, List, [], ◌∷◌, ◌++◌, map, refl}
 use Rattle.std.proofs.Common.{sym, ap, ◌∙◌, codes, Option, Some, None, slice_get, get_or}
-use Rattle.std.proofs.Common.{if◌then◌else◌, ◌==◌, true≢false, not}
+use Rattle.std.proofs.Common.{if◌then◌else◌, ◌==◌, true≢false}
 use Rattle.std.proofs.Common.{eqb-true}
 use Rattle.std.proofs.lemmas.Bool.{and_parts, not-true}
 use Rattle.std.proofs.lemmas.Option.{same_Some}

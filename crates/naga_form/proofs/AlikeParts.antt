@@ -38,7 +38,7 @@ use Rattle.naga_words.specs.Spelling.{is_struct}
 use Rattle.module_meaning.specs.Ranges.{parts_before, parts_stand_before}
 use Rattle.module_meaning.proofs.Lists.{placed_at}
 use Rattle.module_meaning.specs.TypeIdentity.{identity, identity_code, word_of_unspelled_type, level, kind_number, vector_number, space_number, truth_number, dimension_number}
-use Rattle.module_meaning.specs.TypeParts.{part_type, pointed_part, member_type, has_computed_parts, inner_at}
+use Rattle.module_meaning.specs.TypeParts.{part_type, pointed_part, member_type, inner_at}
 use Rattle.module_meaning.proofs.TypeIdentity.{word_tells}
 use Rattle.naga_form.proofs.AlikeLaw.{form_apart, distinguished_by_itself, each_named, itself}
 use Rattle.naga_form.proofs.AlikeLaw.{itself_back}

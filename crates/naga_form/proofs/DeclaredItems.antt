@@ -4,7 +4,7 @@ use Rattle.std.proofs.Common.{sym, ap, ◌∙◌, map, slice_get, suc, ◌+◌, 
 use Rattle.std.specs.List.{enumerate_from}
 use Rattle.std.specs.Option.{option_map, option_or}
 use Rattle.std.specs.Prelude.{IsTrue}
-use Rattle.std.proofs.lemmas.Bool.{and_from, and_parts, false_from_ne_true}
+use Rattle.std.proofs.lemmas.Bool.{and_from, false_from_ne_true}
 use Rattle.std.proofs.lemmas.List.{map-append}
 use Rattle.std.proofs.lemmas.Option.{same_Some}
 use Rattle.naga_info.specs.declared.info.ModuleInfo.{ModuleInfo}

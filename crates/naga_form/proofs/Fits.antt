@@ -1,7 +1,7 @@
 -- Lemmas of lists that are made from others, and of how many names front ends gave.
 use Rattle.std.proofs.Common.{[], ◌≡◌, ℕ, suc, zero, Bool, true, false, List, ◌∷◌, map, ◌++◌, ◌&&◌}
 use Rattle.std.proofs.Common.{length, Some, None, Option, refl, sym, ap, ◌∙◌, ◌+◌, ◌<◌, nat_eq, nat_lt}
-use Rattle.std.proofs.Common.{◌-◌, codes, arith, add-one, add-zero, zero-add, length-append, string_bytes}
+use Rattle.std.proofs.Common.{◌-◌, arith, add-one, add-zero, zero-add, length-append, string_bytes}
 use Rattle.std.specs.Prelude.{slice_get, unwrap_or, get_or, cond, if◌then◌else◌}
 use Rattle.std.specs.List.{list_any}
 use Rattle.std.specs.Option.{is_some, option_map, option_to_list}
@@ -12,11 +12,9 @@ use Rattle.naga_ir.specs.StatementTree.{switch, loop, BlockTree, no_statements, 
 use Rattle.naga_ir.specs.StatementTree.{CaseTrees, no_cases, case}
 use Rattle.naga_ir.specs.declared.expression.Expression as ir
 use Rattle.naga_ir.specs.declared.module.Function as ir_function
-use Rattle.naga_ir.specs.declared.module.LocalVariable.{LocalVariable}
 use Rattle.naga_ir.specs.declared.module.Module.{Module}
 use Rattle.naga_info.specs.declared.info.ExpressionInfo.{ExpressionInfo}
 use Rattle.naga_info.specs.declared.info.ModuleInfo.{ModuleInfo}
-use Rattle.naga_names.specs.Reset.{LabelledItem}
 use Rattle.shader_runs.specs.Value.{ValueType, BooleanType, type_at}
 use Rattle.shader_runs.specs.Program as shapes
 use Rattle.shader_runs.specs.Program.{is_named, from}
@@ -31,8 +29,6 @@ use Rattle.module_meaning.specs.Shapes.{named_from}
 use Rattle.module_meaning.specs.StatementShapes.{store_shape}
 use Rattle.module_meaning.specs.ExpressionContexts.{declared, types_known}
 use Rattle.indexmap.specs.IndexMap.{get, keys}
-use Rattle.naga_names.specs.Naming.{label_or}
-use Rattle.naga_names.specs.declared.key.NameKey.TheVariants as key
 
 -- what stands at an index of a list made from other things
 pub mapped_at : {X Y : Type 0} (t : X → Y) (d : Y) (xs : List X) (i : ℕ) (x : X) → slice_get xs i ≡ Some x → get_or (map t xs) i d ≡ t x

@@ -6,10 +6,10 @@
 -- w one as it is written, ks and ws are lists of these, i is the number of a member, f tells how the struct
 -- of a name is laid out, levels is how deep structs are in one another, and depth how deep types are.
 use Rattle.std.proofs.Common.{◌≡◌, ◌<◌, ◌≤◌, ◌+◌, ℕ, zero, suc, Bool, true, false, List, [], ◌∷◌}
-use Rattle.std.proofs.Common.{Option, Some, None, refl, sym, ap, subst, ◌∙◌, arith, codes, length, map, take}
-use Rattle.std.specs.Prelude.{◌&&◌, IsTrue, if◌then◌else◌, nat_lt, not, slice_get, unwrap_or}
+use Rattle.std.proofs.Common.{Option, Some, None, refl, sym, ap, subst, ◌∙◌, arith, codes, length, map}
+use Rattle.std.specs.Prelude.{if◌then◌else◌, nat_lt, not, slice_get, unwrap_or}
 use Rattle.std.specs.Int.NonZero.{non_zero_u32_get}
-use Rattle.std.specs.List.{enumerate_from, filter, list_all}
+use Rattle.std.specs.List.{enumerate_from, list_all}
 use Rattle.std.specs.Option.{is_none, option_and_then, option_map, option_map_or}
 use Rattle.std.proofs.lemmas.Bool.{and_parts, ltb-true}
 use Rattle.std.proofs.lemmas.Option.{same_Some}
@@ -23,8 +23,8 @@ use Rattle.naga_ir.specs.declared.types.Type_.{Type_}
 use Rattle.naga_ir.specs.declared.types.TypeInner.{TypeInner}
 use Rattle.naga_ir.specs.declared.types.TypeInner.TheVariants as inner
 use Rattle.naga_layout.proofs.Levels.{layout_is}
-use Rattle.naga_layout.specs.Types.{StandInOrder, component_number, has_atomic_size, has_row, has_size, is_number}
-use Rattle.naga_layout.specs.Types.{is_wide, kept_members, kept_struct, laid_array, layout_at, layout_within, named_layout_by, parts_before, placed_member, placed_members, told_length}
+use Rattle.naga_layout.specs.Types.{StandInOrder, component_number, has_atomic_size, has_size, is_number}
+use Rattle.naga_layout.specs.Types.{is_wide, kept_members, kept_struct, layout_at, layout_within, named_layout_by, parts_before, placed_member, placed_members, told_length}
 use Rattle.naga_names.specs.Keys.{NameMap}
 use Rattle.naga_names.specs.Reset.{members_of}
 use Rattle.naga_words.specs.Contexts.{Names as TypeNames}
@@ -34,15 +34,14 @@ use Rattle.module_meaning.specs.Names.{module_names}
 use Rattle.module_meaning.specs.Types.{type_names}
 use Rattle.module_meaning.specs.Undeclared.{is_declared, is_undeclared}
 use Rattle.text_meaning.specs.Attributes.{size_read}
-use Rattle.text_meaning.specs.Layout.{length_read, member_laid, members_laid, members_named, struct_named, struct_within, scalar_or_struct, scalar_size, type_layout_by}
+use Rattle.text_meaning.specs.Layout.{member_laid, members_laid, members_named, struct_named, struct_within, scalar_or_struct, type_layout_by}
 use Rattle.wgsl_layout.proofs.Concerned.{HaveLayoutsOf, kept_concerned, sized_have_layouts}
 use Rattle.wgsl_layout.specs.Members.{are_kept, greatest_placed, is_concerned, written_members}
 use Rattle.wgsl_layout.specs.Rules.{Member, array_layout, matrix_layout, scalar_layout, struct_layout, vector_layout}
 use Rattle.wgsl_layout.specs.declared.layouts.Layout.{Layout}
 use Rattle.wgsl_layout.specs.declared.layouts.Placed.{Placed}
-use Rattle.wgsl_text.specs.Attributes.{Numbered, Size}
 use Rattle.wgsl_text.specs.Declarations.{Struct}
-use Rattle.wgsl_text.specs.Types.{TypeSpecifier, Named, Template, NoTemplateArguments, TypeArgument, SizeArgument, of_one}
+use Rattle.wgsl_text.specs.Types.{TypeSpecifier, Named, of_one}
 use Rattle.wgsl_text.specs.Words.{IsIdentifier}
 use Rattle.naga_form.proofs.LayoutWords.{atomic_is_read, atomic_over, matrix_over, no_scalar, scalar_is_read, vector_over}
 use Rattle.naga_form.specs.Attributes.{member_attributes}

@@ -4,9 +4,9 @@
 -- name is laid out.
 use Rattle.std.proofs.Common.{◌≡◌, ℕ, Bool, true, false, List, [], ◌∷◌, Option, Some, None}
 use Rattle.std.proofs.Common.{refl, sym, ap, ◌∙◌, codes}
-use Rattle.std.specs.Prelude.{◌&&◌, ◌||◌, ◌==◌, IsFalse, if◌then◌else◌}
+use Rattle.std.specs.Prelude.{if◌then◌else◌}
 use Rattle.std.specs.List.{list_all}
-use Rattle.std.specs.Option.{option_and_then, option_map}
+use Rattle.std.specs.Option.{option_and_then}
 use Rattle.std.specs.Str.{bytes_eq}
 use Rattle.std.proofs.lemmas.Bool.{and_parts, false≢true}
 use Rattle.std.proofs.lemmas.Slice.Eq.{bytes_eq-Decides}
@@ -19,15 +19,14 @@ use Rattle.naga_layout.proofs.Widths.{atomic_width_is, width_is}
 use Rattle.naga_layout.specs.Capped.{IsWidth, Two, Four, Eight}
 use Rattle.naga_layout.specs.Types.{component_number, has_atomic_size, has_size, is_number, is_wide}
 use Rattle.naga_words.specs.Words.{matrix_word, vector_word}
-use Rattle.text_meaning.specs.Layout.{among, over_scalar, scalar_size, type_layout_by, vector_or_other}
-use Rattle.text_meaning.specs.Layout.{matrix_or_atomic, matrix_size, vector_size}
+use Rattle.text_meaning.specs.Layout.{among, scalar_size, type_layout_by, vector_or_other}
+use Rattle.text_meaning.specs.Layout.{vector_size}
 use Rattle.wgsl_layout.specs.Rules.{matrix_layout, scalar_layout, vector_layout}
 use Rattle.wgsl_layout.specs.declared.layouts.Layout.{Layout}
 use Rattle.wgsl_text.specs.Keywords.{builtin_words}
-use Rattle.wgsl_text.specs.Types.{TypeSpecifier, Named, of_one}
+use Rattle.wgsl_text.specs.Types.{Named, of_one}
 use Rattle.wgsl_text.specs.Words.{IsIdentifier, is_builtin}
 use Rattle.wgsl_words.specs.Words.{scalar_word}
-use Rattle.naga_form.specs.TypeTrees.{scalar_tree, vector_tree}
 
 -- ---- scalars
 -- a number with a size has a word, which says how many bytes it has

@@ -5,7 +5,7 @@
 -- a struct as the module places them, k is the first of them, xs are items or structs, n is how many are
 -- taken, i a place, w a word, s a struct that is written, and labels tells the names of the labels that
 -- front ends gave.
-use Rattle.std.proofs.Common.{◌≡◌, ◌≤◌, ℕ, zero, suc, Bool, true, false, List, [], ◌∷◌, Option, Some, None}
+use Rattle.std.proofs.Common.{◌≡◌, ◌≤◌, ℕ, zero, suc, Bool, true, false, List, [], ◌∷◌, Some, None}
 use Rattle.std.proofs.Common.{refl, sym, ap, subst, ◌∙◌, arith, length, map, take}
 use Rattle.std.specs.Prelude.{IsTrue, if◌then◌else◌, not, slice_get}
 use Rattle.std.specs.List.{cons_option, enumerate_from, filter, filter_map, find}
@@ -35,7 +35,7 @@ use Rattle.module_meaning.specs.Names.{LabelNames, module_names, name_in}
 use Rattle.module_meaning.specs.Ranges.{parts_stand_before}
 use Rattle.module_meaning.specs.Types.{type_names}
 use Rattle.module_meaning.specs.Undeclared.{is_declared, is_undeclared}
-use Rattle.text_meaning.specs.Layout.{offsets_read, size_of_struct_read, struct_layout_read, struct_named, struct_within}
+use Rattle.text_meaning.specs.Layout.{struct_layout_read, struct_named}
 use Rattle.text_meaning.specs.Resolution.{place_among}
 use Rattle.wgsl_layout.proofs.Faults.{all_kept}
 use Rattle.wgsl_layout.proofs.Kept.{AllAligned, offsets_kept, span_kept, struct_kept}

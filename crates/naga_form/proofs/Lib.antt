@@ -68,6 +68,7 @@ pub mod Ordered
 pub mod OutsideWords
 pub mod PartTypes
 pub mod PartsFit
+pub mod PlaceParts
 pub mod PlainForms
 pub mod PointerParts
 pub mod Programs
@@ -90,7 +91,7 @@ pub mod StageTargets
 pub mod StatementPrograms
 pub mod SwitchLabels
 pub mod Switches
-pub mod TakenParts
+pub mod TakenMembers
 pub mod TextItems
 pub mod DistinguishedItems
 pub mod TreeWords

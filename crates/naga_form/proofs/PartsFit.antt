@@ -5,7 +5,7 @@ use Rattle.naga_form.proofs.AgreeingUses.{value_is}
 use Rattle.module_meaning.specs.Names.{ItemsAreDistinguished}
 use Rattle.std.proofs.Common.{◌≡◌, ℕ, Bool, true, false, List, [], ◌∷◌, refl, sym, ap, ◌∙◌, subst, length}
 use Rattle.std.proofs.Common.{Option, Some, None, slice_get, if◌then◌else◌, arith, get_or}
-use Rattle.std.specs.Prelude.{IsTrue, unwrap_or}
+use Rattle.std.specs.Prelude.{IsTrue, ℤ, pos, unwrap_or}
 use Rattle.std.specs.Option.{option_map, option_map_or, option_and_then, is_some}
 use Rattle.std.proofs.lemmas.Bool.{and_parts}
 use Rattle.std.proofs.lemmas.Option.{same_Some}
@@ -24,24 +24,23 @@ use Rattle.naga_ir.specs.declared.types.ScalarKind.TheVariants as kind
 use Rattle.naga_ir.specs.declared.types.TypeInner.{TypeInner}
 use Rattle.naga_ir.specs.declared.types.TypeInner.TheVariants as inner
 use Rattle.naga_ir.specs.declared.types.Type_.{Type_}
-use Rattle.naga_info.specs.Resolution.{inner_of}
+use Rattle.naga_info.specs.Resolution.{inner_of, handle_of}
 use Rattle.naga_info.specs.declared.info.ExpressionInfo.{ExpressionInfo}
 use Rattle.naga_info.specs.declared.info.ModuleInfo.{ModuleInfo}
 use Rattle.naga_info.specs.declared.info.TypeResolution.{TypeResolution}
 use Rattle.naga_info.specs.declared.info.TypeResolution.TheVariants.{Handle, Value}
 use Rattle.wgsl_words.specs.Words.{scalar_word}
 use Rattle.shader_runs.specs.Program.{Expression, Function, Load, Request, Result, no_constant, expression_of, handle_type}
-use Rattle.shader_runs.specs.Typing.{AccessFits, AccessIndexFits, LogicalFits, PartsFit}
-use Rattle.shader_runs.specs.Value.{Bytes, Selector, Step, At, step_of, same_type, PartTypes}
+use Rattle.shader_runs.specs.Typing.{AccessFits, AccessIndexFits, IsPart, LogicalFits, PartsFit}
+use Rattle.shader_runs.specs.Value.{Bytes, Selector, step_at, step_to, PartTypes}
 use Rattle.shader_runs.specs.Value.{ValueType, BooleanType, IntegerType, PointerType, OtherType}
-use Rattle.shader_runs.proofs.Update.{same_type_self}
 use Rattle.module_meaning.specs.Accepted.{is_accepted}
 use Rattle.module_meaning.specs.AgreeingOperators.{Group, function_group}
 use Rattle.module_meaning.specs.AlikeTypes.{type_key, type_identity, handle_key, inner_key, key_within, found_key_by, named_key_by, scalar_key}
 use Rattle.module_meaning.specs.ExpressionOperators.{constructor, cast, cast_to, type_known, is_atomic_pointer, matrix_load, query_operator}
-use Rattle.module_meaning.specs.ExpressionShapes.{part_selector, part_shape, shape_of, applied_or, asking}
+use Rattle.module_meaning.specs.ExpressionShapes.{part_selector, selector, part_shape, shape_of, applied_or, asking}
 use Rattle.naga_ir.specs.Literals.{scalar_of}
-use Rattle.module_meaning.specs.ExpressionTypes.{is_bool, is_bool_of, logical_type, binary_type, wanted_type, Anything, LikeThis, is_wanted}
+use Rattle.module_meaning.specs.ExpressionTypes.{is_bool, is_bool_of, logical_type, binary_type, wanted_type, Anything, LikeThis, is_wanted, if_any, only}
 use Rattle.module_meaning.specs.FunctionShapes.{function_shape}
 use Rattle.module_meaning.specs.OperandDemands.{operand_is, is_integer, is_integer_kind}
 use Rattle.module_meaning.specs.OperatorTable.{Operator as TableOperator, BinarySign, WithoutForm, Formless, ValueOf, Construct, CooperativeLoad, AtomicLoad, asks, run_word}
@@ -49,15 +48,15 @@ use Rattle.module_meaning.specs.Shapes.{operator_shape}
 use Rattle.module_meaning.specs.ExpressionContexts.{declared, expression_context, types_known}
 use Rattle.module_meaning.specs.Types.{scalar_values, type_of_values, word_of_values, values_of}
 use Rattle.module_meaning.specs.TypeIdentity.{identity, identity_code, word_of_unspelled_type, level, kind_number}
-use Rattle.module_meaning.specs.TypeParts.{known_inner, has_computed_parts}
+use Rattle.module_meaning.specs.TypeParts.{known_inner, has_computed_parts, is_part_number, part_type}
 use Rattle.module_meaning.specs.Types.{called_spelling}
 use Rattle.naga_form.proofs.AcceptedGroups.{IsSoundGroup, types_are_counted, operands_known, own_known}
 use Rattle.naga_form.proofs.ModulePlaces.{expression_is, handle_type_is}
 use Rattle.naga_form.proofs.SameValues.{TypesAreCounted, IsFit, numbers_by_values, values_by_numbers}
-use Rattle.std.proofs.lemmas.Bool.{and_from}
-use Rattle.module_meaning.specs.ModuleShapes.{module_shape, same_step, part_words, takes_part, points_so}
-use Rattle.naga_form.proofs.PointerParts.{same_step_self}
-use Rattle.naga_form.proofs.TakenParts.{taken_spelled}
+use Rattle.module_meaning.specs.ModuleShapes.{module_shape}
+use Rattle.module_meaning.specs.PlaceParts.{place_parts}
+use Rattle.naga_form.proofs.PlaceParts.{IsPointer, element_at, element_to, member_to}
+use Rattle.naga_form.proofs.PointerParts.{points_as, some_there, part_of, IsPart as NamedPart, ElementPart, MemberPart, member_is}
 use Rattle.naga_form.proofs.WellFormed.{values_are}
 
 -- ---- scalars
@@ -134,7 +133,7 @@ module _ (m : ir_module.Module) (info : ModuleInfo) (accepted : IsTrue (is_accep
     shape = function_shape m info function es
 
     abbrev parts : PartTypes
-    parts = part_words m info
+    parts = place_parts m info
 
     -- the type that is known of an expression
     record IsKnown (k : ℕ) : Type 0 where
@@ -161,42 +160,49 @@ module _ (m : ir_module.Module) (info : ModuleInfo) (accepted : IsTrue (is_accep
           (bytes_eq-Decides (type_identity m.types own.r) (type_identity m.types p)).0
           (sym (ap (λ w. is_wanted m.types w own.r) wanted) ∙ sound.typed h e own.r at own.there)
 
-    -- what takes a part of a pointer gives a pointer to it
-    part_taken_by : (e : ir.Expression) (at : slice_get function.expressions h ≡ Some e) (whole : Bytes) (step : Step) → takes_part (declared m info (types_known es)) whole step e ≡ true →
-        type_of_values m (own e at).r ≡ PointerType (parts whole step)
-    part_taken_by e at whole step takes =
-        taken_spelled m info accepted distinguished whole step (own e at).r (record {
-          function = Some function;
+    -- a pointer
+    pointer_is : (base : ℕ) (b : IsKnown base) (whole : Bytes) → type_of_values m b.r ≡ PointerType whole → IsPointer m info accepted distinguished b.r whole
+    pointer_is base b whole values =
+        let k = points_as m b.r whole values in
+        record {
           group = g;
-          sound = sound;
-          handle = h;
-          expression = e;
-          there = at;
-          known = (own e at).there;
-          takes = takes;
-        })
-
-    pointed_so : (base : ℕ) (b : IsKnown base) (whole : Bytes) → type_of_values m b.r ≡ PointerType whole → points_so (declared m info (types_known es)) whole base ≡ true
-    pointed_so base b whole is =
-        ap (λ o. option_map_or (λ r. same_type (type_of_values m r) (PointerType whole)) o false) b.there
-        ∙ (ap (λ v. same_type v (PointerType whole)) is ∙ same_type_self (PointerType whole))
+          group_there = sound.place;
+          handle = base;
+          known = b.there;
+          fit = b.fit;
+          values = values;
+          it = k.it;
+          itself = k.itself;
+          points = k.points;
+        }
 
     -- an index that is computed
     module _ (base index : ℕ) (at : slice_get function.expressions h ≡ Some (expression.Access base index)) (b : IsKnown base) (i : IsKnown index) where
       abbrev accessed : ir.Expression
       accessed = expression.Access base index
 
+      demanded : (operand_is m.types g.known (has_computed_parts m.types) base ≡ true) × (operand_is m.types g.known is_integer index ≡ true)
+      demanded = and_parts (operand_is m.types g.known (has_computed_parts m.types) base) (operand_is m.types g.known is_integer index) (sound.demands h accessed at)
+
       index_values : (w : Bytes) × (type_of_values m i.r ≡ IntegerType w)
       index_values =
-          let demanded = and_parts (operand_is m.types g.known (has_computed_parts m.types) base) (operand_is m.types g.known is_integer index) (sound.demands h accessed at) in
           integer_values m i.r
           (sym (ap (λ o. option_map_or is_integer (option_and_then (λ r. inner_of r m.types) o) false) i.there) ∙ demanded.1)
 
+      element_fits : (whole : Bytes) → type_of_values m b.r ≡ PointerType whole → (n : ℤ) → IsPart (parts whole) (step_at (parts whole) n) (type_of_values m (own accessed at).r)
+      element_fits whole is =
+          let a = pointer_is base b whole is in
+          let p = some_there (part_type m.types a.it None)
+          (sym (ap (λ o. option_map_or (has_computed_parts m.types) (option_and_then (λ r. inner_of r m.types) o) false) b.there
+          ∙ ap (λ o. option_map_or (has_computed_parts m.types) o false) a.itself) ∙ demanded.0) in
+          element_at m info accepted distinguished b.r whole a p.0 p.1 (own accessed at).r (own accessed at).fit
+          (own_alike accessed at p.0
+          (ap (λ o. only (option_and_then (λ it. part_type m.types it None) (option_and_then (λ r. inner_of r m.types) o))) b.there
+          ∙ (ap (λ o. only (option_and_then (λ it. part_type m.types it None) o)) a.itself ∙ ap only p.1)))
+
       access_by : (x : ValueType) → type_of_values m b.r ≡ x → (y : ValueType) → type_of_values m i.r ≡ y → (z : ValueType) → type_of_values m (own accessed at).r ≡ z → AccessFits parts x y z
       access_by (PointerType whole) is (IntegerType w) index_is z gives =
-          λ n. sym gives
-          ∙ part_taken_by accessed at whole (At n)
-          (and_from (points_so (declared m info (types_known es)) whole base) true (pointed_so base b whole is) refl)
+          λ n. subst (IsPart (parts whole) (step_at (parts whole) n)) gives (element_fits whole is n)
       access_by (PointerType whole) is y index_is z gives = let same : y ≡ IntegerType index_values.0 = sym index_is ∙ index_values.1 in absurd cc
       access_by x is y index_is z gives = tt
 
@@ -214,12 +220,46 @@ module _ (m : ir_module.Module) (info : ModuleInfo) (accepted : IsTrue (is_accep
       abbrev named : ir.Expression
       named = expression.AccessIndex base index
 
+      part_fits_by : (whole : Bytes) → type_of_values m b.r ≡ PointerType whole → IsPart (parts whole) (step_to (parts whole) s) (type_of_values m (own named at).r)
+      part_fits_by whole is =
+          supported
+          (part_of m info (types_known es) index s a.it a.points (handle_of b.r)
+          (sym (ap (option_and_then (λ r. option_and_then (λ it. selector (declared m info (types_known es)) (handle_of r) it index) (inner_of r m.types))) b.there
+          ∙ ap (option_and_then (λ it. selector (declared m info (types_known es)) (handle_of b.r) it index)) a.itself) ∙ selected)
+          (sym (ap (λ o. option_map_or (λ it. is_part_number m.types it index) (option_and_then (λ r. inner_of r m.types) o) false) b.there
+          ∙ ap (λ o. option_map_or (λ it. is_part_number m.types it index) o false) a.itself) ∙ sound.demands h named at))
+        where
+          a : IsPointer m info accepted distinguished b.r whole
+          a = pointer_is base b whole is
+
+          part_wanted : (p : TypeResolution) → part_type m.types a.it (Some index) ≡ Some p → type_identity m.types (own named at).r ≡ type_identity m.types p
+          part_wanted p part =
+              own_alike named at p
+              (ap (λ o. if_any (option_and_then (λ it. part_type m.types it (Some index)) (option_and_then (λ r. inner_of r m.types) o))) b.there
+              ∙ (ap (λ o. if_any (option_and_then (λ it. part_type m.types it (Some index)) o)) a.itself ∙ ap if_any part))
+
+          supported : NamedPart m info (types_known es) a.it index s → IsPart (parts whole) (step_to (parts whole) s) (type_of_values m (own named at).r)
+          supported (ElementPart p there any step) =
+              element_to m info accepted distinguished b.r whole a p any (own named at).r (own named at).fit (part_wanted p there) s (pos index) step
+          supported (MemberPart k) =
+              member_to m info accepted distinguished b.r whole a index s (types_known es) k (own named at).r (own named at).fit
+              (part_wanted (Value (inner.Pointer k.member.ty k.at)) (member_is m info (types_known es) a.it index s k)) (record {
+                function = Some function;
+                group = g;
+                sound = sound;
+                handle = h;
+                base = base;
+                index = index;
+                there = at;
+                known = (own named at).there;
+                pointer = b.r;
+                base_known = b.there;
+                points = is;
+                selected = selected ∙ ap Some k.selected;
+              })
+
       named_by : (x : ValueType) → type_of_values m b.r ≡ x → (z : ValueType) → type_of_values m (own named at).r ≡ z → AccessIndexFits parts s x z
-      named_by (PointerType whole) is z gives =
-          sym gives
-          ∙ part_taken_by named at whole (step_of s)
-          (and_from (points_so (declared m info (types_known es)) whole base) _ (pointed_so base b whole is)
-          (ap (λ o. option_map_or (λ t. same_step (step_of t) (step_of s)) o false) selected ∙ same_step_self (step_of s)))
+      named_by (PointerType whole) is z gives = subst (IsPart (parts whole) (step_to (parts whole) s)) gives (part_fits_by whole is)
       named_by x is z gives = tt
 
     part_fits : (base index : ℕ) →

@@ -3,7 +3,7 @@
 use Rattle.std.proofs.Common.{◌≡◌, ℕ, ◌<◌, ◌≤◌, Bool, true, false, ◌&&◌, List, [], ◌∷◌, ◌++◌}
 use Rattle.std.proofs.Common.{length, refl, sym, ap, subst, ◌∙◌, arith, nat_eq, ◌+◌, Option, Some}
 use Rattle.std.proofs.Common.{None, ◌^◌, true≢false, length-append}
-use Rattle.std.specs.Prelude.{IsTrue, slice_get, cond, if◌then◌else◌}
+use Rattle.std.specs.Prelude.{slice_get, cond, if◌then◌else◌}
 use Rattle.std.specs.List.{AllByRecursion, filter}
 use Rattle.std.specs.Option.{is_some, option_map, option_to_list}
 use Rattle.std.proofs.lemmas.Option.{slice_get_within}

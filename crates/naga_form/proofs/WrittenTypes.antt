@@ -3,7 +3,7 @@
 use Rattle.std.proofs.Common.{[], ◌≡◌, ℕ, zero, suc, ◌<◌, Bool, true, false, List, ◌∷◌, ◌++◌}
 use Rattle.std.proofs.Common.{Option, Some, None, refl, sym, ap, subst, slice_get}
 use Rattle.std.proofs.Common.{codes, true≢false}
-use Rattle.std.specs.Prelude.{if◌then◌else◌, unwrap_or, ◌⊎◌, ◌||◌, not}
+use Rattle.std.specs.Prelude.{if◌then◌else◌, unwrap_or, ◌⊎◌, not}
 use mathlib.Core.Logic.{inl, inr}
 use Rattle.std.specs.List.{AllByRecursion}
 use Rattle.std.specs.Option.{is_some, option_map}
@@ -32,7 +32,7 @@ use Rattle.naga_words.specs.Spelling.{is_struct, length_within, size_within}
 use Rattle.naga_words.specs.Words.{sampler_word}
 use Rattle.module_meaning.specs.AlikeTypes.{is_spelled, type_key as form_numbers}
 use Rattle.module_meaning.specs.InfoSizes.{is_handle_pointer, is_handle_space, resolution_is_fit}
-use Rattle.module_meaning.specs.Undeclared.{is_undeclared, names_undeclared}
+use Rattle.module_meaning.specs.Undeclared.{names_undeclared}
 use Rattle.module_meaning.specs.Types.{type_names}
 use Rattle.wgsl_text.proofs.Building.{in_front}
 use Rattle.wgsl_text.proofs.ValueWords.{value_words}

@@ -42,6 +42,6 @@ request_words =
     codes "storageBarrier" ∷ codes "workgroupBarrier" ∷ codes "subgroupBarrier" ∷
     codes "textureBarrier" ∷ []
 
--- the word asks for an event; others with operands are operators, whatever their parts
+-- the word asks for an event, whatever its parts
 unfoldable pub is_request : List ℕ → Bool
 is_request word = stands_in request_words (head_word word)
