@@ -3,7 +3,8 @@
 -- Throughout, fs are functions from the number g on, ps are entry points, ess says what is known of
 -- each, i is the place of one among them, and named tells the names of the labels that front ends gave.
 use Rattle.std.proofs.Common.{◌≡◌, ℕ, zero, suc, ◌+◌, ◌∙◌, Bool, List, [], ◌∷◌, ◌++◌, Some, ap, arith}
-use Rattle.std.proofs.Common.{◌<◌, length, slice_get, subst, sym, unwrap_or}
+use Rattle.std.proofs.Common.{◌<◌, false, length, nat_eq, refl, slice_get, subst, sym, true, unwrap_or}
+use Rattle.std.proofs.lemmas.Bool.{eqb-false, eqb-true}
 use Rattle.std.specs.Prelude.{IsTrue}
 use Rattle.std.proofs.lemmas.Option.{same_Some, slice_get_within}
 use Rattle.naga_info.specs.declared.info.ExpressionInfo.{ExpressionInfo}
@@ -13,24 +14,23 @@ use Rattle.naga_ir.specs.declared.module.Function as ir_function
 use Rattle.naga_ir.specs.declared.module.Module.{Module}
 use Rattle.naga_names.specs.Keys.{NameMap}
 use Rattle.module_meaning.specs.Accepted.{is_accepted}
-use Rattle.module_meaning.specs.DeclarationForms.{DeclarationsHaveForms}
 use Rattle.module_meaning.specs.Names.{AreLabelNames, LabelNames, item_labels, module_names}
-use Rattle.module_meaning.specs.Premises.{ScopesHold}
-use Rattle.module_meaning.specs.Written.{AllWrittenHaveForms}
 use Rattle.naga_form.specs.Declarations.{entry_point_under, entry_points_under, program_under}
 use Rattle.naga_form.specs.Functions.{function_form, functions_under}
-use Rattle.module_meaning.specs.FunctionNumbers.{all_functions}
+use Rattle.module_meaning.specs.FunctionNumbers.{all_functions, function_number}
 use Rattle.module_meaning.proofs.FunctionNumbers.{function_among, info_among}
 use Rattle.naga_form.proofs.AcceptedFunctions.{entry_info_among, entry_points_counted}
 use Rattle.naga_form.proofs.AcceptedFunctions.{functions_counted}
-use Rattle.naga_form.proofs.Bindings.{binds_as_under}
 use Rattle.naga_names.proofs.Refusal.{element}
 use Rattle.naga_wgsl_fns.specs.Functions.{known_of}
 use Rattle.naga_form.proofs.ExpressionNames.{names_behind_are}
 use Rattle.naga_form.proofs.Interface.{has_interface_under}
-use Rattle.naga_form.proofs.Resolution.{resolves_under}
-use Rattle.naga_form.proofs.Runs.{runs_as_under}
-use Rattle.naga_wgsl_fns.specs.Items.{MeansTheModule, names_behind, program_behind}
+use Rattle.naga_form.proofs.OneFunction.{binds_at, resolves_at, runs_at}
+use Rattle.naga_back.specs.declared.context.FunctionType.{FunctionType}
+use Rattle.naga_back.specs.declared.flags.WriterFlags.{WriterFlags}
+use Rattle.naga_wgsl_fns.specs.FunctionText.{annotates_types}
+use Rattle.naga_wgsl_fns.specs.Items.{IsMeant, StandsIn, names_behind, program_behind}
+use Rattle.naga_wgsl_fns.specs.Refusals.{IsWritableAt}
 
 module _ (named : LabelNames) (explicit : Bool) (names : NameMap) (m : Module) (info : ModuleInfo) where
   -- one of the functions
@@ -114,20 +114,34 @@ module _ (named : LabelNames) (explicit : Bool) (m : Module) (info : ModuleInfo)
       ∙ ap (λ es. Some (entry_point_under named explicit (module_names m) m info (length m.functions + j) p es))
       alike
 
+-- what holds before a number and of it
+up_to : {P : ℕ → Type 0} (number : ℕ) → ((g : ℕ) → g < number → P g) → P number → (g : ℕ) → g < suc number → P g
+up_to {P} number before own g lt = by (nat_eq g number) refl
+  where
+    by : (b : Bool) → nat_eq g number ≡ b → P g
+    by true same = subst P (sym (eqb-true g number same)) own
+    by false other = before g (let apart = eqb-false g number other in omega (arith, lt, apart))
+
 -- behind the labels of the items and any others
-pub means_the_module : (explicit : Bool) (m : Module) (info : ModuleInfo) →
-    IsTrue (is_accepted m info) → (number : ℕ) (earlier later : List (List ℕ)) →
-    earlier ≡ item_labels m ++ later → DeclarationsHaveForms m →
-    AllWrittenHaveForms explicit m info → ScopesHold m info →
-    MeansTheModule (names_behind m earlier number) explicit m info
-    (program_behind explicit m info earlier number)
-means_the_module explicit m info accepted number earlier later is declarations have scopes =
+pub is_meant : (flags : WriterFlags) (m : Module) (info : ModuleInfo) → IsTrue (is_accepted m info) →
+    (ty : FunctionType) (earlier later : List (List ℕ)) → earlier ≡ item_labels m ++ later →
+    IsWritableAt (annotates_types flags) m info earlier (function_number m ty) →
+    (content now : List ℕ) →
+    StandsIn ty content now (program_behind (annotates_types flags) m info earlier (function_number m ty)) →
+    IsMeant (annotates_types flags) m info earlier ty content now
+is_meant flags m info accepted ty earlier later is writable content now stands =
+    let explicit = annotates_types flags in
+    let number = function_number m ty in
     let named = names_behind m earlier number in
     let are : AreLabelNames m named =
     subst (λ e. AreLabelNames m (names_behind m e number)) (sym is) (names_behind_are m number later) in
     record {
-      interface = has_interface_under m info explicit named are accepted declarations have scopes;
-      bindings = binds_as_under m info explicit named accepted declarations have;
-      resolution = resolves_under m info explicit named are accepted declarations have scopes;
-      runs = runs_as_under m info explicit named are accepted declarations have scopes;
+      stands = stands;
+      bindings = binds_at m info explicit named accepted number writable.formed;
+      resolution = λ declarations.
+          resolves_at m info explicit named accepted are declarations number writable.formed writable.in_scope;
+      runs = λ declarations have scopes.
+          runs_at m info explicit named accepted are declarations number
+          (up_to number have writable.formed) (up_to number scopes writable.in_scope);
+      interface = λ declarations have. has_interface_under m info explicit named accepted declarations have;
     }

@@ -50,13 +50,13 @@ use Rattle.naga_wgsl_fns.specs.Functions.{known_of, names_of, stage_before, text
 use Rattle.naga_wgsl_fns.specs.Items.{AppendsOne, FunctionWriting, IsFunctionRefusal}
 use Rattle.naga_wgsl_fns.specs.Items.{HasNamedItemsOf, StandsIn, named_behind, names_behind}
 use Rattle.naga_wgsl_fns.specs.Items.{program_behind, text_behind}
-use Rattle.naga_wgsl_fns.specs.Refusals.{IsPlanRefusal, TellsOfModule}
+use Rattle.naga_wgsl_fns.specs.Refusals.{IsPlanRefusal, IsWritableAt, TellsOfModule}
 use Rattle.naga_wgsl_fns.specs.Stages.{stage_text}
 use Rattle.naga_wgsl_fns.specs.declared.error.Error.{Error}
 use Rattle.naga_wgsl_fns.specs.declared.error.Error.TheVariants.{FmtError, Memory}
 use Rattle.naga_wgsl_fns.proofs.ExpressionNames.{named_are, none_full}
 use Rattle.naga_wgsl_fns.proofs.FunctionRows.{no_entry_point, point_within}
-use Rattle.naga_wgsl_fns.proofs.MeantFunctions.{means_the_module, own_function, own_point}
+use Rattle.naga_wgsl_fns.proofs.MeantFunctions.{is_meant, own_function, own_point}
 use Rattle.naga_wgsl_fns.proofs.PlanRefusals.{head_is_no_sink, planned_holds}
 
 -- what comes from the sink or from memory tells of no module
@@ -342,6 +342,10 @@ module _ (m : Module) (info : ModuleInfo) (flags : WriterFlags) (earlier : List 
     new_named : HasNamed new (earlier ++ labels)
     new_named = named.labels_named earlier has
 
+    writable : IsWritableAt explicit m info earlier g
+    writable =
+        planned_holds explicit m info earlier g planned plan (none_full m g earlier new new_words new_named)
+
     pub writes : (r : Result Unit Error) (content now : List ℕ) (before after : ℕ) →
         OnOk r (now ≡ content ++ text_under m info flags (names_of planned) g) →
         OnErr r (IsBehind content (text_under m info flags (names_of planned) g) now) →
@@ -350,18 +354,12 @@ module _ (m : Module) (info : ModuleInfo) (flags : WriterFlags) (earlier : List 
     writes (Ok _) content now before after text_ok text_err kept reason =
         let appended = text_ok ∙ ap (λ t. content ++ t) text_same in
         record {
-          refusals = record {
-            head = head;
-            plan = planned_holds explicit m info earlier g planned plan
-                (none_full m g earlier new new_words new_named);
-          };
+          refusals = record { head = head; plan = writable };
           text_ok = appended;
           reading = reads_one m info flags earlier accepted ty there head well_formed content now appended;
-          meaning = λ later is. record {
-            stands = stands_in m info flags earlier accepted ty there head well_formed content now appended;
-            meaning = λ declarations have scopes.
-                means_the_module explicit m info accepted g earlier later is declarations have scopes;
-          };
+          meaning = λ later is.
+              is_meant flags m info accepted ty earlier later is writable content now
+              (stands_in m info flags earlier accepted ty there head well_formed content now appended);
           failures_ok = kept;
           text_err = tt;
           untouched = tt;

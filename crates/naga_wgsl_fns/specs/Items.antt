@@ -7,16 +7,16 @@ use Rattle.std.specs.Prelude.{Result, Some, slice_get}
 use Rattle.naga_ir.specs.declared.module.Module.{Module}
 use Rattle.naga_info.specs.declared.info.ModuleInfo.{ModuleInfo}
 use Rattle.naga_names.specs.Naming.{HasNamed, Names}
-use Rattle.module_meaning.specs.Bindings.{BindsUnder}
+use Rattle.module_meaning.specs.Bindings.{BindsAt}
 use Rattle.module_meaning.specs.DeclarationForms.{DeclarationsHaveForms, HeadHasForm}
 use Rattle.module_meaning.specs.ExpressionLabels.{name_of_label}
 use Rattle.module_meaning.specs.FunctionNumbers.{function_number}
-use Rattle.module_meaning.specs.Faithful.{HasInterfaceOf, RunsAs}
+use Rattle.module_meaning.specs.Faithful.{HasInterfaceOf, RunsAt}
 use Rattle.module_meaning.specs.Names.{LabelNames, item_labels, labels_named_in, named_apart}
 use Rattle.module_meaning.specs.Names.{wgsl_names}
-use Rattle.module_meaning.specs.Premises.{ScopesHold}
-use Rattle.module_meaning.specs.Resolution.{ResolvesUnder}
-use Rattle.module_meaning.specs.Written.{AllWrittenHaveForms}
+use Rattle.module_meaning.specs.Premises.{ScopesHoldBefore}
+use Rattle.module_meaning.specs.Resolution.{ResolvesAt}
+use Rattle.module_meaning.specs.Written.{AllWrittenHaveForms, WrittenHaveFormsBefore}
 use Rattle.naga_form.specs.Declarations.{program_under}
 use Rattle.wgsl_text.specs.Declarations.{Program}
 use Rattle.wgsl_text.specs.Functions.{EntryPoint, Function}
@@ -113,24 +113,30 @@ StandsIn (item.EntryPoint index) content now program =
     (text : List ℕ) → now ≡ content ++ text → (point : EntryPoint) →
     ReadsEntryPoint (tokens text) point → slice_get program.entry_points index ≡ Some point
 
--- The program has the module's interface and its `let`s, each of its identifiers and words stands for
--- what the module means, and it does what the module does.
-pub record MeansTheModule (named : LabelNames) (explicit : Bool) (m : Module) (info : ModuleInfo)
-    (program : Program) : Type 0 where
-  pub interface : HasInterfaceOf m info program
-  pub bindings : BindsUnder named m info explicit program
-  pub resolution : ResolvesUnder named m info program
-  pub runs : RunsAs m info program
-
--- What was appended stands in a program that does what the module does, given that the rest of the
--- module has forms too, and that the rules of scope hold there.
+-- What was appended stands in the program that is written for the module. Nothing is asked of the
+-- functions after it, which may have no text at all.
 pub record IsMeant (explicit : Bool) (m : Module) (info : ModuleInfo) (earlier : List (List ℕ))
     (ty : FunctionType) (content now : List ℕ) : Type 0 where
   pub stands : StandsIn ty content now
       (program_behind explicit m info earlier (function_number m ty))
-  pub meaning : DeclarationsHaveForms m → AllWrittenHaveForms explicit m info → ScopesHold m info →
-      MeansTheModule (names_behind m earlier (function_number m ty)) explicit m info
-      (program_behind explicit m info earlier (function_number m ty))
+  -- The function has the module's `let`s.
+  pub bindings : BindsAt (names_behind m earlier (function_number m ty)) m info explicit
+      (program_behind explicit m info earlier (function_number m ty)) (function_number m ty)
+  -- Where all that the module declares has forms, each of its identifiers and words stands for what
+  -- the module means.
+  pub resolution : DeclarationsHaveForms m →
+      ResolvesAt (names_behind m earlier (function_number m ty)) m info
+      (program_behind explicit m info earlier (function_number m ty)) (function_number m ty)
+  -- Where what is written of each function before it has forms too, and the rules of scope hold there,
+  -- it does what the module does. Each answer without an error tells this of its function.
+  pub runs : DeclarationsHaveForms m →
+      WrittenHaveFormsBefore explicit m info (function_number m ty) →
+      ScopesHoldBefore m info (function_number m ty) →
+      RunsAt m info (program_behind explicit m info earlier (function_number m ty))
+      (function_number m ty)
+  -- The interface of the program is the module's, where each function has forms.
+  pub interface : DeclarationsHaveForms m → AllWrittenHaveForms explicit m info →
+      HasInterfaceOf m info (program_behind explicit m info earlier (function_number m ty))
 
 -- A call was asked to write the function behind the text that its sink held; it answered, and the
 -- sink holds another text now. The sink had failed so often before, and has failed so often now.
@@ -146,7 +152,7 @@ pub record FunctionWriting (m : Module) (info : ModuleInfo) (flags : WriterFlags
   pub text_ok : OnOk answer (now ≡ content ++ text_behind m info flags earlier (function_number m ty))
   pub reading : OnOk answer (AppendsOne ty content now)
   -- Where the earlier labels begin with those of the module's items, the text is meant so: its `let`s,
-  -- what its identifiers and words stand for, and its runs are the module's.
+  -- what its identifiers and words stand for, and its runs are the module's, whatever stands after it.
   pub meaning : OnOk answer ((later : List (List ℕ)) → earlier ≡ item_labels m ++ later →
       IsMeant (annotates_types flags) m info earlier ty content now)
   pub failures_ok : OnOk answer (after ≡ before)

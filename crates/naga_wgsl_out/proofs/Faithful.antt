@@ -191,7 +191,7 @@ module _ (m : Module) (info : ModuleInfo) (flags : WriterFlags)
           let rules = all_planned_hold explicit m info planned in
           let have = all_planned_formed explicit m info planned in
           let reading = each planned content now appended in
-          let told = has_interface m info explicit accepted declarations have rules in
+          let told = has_interface m info explicit accepted declarations have in
           record {
             is_faithful = record {
               refusals = record {

@@ -2,9 +2,9 @@
 use crate::texts::reads;
 use bitflags::Flags;
 use naga_wgsl_out::back::FunctionType;
-use naga_wgsl_out::builder::ModuleBuilder;
+use naga_wgsl_out::builder::{FunctionBuilder, ModuleBuilder};
 use naga_wgsl_out::info::{accepts, count, unaccepted};
-use naga_wgsl_out::ir::{Binding, BuiltIn, Place, Sampling};
+use naga_wgsl_out::ir::{Binding, BuiltIn, Place, Sampling, Scalar};
 use naga_wgsl_out::wgsl::{
     CheckedError, Error, Writer, WriterFlags, names_of, no_flags, write_binding, write_checked,
     write_function, write_string,
@@ -80,6 +80,58 @@ fn a_function_is_written_by_itself(rt: HostRuntime) {
     )
     .expect(&rt, "a text");
     reads(&rt, text.as_str(), NAMED_AGAIN);
+}
+
+/// A function that returns what was loaded nowhere, which no text is written for.
+fn add_without_text(rt: &impl Abort, alloc: Global, shader: &mut ModuleBuilder) {
+    let i32_type = shader.scalar(Scalar::I32).expect(rt, "memory");
+    let mut function = FunctionBuilder::new(alloc, "h").expect(rt, "memory");
+    function.returns(i32_type);
+    let local = function.local("a", i32_type, None).expect(rt, "memory");
+    let pointer = function.pointer_to(local, i32_type).expect(rt, "memory");
+    let held = function.load(pointer, i32_type).expect(rt, "memory");
+    function.body.return_value(held).expect(rt, "memory");
+    shader.add_function(function).expect(rt, "memory");
+}
+
+/// What stands after a function is nothing to its text: the first one is written, and the last one is
+/// refused, as the module is.
+#[test]
+fn a_function_is_written_before_one_that_is_refused(rt: HostRuntime) {
+    let alloc = rt.alloc();
+    let mut shader = ModuleBuilder::new(alloc);
+    Row::Named.build(alloc, &mut shader).expect(&rt, "memory");
+    add_without_text(&rt, alloc, &mut shader);
+    count(&mut shader.info, &shader.module);
+    assert!(rt; accepts(&shader.module, &shader.info));
+    let whole = write_string(alloc, &shader.module, &shader.info, no_flags());
+    assert!(rt; whole.is_err());
+    let (names, mut namer) = names_of(alloc, &shader.module).expect(&rt, "names");
+    let mut text = String::new(alloc);
+    write_function(
+        alloc,
+        &shader.module,
+        &shader.info,
+        FunctionType::Function(Place::from_index(0)),
+        &names,
+        &mut namer,
+        WriterFlags::empty(),
+        &mut text,
+    )
+    .expect(&rt, "a text");
+    reads(&rt, text.as_str(), NAMED);
+    let refused = write_function(
+        alloc,
+        &shader.module,
+        &shader.info,
+        FunctionType::Function(Place::from_index(1)),
+        &names,
+        &mut namer,
+        WriterFlags::empty(),
+        &mut text,
+    );
+    assert!(rt; refused.is_err());
+    reads(&rt, text.as_str(), NAMED);
 }
 
 const COMPUTE: &str = "@compute @workgroup_size(64, 1, 1) \nfn main() {\n}\n";
