@@ -1,0 +1,5 @@
+pub mod Doubles
+mod Examples
+pub mod Halves
+pub mod Numerals
+pub mod Sizes

@@ -1,0 +1,18 @@
+//! Float literals of WGSL: the decimal numeral by which a float is written, the bits that a numeral
+//! denotes, and its texts.
+//!
+//! A numeral is made of the bits of a float by `single_decimal`, `half_decimal` and
+//! `double_decimal`. Its digits are those that Rust's formatting chooses. That is only tested; what
+//! is proved is that a numeral which is given denotes the very bits.
+#![tactic(auto)]
+
+mod choice;
+mod decimal;
+mod half;
+mod laws;
+mod text;
+
+pub use choice::{double_decimal, half_decimal, single_decimal};
+pub use decimal::Decimal;
+pub use laws::text_is_read;
+pub use text::{push_double, push_half, push_single};
