@@ -35,6 +35,7 @@ mod declarations;
 mod error;
 mod expressions;
 mod infos;
+mod let_be;
 mod modules;
 mod operators;
 mod shape;
