@@ -335,7 +335,7 @@ const LOSSES: &[(&str, &str, &str)] = &[
     (
         r#"{"functions": [{"result": {"ty":0, "binding":{"BuiltIn":{"Position":{"at": 1}}}}}]}"#,
         "{}",
-        "module.functions[0].result.binding.BuiltIn.Position: unknown member `depth`",
+        "module.functions[0].result.binding.BuiltIn.Position: unknown member `at`",
     ),
     (
         r#"{"constants": [{"ty": 0, "init": 0, "override": true}]}"#,
