@@ -321,11 +321,13 @@ EVERY = set()
 
 
 class Struct(Form):
-    """An object with these members. Some that may be absent are, and some are there that the reader does not know."""
+    """An object with these members. Some that may be absent are, and some are there that the reader lets be: the
+    others, with any value, and those that say nothing, with null."""
 
-    def __init__(self, name, *members, others=()):
+    def __init__(self, name, *members, others=(), nulls=()):
         # each member by its name in JSON, its form, and its name in Rust where that is another
-        self.name, self.members, self.others = name, [member_of(*each) for each in members], others
+        self.name, self.members = name, [member_of(*each) for each in members]
+        self.others, self.nulls = others, nulls
         EVERY.add(name)
 
     def tell(self, r):
@@ -342,9 +344,10 @@ class Struct(Form):
 
     def object(self, r, told):
         members = [(member.name, value.json) for member, value in told if value.json is not None]
-        # an object of a module has some known member, or none at all
+        # an info has some known member, or none at all
         if members and r.often(0.1):
-            members += [(name, some_json(r)) for name in (*self.others, "unknown") if r.often(0.5)]
+            members += [(name, some_json(r)) for name in self.others if r.often(0.5)]
+        members += [(name, "null") for name in self.nulls if r.often(0.3)]
         if r.often(0.3):
             r.shuffle(members)
         return object_of(members)
@@ -372,7 +375,8 @@ class Bare(NamedTuple):
 
 
 class Enum(Form):
-    """Variants without content, by their names; with a value, by name and form; with members, as structs; and bare."""
+    """Variants without content, by their names alone or with null; with a value, by name and form; with members, as
+    structs; and bare."""
 
     def __init__(self, name, *variants):
         self.name, self.variants = name, list(variants)
@@ -391,7 +395,8 @@ class Enum(Form):
     def of_variant(self, variant, r):
         r.told[self.told_as(variant)] += 1
         if isinstance(variant, str):
-            return Told(json.dumps(variant), variant)
+            told = object_of([(variant, "null")]) if r.often(0.2) else json.dumps(variant)
+            return Told(told, variant)
         if isinstance(variant, Bare):
             return Told(json.dumps(variant.name), variant.debug)
         if isinstance(variant, Struct):

@@ -32,6 +32,9 @@ BEYOND = "1e999"
 MARK = "\x01"
 # what must be refused
 NEVER_READ = ("cut off", "no module", "content behind a name")
+# what is let be in a module, whatever stands in it
+LET_BE = re.compile(r"""\.(diagnostic_filters|diagnostic_filter_leaf|doc_comments|ray_desc|ray_intersection
+    |ray_vertex_return|mesh_info\.(?!output_variable)\w+|RayQuery\.fun)\b""", re.VERBOSE)
 # what is told by its name alone is one of these
 VARIANTS = {name.split("::")[1] for name in EVERY if "::" in name}
 
@@ -76,7 +79,7 @@ def main():
 # ---- what is spoiled
 def parts(known):
     """The module in parts, each of one member: the others may all be absent, and short texts are soon read. Beside it
-    stands an empty one that is known, since the reader asks for such a member."""
+    stands an empty one that is known, since the reader of an info asks for such a member."""
     for name, value in known["module"].items():
         yield {"module": {"types": [], name: value}, "info": {}}
     for name, value in known["info"].items():
@@ -126,7 +129,7 @@ def parent_of(place):
 
 def nested():
     """Texts that nest deep. Of JSON lists and objects may be refused that nest more than 127 deep."""
-    known, body = '{"module":{"types":[],"unknown":%s},"info":{}}', '{"module":{"functions":[{"body":%s}]},"info":{}}'
+    known, body = '{"module":{"types":[],"doc_comments":%s},"info":{}}', '{"module":{"functions":[{"body":%s}]},"info":{}}'
     wraps = {
         "lists": (known, "[", "", "]"), "objects": (known, '{"a":', "0", "}"),
         "blocks": (body, '[{"Block":', "[]", "}]"),
@@ -197,12 +200,18 @@ def judge(spoiled, given, whole, tally):
 
 def judge_module(spoiled, given, whole, tally):
     tally.add(spoiled.what, "the same module" if given == whole else "another module")
-    never = spoiled.what in NEVER_READ or spoiled.what.endswith("more than 127 deep")
+    never = spoiled.what in NEVER_READ or spoiled.what.endswith("more than 127 deep") or is_lost(spoiled)
     if never or (spoiled.what == "as it is" and given != whole):
         tally.fault("a module is read", spoiled, given)
     shown = SHOWN.get(spoiled.what.removeprefix("replaced by "))
     if shown and given != whole and not shown & changed(whole, given):
         tally.fault("another value is read", spoiled, " ".join(changed(whole, given)))
+
+
+def is_lost(spoiled):
+    """Whether a member is put beside others of a module, where it would be lost."""
+    in_module = spoiled.place.startswith("module") and not LET_BE.search(spoiled.place)
+    return spoiled.what == "one beside" and in_module
 
 
 def bits_of(number):

@@ -216,32 +216,34 @@ FUNCTION = Struct(
 STAGE = Enum("ShaderStage", *words("Vertex Task Mesh Fragment Compute RayGeneration Miss AnyHit ClosestHit"))
 MESH_INFO = Struct(
     "MeshStageInfo", ("output_variable", PLACE),
-    others=("topology", "max_vertices", "max_vertices_override", "max_primitives", "vertex_output_type"))
+    others=("topology", "max_vertices", "max_vertices_override", "max_primitives", "max_primitives_override",
+            "vertex_output_type", "primitive_output_type"))
 ENTRY_POINT = Struct(
     "EntryPoint", ("name", Text()), ("stage", STAGE), ("workgroup_size", Fixed(U32, 3)), ("function", FUNCTION),
     ("mesh_info", Maybe(MESH_INFO)), ("task_payload", Maybe(PLACE)), ("incoming_ray_payload", Maybe(PLACE)),
-    others=("early_depth_test", "workgroup_size_overrides"))
+    nulls=("early_depth_test", "workgroup_size_overrides"))
 SPECIAL_TYPES = Struct(
     "SpecialTypes", ("predeclared_types", Paired(PREDECLARED_TYPE, PLACE)), ("external_texture_params", Maybe(PLACE)),
-    ("external_texture_transfer_function", Maybe(PLACE)), others=("ray_desc", "ray_intersection"))
+    ("external_texture_transfer_function", Maybe(PLACE)), others=("ray_desc", "ray_intersection", "ray_vertex_return"))
 SPECIAL_TYPES.absent = (
     "SpecialTypes { predeclared_types: {}, external_texture_params: None, external_texture_transfer_function: None }")
 MODULE = Struct(
     "Module", ("types", unique_arena(TYPE)), ("special_types", SPECIAL_TYPES), ("constants", arena(CONSTANT)),
     ("overrides", arena(OVERRIDE)), ("global_variables", arena(GLOBAL_VARIABLE)),
     ("global_expressions", arena(EXPRESSION, 8)), ("functions", arena(FUNCTION, 2)),
-    ("entry_points", Listed(ENTRY_POINT, most=2)), others=("diagnostic_filters", "doc_comments"))
+    ("entry_points", Listed(ENTRY_POINT, most=2)),
+    others=("diagnostic_filters", "diagnostic_filter_leaf", "doc_comments"))
 
 # ---- what is known of a module
 RESOLUTION = Enum("TypeResolution", ("Handle", PLACE), ("Value", TYPE_INNER))
 SHORT_RESOLUTION = Short(RESOLUTION, Shown(PLACE, "Handle({})"))
 EXPRESSION_INFO = Struct(
-    "ExpressionInfo", ("ref_count", U64), ("ty", RESOLUTION), others=("uniformity", "assignable_global"))
+    "ExpressionInfo", ("ref_count", U64), ("ty", RESOLUTION), others=("uniformity", "assignable_global", "unknown"))
 FUNCTION_INFO = Short(
     Struct("FunctionInfo", ("expressions", Listed(EXPRESSION_INFO, most=12)),
-           others=("flags", "available_stages", "uniformity", "may_kill", "sampling_set", "global_uses")),
+           others=("flags", "available_stages", "uniformity", "may_kill", "sampling_set", "global_uses", "unknown")),
     Shown(Listed(Shown(SHORT_RESOLUTION, "ExpressionInfo {{ ref_count: 0, ty: {} }}")),
           "FunctionInfo {{ expressions: {} }}"))
 INFO = Struct(
     "ModuleInfo", ("functions", Listed(FUNCTION_INFO)), ("entry_points", Listed(FUNCTION_INFO)),
-    ("const_expression_types", Listed(SHORT_RESOLUTION)), others=("type_flags",))
+    ("const_expression_types", Listed(SHORT_RESOLUTION)), others=("type_flags", "unknown"))

@@ -1,7 +1,7 @@
 //! Bindings.
 
 use crate::error::ReadError;
-use crate::shape::{FromJson, Variants, member, read_variant, unit, word};
+use crate::shape::{FromJson, Variants, expect_members, member, read_variant, unit, word};
 use naga_ir::{Binding, BuiltIn, Interpolation, ResourceBinding, Sampling};
 use serde_json::Value;
 use std::alloc::Global;
@@ -127,12 +127,14 @@ impl Variants for BuiltIn {
 }
 
 fn builtin_position(alloc: Global, content: &Value) -> Result<BuiltIn, ReadError> {
+    expect_members(alloc, content, &["invariant"])?;
     Ok(BuiltIn::Position {
         invariant: member(alloc, content, "invariant")?,
     })
 }
 
 fn builtin_barycentric(alloc: Global, content: &Value) -> Result<BuiltIn, ReadError> {
+    expect_members(alloc, content, &["perspective"])?;
     Ok(BuiltIn::Barycentric {
         perspective: member(alloc, content, "perspective")?,
     })
@@ -206,6 +208,17 @@ impl Variants for Binding {
 }
 
 fn bound_location(alloc: Global, content: &Value) -> Result<Binding, ReadError> {
+    expect_members(
+        alloc,
+        content,
+        &[
+            "location",
+            "interpolation",
+            "sampling",
+            "blend_src",
+            "per_primitive",
+        ],
+    )?;
     Ok(Binding::Location {
         location: member(alloc, content, "location")?,
         interpolation: member(alloc, content, "interpolation")?,
@@ -217,6 +230,7 @@ fn bound_location(alloc: Global, content: &Value) -> Result<Binding, ReadError> 
 
 impl FromJson for ResourceBinding {
     fn from_json(alloc: Global, content: &Value) -> Result<ResourceBinding, ReadError> {
+        expect_members(alloc, content, &["group", "binding"])?;
         Ok(ResourceBinding {
             group: member(alloc, content, "group")?,
             binding: member(alloc, content, "binding")?,

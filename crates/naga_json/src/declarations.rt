@@ -1,8 +1,10 @@
 //! Functions, and what modules declare.
 
 use crate::error::{Problem, ReadError, Wanted};
+use crate::let_be;
 use crate::shape::{
-    FromJson, expect_known, fill, in_item, in_member, item_of, items_of, member, mistyped, word,
+    FromJson, expect_members, expect_members_beside, expect_null, fill, in_item, in_member,
+    item_of, items_of, member, mistyped, word,
 };
 use indexmap::IndexMap;
 use naga_ir::{
@@ -34,6 +36,7 @@ impl FromJson for ShaderStage {
 
 impl FromJson for Constant {
     fn from_json(alloc: Global, content: &Value) -> Result<Constant, ReadError> {
+        expect_members(alloc, content, &["name", "ty", "init"])?;
         Ok(Constant {
             name: member(alloc, content, "name")?,
             ty: member(alloc, content, "ty")?,
@@ -44,6 +47,7 @@ impl FromJson for Constant {
 
 impl FromJson for Override {
     fn from_json(alloc: Global, content: &Value) -> Result<Override, ReadError> {
+        expect_members(alloc, content, &["name", "id", "ty", "init"])?;
         Ok(Override {
             name: member(alloc, content, "name")?,
             id: member(alloc, content, "id")?,
@@ -55,6 +59,18 @@ impl FromJson for Override {
 
 impl FromJson for GlobalVariable {
     fn from_json(alloc: Global, content: &Value) -> Result<GlobalVariable, ReadError> {
+        expect_members(
+            alloc,
+            content,
+            &[
+                "name",
+                "space",
+                "binding",
+                "ty",
+                "init",
+                "memory_decorations",
+            ],
+        )?;
         Ok(GlobalVariable {
             name: member(alloc, content, "name")?,
             space: member(alloc, content, "space")?,
@@ -68,6 +84,7 @@ impl FromJson for GlobalVariable {
 
 impl FromJson for LocalVariable {
     fn from_json(alloc: Global, content: &Value) -> Result<LocalVariable, ReadError> {
+        expect_members(alloc, content, &["name", "ty", "init"])?;
         Ok(LocalVariable {
             name: member(alloc, content, "name")?,
             ty: member(alloc, content, "ty")?,
@@ -78,6 +95,7 @@ impl FromJson for LocalVariable {
 
 impl FromJson for FunctionArgument {
     fn from_json(alloc: Global, content: &Value) -> Result<FunctionArgument, ReadError> {
+        expect_members(alloc, content, &["name", "ty", "binding"])?;
         Ok(FunctionArgument {
             name: member(alloc, content, "name")?,
             ty: member(alloc, content, "ty")?,
@@ -88,6 +106,7 @@ impl FromJson for FunctionArgument {
 
 impl FromJson for FunctionResult {
     fn from_json(alloc: Global, content: &Value) -> Result<FunctionResult, ReadError> {
+        expect_members(alloc, content, &["ty", "binding"])?;
         Ok(FunctionResult {
             ty: member(alloc, content, "ty")?,
             binding: member(alloc, content, "binding")?,
@@ -97,14 +116,39 @@ impl FromJson for FunctionResult {
 
 impl FromJson for MeshStageInfo {
     fn from_json(alloc: Global, content: &Value) -> Result<MeshStageInfo, ReadError> {
+        expect_members_beside(alloc, content, &["output_variable"], let_be::OF_MESH_INFO)?;
         Ok(MeshStageInfo {
             output_variable: member(alloc, content, "output_variable")?,
         })
     }
 }
 
+/// The members of [`EntryPoint`], and the two that say what it has no place for.
+const ENTRY_POINT_MEMBERS: &[&str] = &[
+    "name",
+    "stage",
+    "workgroup_size",
+    "function",
+    "mesh_info",
+    "task_payload",
+    "incoming_ray_payload",
+    "early_depth_test",
+    "workgroup_size_overrides",
+];
+
 impl FromJson for EntryPoint {
     fn from_json(alloc: Global, content: &Value) -> Result<EntryPoint, ReadError> {
+        expect_members(alloc, content, ENTRY_POINT_MEMBERS)?;
+        if let Some(test) = content.get("early_depth_test") {
+            in_member(alloc, "early_depth_test", expect_null(alloc, test))?;
+        }
+        if let Some(sizes) = content.get("workgroup_size_overrides") {
+            in_member(
+                alloc,
+                "workgroup_size_overrides",
+                expect_no_overrides(alloc, sizes),
+            )?;
+        }
         Ok(EntryPoint {
             name: member(alloc, content, "name")?,
             stage: member(alloc, content, "stage")?,
@@ -114,6 +158,21 @@ impl FromJson for EntryPoint {
             task_payload: member(alloc, content, "task_payload")?,
             incoming_ray_payload: member(alloc, content, "incoming_ray_payload")?,
         })
+    }
+}
+
+/// Refuses a workgroup's size of which an override sets some part.
+fn expect_no_overrides(alloc: Global, value: &Value) -> Result<(), ReadError> {
+    if !value.is_array() {
+        return expect_null(alloc, value);
+    }
+    match items_of(alloc, value)? {
+        [x, y, z] => {
+            in_item(alloc, 0, expect_null(alloc, x))?;
+            in_item(alloc, 1, expect_null(alloc, y))?;
+            in_item(alloc, 2, expect_null(alloc, z))
+        }
+        _ => Err(ReadError::at(alloc, Problem::WrongLength(3))),
     }
 }
 
@@ -229,8 +288,21 @@ fn pairs_of(alloc: Global, value: &Value) -> Result<&[Value], ReadError> {
     }
 }
 
+/// The members of [`SpecialTypes`].
+const SPECIAL_TYPES_MEMBERS: &[&str] = &[
+    "predeclared_types",
+    "external_texture_params",
+    "external_texture_transfer_function",
+];
+
 impl FromJson for SpecialTypes {
     fn from_json(alloc: Global, content: &Value) -> Result<SpecialTypes, ReadError> {
+        expect_members_beside(
+            alloc,
+            content,
+            SPECIAL_TYPES_MEMBERS,
+            let_be::OF_SPECIAL_TYPES,
+        )?;
         let mut predeclared_types = IndexMap::new(alloc);
         fill(alloc, content, "predeclared_types", &mut predeclared_types)?;
         Ok(SpecialTypes {
@@ -245,8 +317,20 @@ impl FromJson for SpecialTypes {
     }
 }
 
+/// The members of [`Function`].
+const FUNCTION_MEMBERS: &[&str] = &[
+    "name",
+    "result",
+    "arguments",
+    "local_variables",
+    "expressions",
+    "named_expressions",
+    "body",
+];
+
 impl FromJson for Function {
     fn from_json(alloc: Global, value: &Value) -> Result<Function, ReadError> {
+        expect_members_beside(alloc, value, FUNCTION_MEMBERS, let_be::OF_FUNCTION)?;
         let mut function = Function::new(alloc);
         fill_function(alloc, value, &mut function)?;
         Ok(function)
@@ -287,7 +371,7 @@ const MODULE_MEMBERS: &[&str] = &[
 
 impl FromJson for Module {
     fn from_json(alloc: Global, value: &Value) -> Result<Module, ReadError> {
-        expect_known(alloc, value, MODULE_MEMBERS)?;
+        expect_members_beside(alloc, value, MODULE_MEMBERS, let_be::OF_MODULE)?;
         let mut module = Module::new(alloc);
         fill_module(alloc, value, &mut module)?;
         Ok(module)

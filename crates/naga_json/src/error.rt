@@ -58,7 +58,13 @@ pub enum Problem {
     /// It is, or has for its one member, this name, which is none of those that are wanted. Special
     /// characters are escaped, and of a long name only the front is told.
     UnknownName(String),
-    /// It is an object with members, of which the module or the info that is wanted has none.
+    /// It is an object with a member of this name, which is none of those that are read or let be
+    /// there. The name is told as an unknown one is.
+    UnknownMember(String),
+    /// It is not null, and says what modules here have no place for, as a workgroup size that an
+    /// override sets.
+    Unsupported,
+    /// It is an object with members, of which the info that is wanted has none.
     NoKnownMember,
     /// It is a type that equals one before it. The types of a module differ, and so do the
     /// predeclared ones.
@@ -75,6 +81,8 @@ impl fmt::Display for Problem {
             Problem::OutOfRange => f.write_str("number out of range"),
             Problem::WrongLength(length) => write!(f, "no list of {length}"),
             Problem::UnknownName(name) => write!(f, "unknown name `{name}`"),
+            Problem::UnknownMember(name) => write!(f, "unknown member `{name}`"),
+            Problem::Unsupported => f.write_str("not supported unless null"),
             Problem::NoKnownMember => f.write_str("no known member"),
             Problem::Doubled => f.write_str("equals an earlier type"),
             Problem::TooDeep => f.write_str("blocks nest too deep"),

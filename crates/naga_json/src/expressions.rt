@@ -2,7 +2,8 @@
 
 use crate::error::{Problem, ReadError, Wanted};
 use crate::shape::{
-    FromJson, Variants, item_of, items_of, member, mistyped, read_variant, unit, word,
+    FromJson, Variants, expect_members, item_of, items_of, member, mistyped, read_variant, unit,
+    word,
 };
 use naga_ir::{CooperativeData, Expression, ImageQuery, Literal, SampleLevel, SwizzleComponent};
 use ryu::Buffer;
@@ -72,6 +73,7 @@ impl Variants for SampleLevel {
 }
 
 fn level_gradient(alloc: Global, content: &Value) -> Result<SampleLevel, ReadError> {
+    expect_members(alloc, content, &["x", "y"])?;
     Ok(SampleLevel::Gradient {
         x: member(alloc, content, "x")?,
         y: member(alloc, content, "y")?,
@@ -123,6 +125,7 @@ impl Variants for ImageQuery {
 }
 
 fn query_size(alloc: Global, content: &Value) -> Result<ImageQuery, ReadError> {
+    expect_members(alloc, content, &["level"])?;
     Ok(ImageQuery::Size {
         level: member(alloc, content, "level")?,
     })
@@ -130,6 +133,7 @@ fn query_size(alloc: Global, content: &Value) -> Result<ImageQuery, ReadError> {
 
 impl FromJson for CooperativeData {
     fn from_json(alloc: Global, content: &Value) -> Result<CooperativeData, ReadError> {
+        expect_members(alloc, content, &["pointer", "stride", "row_major"])?;
         Ok(CooperativeData {
             pointer: member(alloc, content, "pointer")?,
             stride: member(alloc, content, "stride")?,
@@ -327,6 +331,7 @@ impl Variants for Expression {
 }
 
 fn compose_expression(alloc: Global, content: &Value) -> Result<Expression, ReadError> {
+    expect_members(alloc, content, &["ty", "components"])?;
     Ok(Expression::Compose {
         ty: member(alloc, content, "ty")?,
         components: member(alloc, content, "components")?,
@@ -334,6 +339,7 @@ fn compose_expression(alloc: Global, content: &Value) -> Result<Expression, Read
 }
 
 fn access_expression(alloc: Global, content: &Value) -> Result<Expression, ReadError> {
+    expect_members(alloc, content, &["base", "index"])?;
     Ok(Expression::Access {
         base: member(alloc, content, "base")?,
         index: member(alloc, content, "index")?,
@@ -341,6 +347,7 @@ fn access_expression(alloc: Global, content: &Value) -> Result<Expression, ReadE
 }
 
 fn access_index_expression(alloc: Global, content: &Value) -> Result<Expression, ReadError> {
+    expect_members(alloc, content, &["base", "index"])?;
     Ok(Expression::AccessIndex {
         base: member(alloc, content, "base")?,
         index: member(alloc, content, "index")?,
@@ -348,6 +355,7 @@ fn access_index_expression(alloc: Global, content: &Value) -> Result<Expression,
 }
 
 fn splat_expression(alloc: Global, content: &Value) -> Result<Expression, ReadError> {
+    expect_members(alloc, content, &["size", "value"])?;
     Ok(Expression::Splat {
         size: member(alloc, content, "size")?,
         value: member(alloc, content, "value")?,
@@ -355,6 +363,7 @@ fn splat_expression(alloc: Global, content: &Value) -> Result<Expression, ReadEr
 }
 
 fn swizzle_expression(alloc: Global, content: &Value) -> Result<Expression, ReadError> {
+    expect_members(alloc, content, &["size", "vector", "pattern"])?;
     Ok(Expression::Swizzle {
         size: member(alloc, content, "size")?,
         vector: member(alloc, content, "vector")?,
@@ -363,12 +372,28 @@ fn swizzle_expression(alloc: Global, content: &Value) -> Result<Expression, Read
 }
 
 fn load_expression(alloc: Global, content: &Value) -> Result<Expression, ReadError> {
+    expect_members(alloc, content, &["pointer"])?;
     Ok(Expression::Load {
         pointer: member(alloc, content, "pointer")?,
     })
 }
 
 fn image_sample_expression(alloc: Global, content: &Value) -> Result<Expression, ReadError> {
+    expect_members(
+        alloc,
+        content,
+        &[
+            "image",
+            "sampler",
+            "gather",
+            "coordinate",
+            "array_index",
+            "offset",
+            "level",
+            "depth_ref",
+            "clamp_to_edge",
+        ],
+    )?;
     Ok(Expression::ImageSample {
         image: member(alloc, content, "image")?,
         sampler: member(alloc, content, "sampler")?,
@@ -383,6 +408,11 @@ fn image_sample_expression(alloc: Global, content: &Value) -> Result<Expression,
 }
 
 fn image_load_expression(alloc: Global, content: &Value) -> Result<Expression, ReadError> {
+    expect_members(
+        alloc,
+        content,
+        &["image", "coordinate", "array_index", "sample", "level"],
+    )?;
     Ok(Expression::ImageLoad {
         image: member(alloc, content, "image")?,
         coordinate: member(alloc, content, "coordinate")?,
@@ -393,6 +423,7 @@ fn image_load_expression(alloc: Global, content: &Value) -> Result<Expression, R
 }
 
 fn image_query_expression(alloc: Global, content: &Value) -> Result<Expression, ReadError> {
+    expect_members(alloc, content, &["image", "query"])?;
     Ok(Expression::ImageQuery {
         image: member(alloc, content, "image")?,
         query: member(alloc, content, "query")?,
@@ -400,6 +431,7 @@ fn image_query_expression(alloc: Global, content: &Value) -> Result<Expression, 
 }
 
 fn unary_expression(alloc: Global, content: &Value) -> Result<Expression, ReadError> {
+    expect_members(alloc, content, &["op", "expr"])?;
     Ok(Expression::Unary {
         op: member(alloc, content, "op")?,
         expr: member(alloc, content, "expr")?,
@@ -407,6 +439,7 @@ fn unary_expression(alloc: Global, content: &Value) -> Result<Expression, ReadEr
 }
 
 fn binary_expression(alloc: Global, content: &Value) -> Result<Expression, ReadError> {
+    expect_members(alloc, content, &["op", "left", "right"])?;
     Ok(Expression::Binary {
         op: member(alloc, content, "op")?,
         left: member(alloc, content, "left")?,
@@ -415,6 +448,7 @@ fn binary_expression(alloc: Global, content: &Value) -> Result<Expression, ReadE
 }
 
 fn select_expression(alloc: Global, content: &Value) -> Result<Expression, ReadError> {
+    expect_members(alloc, content, &["condition", "accept", "reject"])?;
     Ok(Expression::Select {
         condition: member(alloc, content, "condition")?,
         accept: member(alloc, content, "accept")?,
@@ -423,6 +457,7 @@ fn select_expression(alloc: Global, content: &Value) -> Result<Expression, ReadE
 }
 
 fn derivative_expression(alloc: Global, content: &Value) -> Result<Expression, ReadError> {
+    expect_members(alloc, content, &["axis", "ctrl", "expr"])?;
     Ok(Expression::Derivative {
         axis: member(alloc, content, "axis")?,
         ctrl: member(alloc, content, "ctrl")?,
@@ -431,6 +466,7 @@ fn derivative_expression(alloc: Global, content: &Value) -> Result<Expression, R
 }
 
 fn relational_expression(alloc: Global, content: &Value) -> Result<Expression, ReadError> {
+    expect_members(alloc, content, &["fun", "argument"])?;
     Ok(Expression::Relational {
         fun: member(alloc, content, "fun")?,
         argument: member(alloc, content, "argument")?,
@@ -438,6 +474,7 @@ fn relational_expression(alloc: Global, content: &Value) -> Result<Expression, R
 }
 
 fn math_expression(alloc: Global, content: &Value) -> Result<Expression, ReadError> {
+    expect_members(alloc, content, &["fun", "arg", "arg1", "arg2", "arg3"])?;
     Ok(Expression::Math {
         fun: member(alloc, content, "fun")?,
         arg: member(alloc, content, "arg")?,
@@ -448,6 +485,7 @@ fn math_expression(alloc: Global, content: &Value) -> Result<Expression, ReadErr
 }
 
 fn as_of_expression(alloc: Global, content: &Value) -> Result<Expression, ReadError> {
+    expect_members(alloc, content, &["expr", "kind", "convert"])?;
     Ok(Expression::As {
         expr: member(alloc, content, "expr")?,
         kind: member(alloc, content, "kind")?,
@@ -456,6 +494,7 @@ fn as_of_expression(alloc: Global, content: &Value) -> Result<Expression, ReadEr
 }
 
 fn atomic_result_expression(alloc: Global, content: &Value) -> Result<Expression, ReadError> {
+    expect_members(alloc, content, &["ty", "comparison"])?;
     Ok(Expression::AtomicResult {
         ty: member(alloc, content, "ty")?,
         comparison: member(alloc, content, "comparison")?,
@@ -466,6 +505,7 @@ fn work_group_uniform_load_result_expression(
     alloc: Global,
     content: &Value,
 ) -> Result<Expression, ReadError> {
+    expect_members(alloc, content, &["ty"])?;
     Ok(Expression::WorkGroupUniformLoadResult {
         ty: member(alloc, content, "ty")?,
     })
@@ -475,6 +515,7 @@ fn ray_query_get_intersection_expression(
     alloc: Global,
     content: &Value,
 ) -> Result<Expression, ReadError> {
+    expect_members(alloc, content, &["query", "committed"])?;
     Ok(Expression::RayQueryGetIntersection {
         query: member(alloc, content, "query")?,
         committed: member(alloc, content, "committed")?,
@@ -485,6 +526,7 @@ fn ray_query_vertex_positions_expression(
     alloc: Global,
     content: &Value,
 ) -> Result<Expression, ReadError> {
+    expect_members(alloc, content, &["query", "committed"])?;
     Ok(Expression::RayQueryVertexPositions {
         query: member(alloc, content, "query")?,
         committed: member(alloc, content, "committed")?,
@@ -495,12 +537,14 @@ fn subgroup_operation_result_expression(
     alloc: Global,
     content: &Value,
 ) -> Result<Expression, ReadError> {
+    expect_members(alloc, content, &["ty"])?;
     Ok(Expression::SubgroupOperationResult {
         ty: member(alloc, content, "ty")?,
     })
 }
 
 fn cooperative_load_expression(alloc: Global, content: &Value) -> Result<Expression, ReadError> {
+    expect_members(alloc, content, &["columns", "rows", "role", "data"])?;
     Ok(Expression::CooperativeLoad {
         columns: member(alloc, content, "columns")?,
         rows: member(alloc, content, "rows")?,
@@ -513,6 +557,7 @@ fn cooperative_multiply_add_expression(
     alloc: Global,
     content: &Value,
 ) -> Result<Expression, ReadError> {
+    expect_members(alloc, content, &["a", "b", "c"])?;
     Ok(Expression::CooperativeMultiplyAdd {
         a: member(alloc, content, "a")?,
         b: member(alloc, content, "b")?,
@@ -590,13 +635,16 @@ impl Variants for Literal {
     }
 }
 
-/// The member for the bits of a number, in place of the number.
-const BITS: &str = "bits";
+/// The bits of a number, where an object tells them in its place.
+fn told_bits<T: FromJson>(alloc: Global, value: &Value) -> Result<T, ReadError> {
+    expect_members(alloc, value, &["bits"])?;
+    member(alloc, value, "bits")
+}
 
 /// The bits of a number of eight bytes.
 fn double_bits(alloc: Global, value: &Value) -> Result<u64, ReadError> {
     if value.is_object() {
-        return member(alloc, value, BITS);
+        return told_bits(alloc, value);
     }
     match value.as_f64() {
         Some(number) if number.is_finite() => Ok(number.to_bits()),
@@ -607,7 +655,7 @@ fn double_bits(alloc: Global, value: &Value) -> Result<u64, ReadError> {
 /// The bits of a number of four bytes.
 fn single_bits(alloc: Global, value: &Value) -> Result<u32, ReadError> {
     if value.is_object() {
-        return member(alloc, value, BITS);
+        return told_bits(alloc, value);
     }
     match value.as_f64() {
         Some(number) => bits_within(alloc, nearest_single(number)),
@@ -650,7 +698,7 @@ fn tells(single: f32, number: f64) -> bool {
 /// The bits of a number of two bytes, which stand for it.
 fn half_bits(alloc: Global, value: &Value) -> Result<u16, ReadError> {
     if value.is_object() {
-        member(alloc, value, BITS)
+        told_bits(alloc, value)
     } else {
         u16::from_json(alloc, value)
     }

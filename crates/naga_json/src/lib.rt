@@ -3,12 +3,16 @@
 //! The JSON is that of naga's own `serde` forms, which a user of naga 30 gets from
 //! `serde_json::to_string` of a `Module` and of a `ModuleInfo` with naga's feature `serialize`:
 //!
-//! - A struct is an object. Members that this crate does not ask for are let be. An absent option
-//!   is `None`, an absent truth value `false`; an absent list, arena, map or block of a module, a
-//!   function or an info is empty, and so are `reject`, `continuing` and `memory_decorations`. Any
-//!   other member is missed. An object of which no member is known is no module and no info.
+//! - A struct is an object. An absent option is `None`, an absent truth value `false`; an absent
+//!   list, arena, map or block of a module, a function or an info is empty, and so are `reject`,
+//!   `continuing` and `memory_decorations`. Any other absent member is missed.
+//! - Nothing is lost. A member that is not read is refused by its name, unless nothing that a shader
+//!   does hangs on it, as on comments: `let_be.rt` lists those. An early depth test, and a
+//!   workgroup's size that an override sets, are refused unless null: they have no place in a
+//!   [`naga_ir::Module`]. Of an info only some members are read, and the others let be.
 //! - An enum is the name of a variant, or an object whose one member is the variant's content, as
-//!   `"Break"` and `{"Load": {"pointer": 2}}`.
+//!   `"Break"` and `{"Load": {"pointer": 2}}`. The content of a variant that has none is null:
+//!   `{"Break": null}`.
 //! - An arena is a list, and a handle a place in it, counted from zero. No two types are equal.
 //! - An `Emit` is `{"start": 3, "end": 5}`, from the first place to behind the last.
 //! - Flags are their names, as `"LOAD | STORE"`, or their bits, as `3`.
@@ -35,6 +39,7 @@ mod declarations;
 mod error;
 mod expressions;
 mod infos;
+mod let_be;
 mod modules;
 mod operators;
 mod shape;

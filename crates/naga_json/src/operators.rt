@@ -1,7 +1,7 @@
 //! Operators and functions.
 
 use crate::error::ReadError;
-use crate::shape::{FromJson, Variants, member, read_variant, unit, word};
+use crate::shape::{FromJson, Variants, expect_members, member, read_variant, unit, word};
 use naga_ir::{
     AtomicFunction, BinaryOperator, CollectiveOperation, DerivativeAxis, DerivativeControl,
     Direction, GatherMode, MathFunction, RelationalFunction, SubgroupOperation, UnaryOperator,
@@ -281,6 +281,7 @@ impl Variants for AtomicFunction {
 }
 
 fn atomic_exchange(alloc: Global, content: &Value) -> Result<AtomicFunction, ReadError> {
+    expect_members(alloc, content, &["compare"])?;
     Ok(AtomicFunction::Exchange {
         compare: member(alloc, content, "compare")?,
     })

@@ -106,6 +106,47 @@ pub(crate) fn fill<T: FromJson>(
     Ok(())
 }
 
+/// Refuses an object with a member of another name than these: it says what would be lost.
+pub(crate) fn expect_members(
+    alloc: Global,
+    value: &Value,
+    names: &[&str],
+) -> Result<(), ReadError> {
+    expect_members_beside(alloc, value, names, &[])
+}
+
+/// The same, where members of some more names are let be.
+pub(crate) fn expect_members_beside(
+    alloc: Global,
+    value: &Value,
+    names: &[&str],
+    let_be: &[&str],
+) -> Result<(), ReadError> {
+    let Some(members) = value.as_object() else {
+        return Err(mistyped(alloc, Wanted::Object));
+    };
+    for (name, _) in members.iter() {
+        if !is_among(name.as_str(), names) && !is_among(name.as_str(), let_be) {
+            return Err(unknown_member(alloc, name.as_str()));
+        }
+    }
+    Ok(())
+}
+
+/// Whether the name is one of these.
+fn is_among(name: &str, names: &[&str]) -> bool {
+    names.iter().any(|known| *known == name)
+}
+
+/// Refuses a value that is not null, where what it says has no place in a module here.
+pub(crate) fn expect_null(alloc: Global, value: &Value) -> Result<(), ReadError> {
+    if value.is_null() {
+        Ok(())
+    } else {
+        Err(ReadError::at(alloc, Problem::Unsupported))
+    }
+}
+
 /// Refuses an object that has members, but none of these: it is another thing than was meant.
 pub(crate) fn expect_known(alloc: Global, value: &Value, names: &[&str]) -> Result<(), ReadError> {
     let Some(members) = value.as_object() else {
@@ -175,16 +216,18 @@ pub(crate) fn unit<T: Drop>(alloc: Global, content: &Value, variant: T) -> Resul
     }
 }
 
-/// What the word stands for in a table, as the variants of an enum without content.
-pub(crate) fn word<T: Copy>(
+/// What the variant stands for in a table of an enum whose variants have no content.
+pub(crate) fn word<T: Copy + Drop>(
     alloc: Global,
     value: &Value,
     words: &[(&str, T)],
 ) -> Result<T, ReadError> {
-    let Some(name) = value.as_str() else {
-        return Err(mistyped(alloc, Wanted::Text));
+    let null = Value::Null;
+    let Some(found) = named_variant(value, &null) else {
+        return Err(mistyped(alloc, Wanted::Variant));
     };
-    meaning(alloc, name, words)
+    let which = meaning(alloc, found.name, words)?;
+    in_member(alloc, found.name, unit(alloc, found.content, which))
 }
 
 /// What the name stands for in a table.
@@ -199,6 +242,14 @@ pub(crate) fn meaning<T: Copy>(
         }
     }
     Err(unknown(alloc, name))
+}
+
+/// The error of an object with a member of this name, which is none that is read or let be.
+fn unknown_member(alloc: Global, name: &str) -> ReadError {
+    match told_name(alloc, name) {
+        Ok(name) => ReadError::at(alloc, Problem::UnknownMember(name)),
+        Err(_) => ReadError::OutOfMemory,
+    }
 }
 
 /// The error of a name that no table has.

@@ -1,9 +1,10 @@
 //! Statements, whose blocks nest.
 
 use crate::error::{Problem, ReadError, Wanted};
+use crate::let_be;
 use crate::shape::{
-    FromJson, Variants, in_item, in_member, items_of, meaning, member, missing, mistyped,
-    named_variant, read_variant, unit,
+    FromJson, Variants, expect_members, expect_members_beside, in_item, in_member, items_of,
+    meaning, member, missing, mistyped, named_variant, read_variant, unit,
 };
 use naga_ir::{Block, Range, RayPipelineFunction, Statement, SwitchCase, SwitchValue};
 use serde_json::Value;
@@ -87,6 +88,11 @@ impl Variants for RayPipelineFunction {
 }
 
 fn trace_ray(alloc: Global, content: &Value) -> Result<RayPipelineFunction, ReadError> {
+    expect_members(
+        alloc,
+        content,
+        &["acceleration_structure", "descriptor", "payload"],
+    )?;
     Ok(RayPipelineFunction::TraceRay {
         acceleration_structure: member(alloc, content, "acceleration_structure")?,
         descriptor: member(alloc, content, "descriptor")?,
@@ -217,12 +223,14 @@ fn return_of(alloc: Global, content: &Value) -> Result<Statement, ReadError> {
     if content.is_null() {
         return Ok(Statement::Return { value: None });
     }
+    expect_members(alloc, content, &["value"])?;
     Ok(Statement::Return {
         value: member(alloc, content, "value")?,
     })
 }
 
 fn store(alloc: Global, content: &Value) -> Result<Statement, ReadError> {
+    expect_members(alloc, content, &["pointer", "value"])?;
     Ok(Statement::Store {
         pointer: member(alloc, content, "pointer")?,
         value: member(alloc, content, "value")?,
@@ -230,6 +238,11 @@ fn store(alloc: Global, content: &Value) -> Result<Statement, ReadError> {
 }
 
 fn image_store(alloc: Global, content: &Value) -> Result<Statement, ReadError> {
+    expect_members(
+        alloc,
+        content,
+        &["image", "coordinate", "array_index", "value"],
+    )?;
     Ok(Statement::ImageStore {
         image: member(alloc, content, "image")?,
         coordinate: member(alloc, content, "coordinate")?,
@@ -239,6 +252,7 @@ fn image_store(alloc: Global, content: &Value) -> Result<Statement, ReadError> {
 }
 
 fn atomic(alloc: Global, content: &Value) -> Result<Statement, ReadError> {
+    expect_members(alloc, content, &["pointer", "fun", "value", "result"])?;
     Ok(Statement::Atomic {
         pointer: member(alloc, content, "pointer")?,
         fun: member(alloc, content, "fun")?,
@@ -248,6 +262,11 @@ fn atomic(alloc: Global, content: &Value) -> Result<Statement, ReadError> {
 }
 
 fn image_atomic(alloc: Global, content: &Value) -> Result<Statement, ReadError> {
+    expect_members(
+        alloc,
+        content,
+        &["image", "coordinate", "array_index", "fun", "value"],
+    )?;
     Ok(Statement::ImageAtomic {
         image: member(alloc, content, "image")?,
         coordinate: member(alloc, content, "coordinate")?,
@@ -258,6 +277,7 @@ fn image_atomic(alloc: Global, content: &Value) -> Result<Statement, ReadError> 
 }
 
 fn work_group_uniform_load(alloc: Global, content: &Value) -> Result<Statement, ReadError> {
+    expect_members(alloc, content, &["pointer", "result"])?;
     Ok(Statement::WorkGroupUniformLoad {
         pointer: member(alloc, content, "pointer")?,
         result: member(alloc, content, "result")?,
@@ -265,6 +285,7 @@ fn work_group_uniform_load(alloc: Global, content: &Value) -> Result<Statement, 
 }
 
 fn call(alloc: Global, content: &Value) -> Result<Statement, ReadError> {
+    expect_members(alloc, content, &["function", "arguments", "result"])?;
     Ok(Statement::Call {
         function: member(alloc, content, "function")?,
         arguments: member(alloc, content, "arguments")?,
@@ -273,12 +294,14 @@ fn call(alloc: Global, content: &Value) -> Result<Statement, ReadError> {
 }
 
 fn ray_query(alloc: Global, content: &Value) -> Result<Statement, ReadError> {
+    expect_members_beside(alloc, content, &["query"], let_be::OF_RAY_QUERY)?;
     Ok(Statement::RayQuery {
         query: member(alloc, content, "query")?,
     })
 }
 
 fn subgroup_ballot(alloc: Global, content: &Value) -> Result<Statement, ReadError> {
+    expect_members(alloc, content, &["result", "predicate"])?;
     Ok(Statement::SubgroupBallot {
         result: member(alloc, content, "result")?,
         predicate: member(alloc, content, "predicate")?,
@@ -286,6 +309,7 @@ fn subgroup_ballot(alloc: Global, content: &Value) -> Result<Statement, ReadErro
 }
 
 fn subgroup_gather(alloc: Global, content: &Value) -> Result<Statement, ReadError> {
+    expect_members(alloc, content, &["mode", "argument", "result"])?;
     Ok(Statement::SubgroupGather {
         mode: member(alloc, content, "mode")?,
         argument: member(alloc, content, "argument")?,
@@ -294,6 +318,11 @@ fn subgroup_gather(alloc: Global, content: &Value) -> Result<Statement, ReadErro
 }
 
 fn subgroup_collective_operation(alloc: Global, content: &Value) -> Result<Statement, ReadError> {
+    expect_members(
+        alloc,
+        content,
+        &["op", "collective_op", "argument", "result"],
+    )?;
     Ok(Statement::SubgroupCollectiveOperation {
         op: member(alloc, content, "op")?,
         collective_op: member(alloc, content, "collective_op")?,
@@ -303,6 +332,7 @@ fn subgroup_collective_operation(alloc: Global, content: &Value) -> Result<State
 }
 
 fn cooperative_store(alloc: Global, content: &Value) -> Result<Statement, ReadError> {
+    expect_members(alloc, content, &["target", "data"])?;
     Ok(Statement::CooperativeStore {
         target: member(alloc, content, "target")?,
         data_: member(alloc, content, "data")?,
@@ -314,6 +344,7 @@ const MOST_LEVELS: u32 = 64;
 
 impl FromJson for Range {
     fn from_json(alloc: Global, value: &Value) -> Result<Range, ReadError> {
+        expect_members(alloc, value, &["start", "end"])?;
         Ok(Range {
             first: member(alloc, value, "start")?,
             end: member(alloc, value, "end")?,
@@ -401,6 +432,7 @@ fn block_if_told(
 
 #[cycle(statements)]
 fn if_else(alloc: Global, content: &Value, levels: u32) -> Result<Statement, ReadError> {
+    expect_members(alloc, content, &["condition", "accept", "reject"])?;
     let condition = member(alloc, content, "condition")?;
     let accept = member_block(alloc, content, "accept", levels)?;
     let reject = block_if_told(alloc, content, "reject", levels)?;
@@ -413,6 +445,7 @@ fn if_else(alloc: Global, content: &Value, levels: u32) -> Result<Statement, Rea
 
 #[cycle(statements)]
 fn loop_of(alloc: Global, content: &Value, levels: u32) -> Result<Statement, ReadError> {
+    expect_members(alloc, content, &["break_if", "body", "continuing"])?;
     let break_if = member(alloc, content, "break_if")?;
     let body = member_block(alloc, content, "body", levels)?;
     let continuing = block_if_told(alloc, content, "continuing", levels)?;
@@ -425,6 +458,7 @@ fn loop_of(alloc: Global, content: &Value, levels: u32) -> Result<Statement, Rea
 
 #[cycle(statements)]
 fn switch(alloc: Global, content: &Value, levels: u32) -> Result<Statement, ReadError> {
+    expect_members(alloc, content, &["selector", "cases"])?;
     let selector = member(alloc, content, "selector")?;
     let cases = match content.get("cases") {
         Some(listed) => cases_of(alloc, listed, levels),
@@ -448,6 +482,7 @@ fn cases_of(alloc: Global, value: &Value, levels: u32) -> Result<Vec<SwitchCase>
 
 #[cycle(statements)]
 fn case_of(alloc: Global, content: &Value, levels: u32) -> Result<SwitchCase, ReadError> {
+    expect_members(alloc, content, &["value", "fall_through", "body"])?;
     let value = member(alloc, content, "value")?;
     let fall_through = member(alloc, content, "fall_through")?;
     let body = member_block(alloc, content, "body", levels)?;

@@ -2,8 +2,8 @@
 
 use crate::error::{Problem, ReadError, Wanted};
 use crate::shape::{
-    FromJson, Variants, in_item, item_of, items_of, member, mistyped, read_variant, unit, unknown,
-    word,
+    FromJson, Variants, expect_members, in_item, item_of, items_of, member, mistyped, read_variant,
+    unit, unknown, word,
 };
 use bitflags::{Flags, parser};
 use naga_ir::{
@@ -71,6 +71,7 @@ impl FromJson for ScalarKind {
 
 impl FromJson for Scalar {
     fn from_json(alloc: Global, content: &Value) -> Result<Scalar, ReadError> {
+        expect_members(alloc, content, &["kind", "width"])?;
         Ok(Scalar {
             kind: member(alloc, content, "kind")?,
             width: member(alloc, content, "width")?,
@@ -134,6 +135,7 @@ impl Variants for AddressSpace {
 }
 
 fn space_storage(alloc: Global, content: &Value) -> Result<AddressSpace, ReadError> {
+    expect_members(alloc, content, &["access"])?;
     Ok(AddressSpace::Storage {
         access: member(alloc, content, "access")?,
     })
@@ -188,6 +190,7 @@ impl Variants for PredeclaredType {
 }
 
 fn predeclared_modf_result(alloc: Global, content: &Value) -> Result<PredeclaredType, ReadError> {
+    expect_members(alloc, content, &["size", "scalar"])?;
     Ok(PredeclaredType::ModfResult {
         size: member(alloc, content, "size")?,
         scalar: member(alloc, content, "scalar")?,
@@ -195,6 +198,7 @@ fn predeclared_modf_result(alloc: Global, content: &Value) -> Result<Predeclared
 }
 
 fn predeclared_frexp_result(alloc: Global, content: &Value) -> Result<PredeclaredType, ReadError> {
+    expect_members(alloc, content, &["size", "scalar"])?;
     Ok(PredeclaredType::FrexpResult {
         size: member(alloc, content, "size")?,
         scalar: member(alloc, content, "scalar")?,
@@ -203,6 +207,7 @@ fn predeclared_frexp_result(alloc: Global, content: &Value) -> Result<Predeclare
 
 impl FromJson for StructMember {
     fn from_json(alloc: Global, content: &Value) -> Result<StructMember, ReadError> {
+        expect_members(alloc, content, &["name", "ty", "binding", "offset"])?;
         Ok(StructMember {
             name: member(alloc, content, "name")?,
             ty: member(alloc, content, "ty")?,
@@ -290,6 +295,7 @@ impl Variants for TypeInner {
 }
 
 fn vector_type(alloc: Global, content: &Value) -> Result<TypeInner, ReadError> {
+    expect_members(alloc, content, &["size", "scalar"])?;
     Ok(TypeInner::Vector {
         size: member(alloc, content, "size")?,
         scalar: member(alloc, content, "scalar")?,
@@ -297,6 +303,7 @@ fn vector_type(alloc: Global, content: &Value) -> Result<TypeInner, ReadError> {
 }
 
 fn matrix_type(alloc: Global, content: &Value) -> Result<TypeInner, ReadError> {
+    expect_members(alloc, content, &["columns", "rows", "scalar"])?;
     Ok(TypeInner::Matrix {
         columns: member(alloc, content, "columns")?,
         rows: member(alloc, content, "rows")?,
@@ -305,6 +312,7 @@ fn matrix_type(alloc: Global, content: &Value) -> Result<TypeInner, ReadError> {
 }
 
 fn cooperative_matrix_type(alloc: Global, content: &Value) -> Result<TypeInner, ReadError> {
+    expect_members(alloc, content, &["columns", "rows", "scalar", "role"])?;
     Ok(TypeInner::CooperativeMatrix {
         columns: member(alloc, content, "columns")?,
         rows: member(alloc, content, "rows")?,
@@ -314,6 +322,7 @@ fn cooperative_matrix_type(alloc: Global, content: &Value) -> Result<TypeInner, 
 }
 
 fn pointer_type(alloc: Global, content: &Value) -> Result<TypeInner, ReadError> {
+    expect_members(alloc, content, &["base", "space"])?;
     Ok(TypeInner::Pointer {
         base: member(alloc, content, "base")?,
         space: member(alloc, content, "space")?,
@@ -321,6 +330,7 @@ fn pointer_type(alloc: Global, content: &Value) -> Result<TypeInner, ReadError> 
 }
 
 fn value_pointer_type(alloc: Global, content: &Value) -> Result<TypeInner, ReadError> {
+    expect_members(alloc, content, &["size", "scalar", "space"])?;
     Ok(TypeInner::ValuePointer {
         size: member(alloc, content, "size")?,
         scalar: member(alloc, content, "scalar")?,
@@ -329,6 +339,7 @@ fn value_pointer_type(alloc: Global, content: &Value) -> Result<TypeInner, ReadE
 }
 
 fn array_of_type(alloc: Global, content: &Value) -> Result<TypeInner, ReadError> {
+    expect_members(alloc, content, &["base", "size", "stride"])?;
     Ok(TypeInner::Array {
         base: member(alloc, content, "base")?,
         size: member(alloc, content, "size")?,
@@ -337,6 +348,7 @@ fn array_of_type(alloc: Global, content: &Value) -> Result<TypeInner, ReadError>
 }
 
 fn struct_type(alloc: Global, content: &Value) -> Result<TypeInner, ReadError> {
+    expect_members(alloc, content, &["members", "span"])?;
     Ok(TypeInner::Struct {
         members: member(alloc, content, "members")?,
         span: member(alloc, content, "span")?,
@@ -344,6 +356,7 @@ fn struct_type(alloc: Global, content: &Value) -> Result<TypeInner, ReadError> {
 }
 
 fn image_type(alloc: Global, content: &Value) -> Result<TypeInner, ReadError> {
+    expect_members(alloc, content, &["dim", "arrayed", "class"])?;
     Ok(TypeInner::Image {
         dim: member(alloc, content, "dim")?,
         arrayed: member(alloc, content, "arrayed")?,
@@ -352,24 +365,28 @@ fn image_type(alloc: Global, content: &Value) -> Result<TypeInner, ReadError> {
 }
 
 fn sampler_type(alloc: Global, content: &Value) -> Result<TypeInner, ReadError> {
+    expect_members(alloc, content, &["comparison"])?;
     Ok(TypeInner::Sampler {
         comparison: member(alloc, content, "comparison")?,
     })
 }
 
 fn acceleration_structure_type(alloc: Global, content: &Value) -> Result<TypeInner, ReadError> {
+    expect_members(alloc, content, &["vertex_return"])?;
     Ok(TypeInner::AccelerationStructure {
         vertex_return: member(alloc, content, "vertex_return")?,
     })
 }
 
 fn ray_query_type(alloc: Global, content: &Value) -> Result<TypeInner, ReadError> {
+    expect_members(alloc, content, &["vertex_return"])?;
     Ok(TypeInner::RayQuery {
         vertex_return: member(alloc, content, "vertex_return")?,
     })
 }
 
 fn binding_array_type(alloc: Global, content: &Value) -> Result<TypeInner, ReadError> {
+    expect_members(alloc, content, &["base", "size"])?;
     Ok(TypeInner::BindingArray {
         base: member(alloc, content, "base")?,
         size: member(alloc, content, "size")?,
@@ -378,6 +395,7 @@ fn binding_array_type(alloc: Global, content: &Value) -> Result<TypeInner, ReadE
 
 impl FromJson for Type_ {
     fn from_json(alloc: Global, content: &Value) -> Result<Type_, ReadError> {
+        expect_members(alloc, content, &["name", "inner"])?;
         Ok(Type_ {
             name: member(alloc, content, "name")?,
             inner: member(alloc, content, "inner")?,
@@ -444,6 +462,7 @@ impl Variants for ImageClass {
 }
 
 fn class_sampled(alloc: Global, content: &Value) -> Result<ImageClass, ReadError> {
+    expect_members(alloc, content, &["kind", "multi"])?;
     Ok(ImageClass::Sampled {
         kind: member(alloc, content, "kind")?,
         multi: member(alloc, content, "multi")?,
@@ -451,12 +470,14 @@ fn class_sampled(alloc: Global, content: &Value) -> Result<ImageClass, ReadError
 }
 
 fn class_depth(alloc: Global, content: &Value) -> Result<ImageClass, ReadError> {
+    expect_members(alloc, content, &["multi"])?;
     Ok(ImageClass::Depth {
         multi: member(alloc, content, "multi")?,
     })
 }
 
 fn class_storage(alloc: Global, content: &Value) -> Result<ImageClass, ReadError> {
+    expect_members(alloc, content, &["format", "access"])?;
     Ok(ImageClass::Storage {
         format: member(alloc, content, "format")?,
         access: member(alloc, content, "access")?,

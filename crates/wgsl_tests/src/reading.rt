@@ -21,6 +21,21 @@ const REFUSALS: &[(&str, &str, &str)] = &[
         "module.types[0].inner.Scalar.kind: unknown name `Half`",
     ),
     (
+        r#"{"types": [{"inner": {"Scalar": {"kind": {"Half": null}, "width": 2}}}]}"#,
+        "{}",
+        "module.types[0].inner.Scalar.kind: unknown name `Half`",
+    ),
+    (
+        r#"{"types": [{"inner": {"Scalar": {"kind": {"Sint": 4}, "width": 4}}}]}"#,
+        "{}",
+        "module.types[0].inner.Scalar.kind.Sint: no null",
+    ),
+    (
+        r#"{"types": [{"inner": {"Scalar": {"kind": {}, "width": 4}}}]}"#,
+        "{}",
+        "module.types[0].inner.Scalar.kind: no name and no object with one member",
+    ),
+    (
         r#"{"types": [{"inner": {"Scalar": {"kind": "Float", "width": 256}}}]}"#,
         "{}",
         "module.types[0].inner.Scalar.width: number out of range",
@@ -111,7 +126,7 @@ const REFUSALS: &[(&str, &str, &str)] = &[
         r#"{"functions": [[-1]]}"#,
         "info.functions[0][0]: number out of range",
     ),
-    (r#"{"fuctions": []}"#, "{}", "module: no known member"),
+    (r#"{"fuctions": []}"#, "{}", "module: unknown member `fuctions`"),
     (
         "{}",
         r#"{"module": {}, "info": {}}"#,
@@ -158,9 +173,14 @@ const REFUSALS: &[(&str, &str, &str)] = &[
         "module.functions[0].body[0].Store: no object",
     ),
     (
-        r#"{"functions": [{"body": [{"If": {"condition": 0, "acept": []}}]}]}"#,
+        r#"{"functions": [{"body": [{"If": {"condition": 0}}]}]}"#,
         "{}",
         "module.functions[0].body[0].If.accept: missing",
+    ),
+    (
+        r#"{"functions": [{"body": [{"If": {"condition": 0, "acept": []}}]}]}"#,
+        "{}",
+        "module.functions[0].body[0].If: unknown member `acept`",
     ),
     (
         r#"{"functions": [{"body": [{"Loop": {"continuing": []}}]}]}"#,
@@ -221,6 +241,149 @@ const REFUSALS: &[(&str, &str, &str)] = &[
     ),
 ];
 
+/// The text of a module that says more than is read, an info's, and the message of the refusal.
+const LOSSES: &[(&str, &str, &str)] = &[
+    (
+        r#"{"entry_points": [{"early_depth_test": "Force"}]}"#,
+        "{}",
+        "module.entry_points[0].early_depth_test: not supported unless null",
+    ),
+    (
+        r#"{"entry_points": [{"early_depth_test": {"Allow": {"conservative": "Unchanged"}}}]}"#,
+        "{}",
+        "module.entry_points[0].early_depth_test: not supported unless null",
+    ),
+    (
+        r#"{"entry_points": [{"workgroup_size_overrides": [3, null, null]}]}"#,
+        "{}",
+        "module.entry_points[0].workgroup_size_overrides[0]: not supported unless null",
+    ),
+    (
+        r#"{"entry_points": [{"workgroup_size_overrides": [null, 3, null]}]}"#,
+        "{}",
+        "module.entry_points[0].workgroup_size_overrides[1]: not supported unless null",
+    ),
+    (
+        r#"{"entry_points": [{"workgroup_size_overrides": [null, null, 3]}]}"#,
+        "{}",
+        "module.entry_points[0].workgroup_size_overrides[2]: not supported unless null",
+    ),
+    (
+        r#"{"entry_points": [{"workgroup_size_overrides": [null, null]}]}"#,
+        "{}",
+        "module.entry_points[0].workgroup_size_overrides: no list of 3",
+    ),
+    (
+        r#"{"entry_points": [{"workgroup_size_overrides": 3}]}"#,
+        "{}",
+        "module.entry_points[0].workgroup_size_overrides: not supported unless null",
+    ),
+    (
+        r#"{"entry_points": [{"workgroup_order": "Z"}]}"#,
+        "{}",
+        "module.entry_points[0]: unknown member `workgroup_order`",
+    ),
+    (
+        r#"{"entry_points": [{"name": "main", "stage": "Hull"}]}"#,
+        "{}",
+        "module.entry_points[0].stage: unknown name `Hull`",
+    ),
+    (
+        r#"{"entry_points": [{"name": "main", "stage": "Mesh", "workgroup_size": [1, 1, 1],
+            "function": {}, "mesh_info": {"output_variable": 0, "cull": true}}]}"#,
+        "{}",
+        "module.entry_points[0].mesh_info: unknown member `cull`",
+    ),
+    (
+        r#"{"global_variables": [{"space": "Private", "ty": 0, "memory_decorations": "LAZY"}]}"#,
+        "{}",
+        "module.global_variables[0].memory_decorations: unknown name `LAZY`",
+    ),
+    (
+        r#"{"global_variables": [{"space": "Private", "ty": 0, "memory_decorations": 4}]}"#,
+        "{}",
+        "module.global_variables[0].memory_decorations: number out of range",
+    ),
+    (
+        r#"{"global_variables": [{"space": "Private", "ty": 0, "align": 16}]}"#,
+        "{}",
+        "module.global_variables[0]: unknown member `align`",
+    ),
+    (
+        r#"{"global_variables": [{"binding": {"group": 0, "binding": 1, "set": 2},
+            "space": "Uniform", "ty": 0}]}"#,
+        "{}",
+        "module.global_variables[0].binding: unknown member `set`",
+    ),
+    (
+        r#"{"global_variables": [{"space": {"Storage": {"access": 1, "order": 1}}, "ty": 0}]}"#,
+        "{}",
+        "module.global_variables[0].space.Storage: unknown member `order`",
+    ),
+    (
+        r#"{"types": [{"inner": {"Struct": {"span": 4, "members": [
+            {"ty": 0, "offset": 0, "size": 4}]}}}]}"#,
+        "{}",
+        "module.types[0].inner.Struct.members[0]: unknown member `size`",
+    ),
+    (
+        r#"{"functions": [{"arguments": [{"ty": 0, "binding": {"Location": {"location": 0,
+            "component": 1}}}]}]}"#,
+        "{}",
+        "module.functions[0].arguments[0].binding.Location: unknown member `component`",
+    ),
+    (
+        r#"{"functions": [{"result": {"ty":0, "binding":{"BuiltIn":{"Position":{"at": 1}}}}}]}"#,
+        "{}",
+        "module.functions[0].result.binding.BuiltIn.Position: unknown member `at`",
+    ),
+    (
+        r#"{"constants": [{"ty": 0, "init": 0, "override": true}]}"#,
+        "{}",
+        "module.constants[0]: unknown member `override`",
+    ),
+    (
+        r#"{"overrides": [{"ty": 0, "value": 0}]}"#,
+        "{}",
+        "module.overrides[0]: unknown member `value`",
+    ),
+    (
+        r#"{"functions": [{"pure": true}]}"#,
+        "{}",
+        "module.functions[0]: unknown member `pure`",
+    ),
+    (
+        r#"{"functions": [{"expressions": [{"Load": {"pointer": 0, "volatile": true}}]}]}"#,
+        "{}",
+        "module.functions[0].expressions[0].Load: unknown member `volatile`",
+    ),
+    (
+        r#"{"functions": [{"body": [{"Return": {"value": null, "to": 1}}]}]}"#,
+        "{}",
+        "module.functions[0].body[0].Return: unknown member `to`",
+    ),
+    (
+        r#"{"global_expressions": [{"Literal": {"F32": {"bits": 0, "sign": 1}}}]}"#,
+        "{}",
+        "module.global_expressions[0].Literal.F32: unknown member `sign`",
+    ),
+    (
+        r#"{"special_types": {"ray_flags": 0}}"#,
+        "{}",
+        "module.special_types: unknown member `ray_flags`",
+    ),
+    (
+        r#"{"types": [], "a\n\u001b[31m": 0}"#,
+        "{}",
+        r"module: unknown member `a\n\u{1b}[31m`",
+    ),
+    (
+        "{}",
+        r#"{"functions": [[{"Value": {"Sampler": {"filter": 1}}}]]}"#,
+        "info.functions[0][0].Value.Sampler: unknown member `filter`",
+    ),
+];
+
 /// A module's text, an info's, and a part of how what is read is printed.
 const READINGS: &[(&str, &str, &str)] = &[
     (
@@ -275,7 +438,7 @@ const READINGS: &[(&str, &str, &str)] = &[
         r#""two", "#,
     ),
     (
-        r#"{"functions": [{"body": ["Return"], "doc": 7}]}"#,
+        r#"{"functions": [{"body": ["Return"]}]}"#,
         "{}",
         "[Return { value: None }]",
     ),
@@ -302,6 +465,71 @@ const READINGS: &[(&str, &str, &str)] = &[
         "{ModfResult { size: Some(Bi), scalar: Scalar { kind: Float, width: 4 } }: \
          Place { index: 1, mark: PhantomData<_> }}",
     ),
+    // both spellings of a variant without content
+    (
+        r#"{"types": [{"inner": {"Scalar": {"kind": {"Sint": null}, "width": 4}}}]}"#,
+        "{}",
+        "Scalar { kind: Sint, width: 4 }",
+    ),
+    (
+        r#"{"functions": [{"body": [{"Break": null}]}]}"#,
+        "{}",
+        "[Break]",
+    ),
+];
+
+/// The text of a module that says what is let be, or that a stage has none of what it could have,
+/// an info's, and a part of how what is read is printed.
+const LET_BE: &[(&str, &str, &str)] = &[
+    (
+        r#"{"diagnostic_filters": [{"inner": {"new_severity": "Off"}, "parent": null}],
+            "diagnostic_filter_leaf": 0, "doc_comments": {"module": ["A shader."]}}"#,
+        "{}",
+        "entry_points: []",
+    ),
+    (
+        r#"{"functions": [{"body": ["Kill"], "diagnostic_filter_leaf": 0}]}"#,
+        "{}",
+        "[Kill]",
+    ),
+    (
+        r#"{"special_types": {"ray_desc": 0, "ray_intersection": 1, "ray_vertex_return": 2}}"#,
+        "{}",
+        "external_texture_params: None",
+    ),
+    (
+        r#"{"functions": [{"body": [{"RayQuery": {"query": 3, "fun": "Terminate"}}]}]}"#,
+        "{}",
+        "[RayQuery { query: Place { index: 3, mark: PhantomData<_> } }]",
+    ),
+    (
+        r#"{"entry_points": [{"name": "main", "stage": "Compute", "workgroup_size": [8, 1, 1],
+            "function": {}, "early_depth_test": null, "workgroup_size_overrides": null}]}"#,
+        "{}",
+        "workgroup_size: [8, 1, 1]",
+    ),
+    (
+        r#"{"entry_points": [{"name": "main", "stage": "Compute", "workgroup_size": [8, 1, 1],
+            "function": {}, "workgroup_size_overrides": [null, null, null]}]}"#,
+        "{}",
+        "workgroup_size: [8, 1, 1]",
+    ),
+    (
+        r#"{"entry_points": [{"name": "main", "stage": "Mesh", "workgroup_size": [1, 1, 1],
+            "function": {}, "mesh_info": {"topology": "Triangles", "max_vertices": 3,
+            "max_vertices_override": null, "max_primitives": 1, "max_primitives_override": null,
+            "vertex_output_type": 4, "primitive_output_type": 5, "output_variable": 9}}]}"#,
+        "{}",
+        "MeshStageInfo { output_variable: Place { index: 9, mark: PhantomData<_> } }",
+    ),
+    (
+        "{}",
+        r#"{"type_flags": [255], "functions": [{"flags": 255, "available_stages": 7,
+            "uniformity": {"requirements": 0}, "may_kill": false, "sampling_set": [],
+            "global_uses": ["READ"], "expressions": [{"uniformity": {}, "ref_count": 2,
+            "assignable_global": null, "ty": {"Handle": 7}}]}]}"#,
+        "ExpressionInfo { ref_count: 2, ty: Handle(Place { index: 7, mark: PhantomData<_> }) }",
+    ),
 ];
 
 /// An object with module and info.
@@ -309,26 +537,44 @@ fn known_text(rt: &impl Abort, alloc: Global, module: &str, info: &str) -> Strin
     format!(in alloc; "{{\"module\": {module}, \"info\": {info}}}").expect(rt, "memory")
 }
 
-#[test]
-fn a_refusal_tells_place_and_problem(rt: HostRuntime) {
-    let alloc = rt.alloc();
-    for (module, info, want) in REFUSALS {
-        let text = known_text(&rt, alloc, *module, *info);
-        let error = read_known(alloc, text.as_str()).expect_err(&rt, text.as_str());
-        let message = format!(in alloc; "{error}").expect(&rt, "memory");
+/// Each row is refused, with its message.
+fn rows_are_refused(rt: &impl Abort, alloc: Global, rows: &[(&str, &str, &str)]) {
+    for (module, info, want) in rows {
+        let text = known_text(rt, alloc, *module, *info);
+        let error = read_known(alloc, text.as_str()).expect_err(rt, text.as_str());
+        let message = format!(in alloc; "{error}").expect(rt, "memory");
         assert_eq!(rt; message.as_str(), *want, "{text}");
     }
 }
 
-#[test]
-fn values_are_read(rt: HostRuntime) {
-    let alloc = rt.alloc();
-    for (module, info, want) in READINGS {
-        let text = known_text(&rt, alloc, *module, *info);
-        let known = read_known(alloc, text.as_str()).expect(&rt, text.as_str());
-        let printed = format!(in alloc; "{known:?}").expect(&rt, "memory");
+/// Each row is read, and its part stands in how that is printed.
+fn rows_are_read(rt: &impl Abort, alloc: Global, rows: &[(&str, &str, &str)]) {
+    for (module, info, want) in rows {
+        let text = known_text(rt, alloc, *module, *info);
+        let known = read_known(alloc, text.as_str()).expect(rt, text.as_str());
+        let printed = format!(in alloc; "{known:?}").expect(rt, "memory");
         assert!(rt; printed.as_str().contains(*want), "{text}: {printed}");
     }
+}
+
+#[test]
+fn a_refusal_tells_place_and_problem(rt: HostRuntime) {
+    rows_are_refused(&rt, rt.alloc(), REFUSALS);
+}
+
+#[test]
+fn what_would_be_lost_is_refused(rt: HostRuntime) {
+    rows_are_refused(&rt, rt.alloc(), LOSSES);
+}
+
+#[test]
+fn values_are_read(rt: HostRuntime) {
+    rows_are_read(&rt, rt.alloc(), READINGS);
+}
+
+#[test]
+fn what_changes_no_shader_is_let_be(rt: HostRuntime) {
+    rows_are_read(&rt, rt.alloc(), LET_BE);
 }
 
 #[test]
