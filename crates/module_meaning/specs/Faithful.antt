@@ -40,8 +40,8 @@ pub record HasInterfaceOf (m : Module) (info : ModuleInfo) (program : Program) :
 -- What holds of each run of the module and the run of the program beside it: of each function and
 -- entry point, under all values of overrides and arguments of their types and every typed meaning
 -- of operators, in every world, with every bound on loop turns and behind any history. Each side
--- computes its named constants by itself. What places are made of is told to both alike: the structs
--- of the program have the members of the module's, as its interface tells.
+-- computes its named constants by itself. What places are made of is told to both alike: the
+-- structs of the program have the members of the module's, as its interface tells.
 abbrev pub OfEachRun : Module → ModuleInfo → Program →
     ((module_run text_run : ReachedOrHalted (Option Value)) → Type 0) → Type 0
 OfEachRun m info program Holds =
