@@ -7,9 +7,11 @@ use Rattle.shader_runs.specs.Outcome.{Stop, Mistyped, Outcome, Done, Continued, 
 use Rattle.shader_runs.specs.Outcome.{Stopped, ReachedOrHalted, Gives, Halts, answer, Next}
 use Rattle.shader_runs.specs.Outcome.{and_then}
 use Rattle.shader_runs.specs.Outcome.{and_continue, within, and_again, turns, after_switch}
-use Rattle.shader_runs.specs.Outcome.{closed_outcome, branch_by, or_stuck, reach}
+use Rattle.shader_runs.specs.Outcome.{closed_outcome, closed_if, branch_by, or_stuck, reach}
 use Rattle.shader_runs.specs.ProgramRun.{if_typed, with_pointer}
-use Rattle.shader_runs.specs.TextRun.{Denotation, IsPlace, with_value, with_place}
+use Rattle.shader_runs.specs.Text.{Lines, last, before}
+use Rattle.shader_runs.specs.TextRun.{Denotation, IsPlace, Scope, Words, with_value, with_place}
+use Rattle.shader_runs.specs.TextRun.{has_continue, follow, follow_all, follow_in_loop}
 
 abbrev pub HoldsOf : {A : Type 0} → (A → Type 0) → ReachedOrHalted A → Type 0
 HoldsOf R (Gives a t) = R a
@@ -98,6 +100,44 @@ closed_alike t p q b (broke {s = s} {t = t1} h) = broke (b s t1 h)
 closed_alike t p q b (returned_alike r) = returned_alike r
 closed_alike t p q b stopped = stopped
 closed_alike t p q b mistyped = mistyped
+
+-- both end alike, whatever states they leave
+pub data SameEnd {S : Type 0} : Outcome S → Outcome S → Type 0 where
+  both_end : {s s' : S} {e : List Event} → SameEnd (Done s e) (Done s' e)
+  both_continue : {s s' : S} {e : List Event} → SameEnd (Continued s e) (Continued s' e)
+  both_break : {s s' : S} {e : List Event} → SameEnd (Broke s e) (Broke s' e)
+  both_return : {v : Option Value} {e : List Event} → SameEnd (Returned v e) (Returned v e)
+  both_stop : {x : Stop} {e : List Event} → SameEnd (Stopped x e) (Stopped x e)
+
+then_ends : {S : Type 0} (g g' : Next S) → ((s : S) (e : List Event) → SameEnd (g s e) (g' s e)) → (o : Outcome S) → SameEnd (and_then o g) (and_then o g')
+then_ends g g' same (Done s e) = same s e
+then_ends g g' same (Continued s e) = both_continue
+then_ends g g' same (Broke s e) = both_break
+then_ends g g' same (Returned v e) = both_return
+then_ends g g' same (Stopped x e) = both_stop
+
+closed_ends : {S : Type 0} {o o' : Outcome S} (b : Bool) (s : S) → SameEnd o o' → SameEnd (closed_if b s o) o'
+closed_ends false s same = same
+closed_ends true s both_end = both_end
+closed_ends true s both_continue = both_continue
+closed_ends true s both_break = both_break
+closed_ends true s both_return = both_return
+closed_ends true s both_stop = both_stop
+
+-- lines end in a loop as they end elsewhere
+pub list_ends : (l : Words) (n : ℕ) (ls : Lines) (names : Scope) (t : List Event) → SameEnd (follow_in_loop l n ls names t) (follow_all l n ls names t)
+list_ends l n last names t = both_end
+list_ends l n (before x ls) names t =
+    closed_ends (has_continue x) names (then_ends (follow_in_loop l n ls) (follow_all l n ls) (list_ends l n ls) (follow l n x names t))
+
+pub alike_ends : {S T : Type 0} {R : Option Value → Type 0} {P Q B : S → Type 0} {o : Outcome S} {o' o'' : Outcome T} →
+    SameEnd o' o'' → Alike R (λ s t. P s) (λ s t. Q s) (λ s t. B s) o o' → Alike R (λ s t. P s) (λ s t. Q s) (λ s t. B s) o o''
+alike_ends both_end (done h) = done h
+alike_ends both_continue (continued h) = continued h
+alike_ends both_break (broke h) = broke h
+alike_ends both_return (returned_alike r) = returned_alike r
+alike_ends both_stop stopped = stopped
+alike_ends same mistyped = mistyped
 
 -- both go on alike with what is there
 pub there_alike : {A S T : Type 0} {R : Option Value → Type 0} {P Q B : S → T → Type 0}

@@ -30,7 +30,7 @@ use Rattle.shader_runs.specs.TextRun.{first_then, first_of_each, entered_by, fol
 use Rattle.shader_runs.specs.TextRun.{follow_body, follow_call}
 use Rattle.shader_runs.specs.Scope.{ModuleNames, Naming, usable, usable_if, named_after}
 use Rattle.shader_runs.specs.Scope.{named_after_all, named_by, named_by_all, named_by_cases}
-use Rattle.shader_runs.specs.Scope.{at_start, before_local, first_values_fit, fits_all, after_all}
+use Rattle.shader_runs.specs.Scope.{at_start, before_local, first_values_fit, fits_all}
 use Rattle.shader_runs.specs.Form.{names_from, variables_from, globals_from, value_at, value_if}
 use Rattle.shader_runs.specs.Form.{form_all, form_function, form_functions, form_module}
 use Rattle.shader_runs.specs.Form.{functions_of}
@@ -50,7 +50,7 @@ use Rattle.shader_runs.proofs.Relation.{Returns, global_as, IsHere, NoName, fixe
 use Rattle.shader_runs.proofs.Evaluation.{words, Respond, Responds}
 use Rattle.shader_runs.proofs.Form.{Facts, globals_length, value_here}
 use Rattle.shader_runs.proofs.Checked.{FitsAll}
-use Rattle.shader_runs.proofs.Statements.{Same, same_all}
+use Rattle.shader_runs.proofs.Statements.{SameBody, same_body, same_all}
 use Rattle.shader_runs.proofs.Fresh.{all_fresh, start_sources}
 use Rattle.shader_runs.proofs.Start.{start_stands}
 use Rattle.shader_runs.proofs.Names.{parameter_other, parameter_at, variable_place, variable_other}
@@ -519,17 +519,19 @@ module _ (p : Module) (n : ModuleNames) (uses : Bytes → WordUse) (uses_fit : U
     -- both runs of the body
     list_alike : length vs ≡ argument_count f.function →
         IsTrue (has_types env.parts f.function.argument_types vs) →
-        (t1 : List Event) → Same (call_of fs f vs t) f.names (at_start f.function)
-        (constants_kept f.function env m) (after_all f 0 f.function.body (at_start f.function))
-        (any_continue f.function.body)
+        (t1 : List Event) → SameBody (call_of fs f vs t) (at_start f.function)
+        (constants_kept f.function env m) (any_continue f.function.body)
         (run_all (call_of fs f vs t) bound f.function.body (constants_kept f.function env m) t1)
         (follow_all (words (call_of fs f vs t) (responses fs)) bound
         (form_all f 0 f.function.body (at_start f.function)) (first_names n f vs t) t1)
     list_alike e k t1 =
-        same_all p (call_of fs f vs t) f.names (responses fs)
-        (facts fs within fits earlier f start typed vs t k) bound f.function.body 0
+        let facts = facts fs within fits earlier f start typed vs t k in
+        let lines = form_all f 0 f.function.body (at_start f.function) in
+        same_body p (call_of fs f vs t) f.names (responses fs) facts bound (at_start f.function) _
+        (constants_kept f.function env m) (any_continue f.function.body) _ lines (first_names n f vs t) t1
+        (same_all p (call_of fs f vs t) f.names (responses fs) facts bound f.function.body 0
         (at_start f.function) (first_names n f vs t) (constants_kept f.function env m) t1
-        (starts fs within fits earlier f start typed vs t e) body_fits
+        (starts fs within fits earlier f start typed vs t e) body_fits)
 
     body_alike : (place place' : ℕ) → place' ≡ place → length vs ≡ argument_count f.function →
         IsTrue (has_types env.parts f.function.argument_types vs) →

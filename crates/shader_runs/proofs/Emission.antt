@@ -18,7 +18,7 @@ use Rattle.shader_runs.specs.ProgramRun.{after_load, after_request, if_counted, 
 use Rattle.shader_runs.specs.ProgramRun.{keep_typed}
 use Rattle.shader_runs.specs.Text.{Apply, Lines}
 use Rattle.shader_runs.specs.TextRun.{Denotation, IsValue, Scope, read_value, as_value, word_answer}
-use Rattle.shader_runs.specs.TextRun.{evaluate_all, value_of, with_value, follow_all, IsPlace}
+use Rattle.shader_runs.specs.TextRun.{evaluate_all, value_of, with_value, follow_in_loop, IsPlace}
 use Rattle.shader_runs.specs.Scope.{Availability, Absent, Barred, Everywhere, is_present, is_new}
 use Rattle.shader_runs.specs.Scope.{Inline, Bound, Handles, Names, bound_name, is_pure}
 use Rattle.shader_runs.specs.Scope.{is_emittable, usable, usable_all, availability_without_name}
@@ -207,13 +207,13 @@ module _ (p : Module) (c : Call) (n : Names) (d : Respond) (facts : Facts p c n 
       (x : Bytes) (a : IsTrue (is_new (s h))) (i : (o : Option Value) →
       used_value_as c (expression_of c.function h) o ≡ o) (t : List Event) where
     load_place : (IsTrue (is_present (s h)) → ⊥) → IsFresh c n s x →
-        GoesOn c n R P Q B s kept (update s h (Bound x)) f (follow_all (words c d) bound tail) →
+        GoesOn c n R P Q B s kept (update s h (Bound x)) f (follow_in_loop (words c d) bound tail) →
         (o : Option Place) →
         Alike R P Q B
         (and_then (or_stuck o t (λ p. keep_typed c.environment.parts (handle_type c.function h) h
         (c.world t (Read p)) kept (Read p ∷ t))) f)
         (bound_next (read_value c.world (reach (option_map IsPlace o) t)) x names
-        (follow_all (words c d) bound tail))
+        (follow_in_loop (words c d) bound tail))
     load_place none fresh next None = stopped
     load_place none fresh next (Some q) =
         let value = c.world t (Read q) in
@@ -225,12 +225,12 @@ module _ (p : Module) (c : Call) (n : Names) (d : Respond) (facts : Facts p c n 
         (agree_update s kept h (Some value) (λ p. absurd (none p))))
 
     load_at : (IsTrue (is_present (s h)) → ⊥) → IsFresh c n s x →
-        GoesOn c n R P Q B s kept (update s h (Bound x)) f (follow_all (words c d) bound tail) →
+        GoesOn c n R P Q B s kept (update s h (Bound x)) f (follow_in_loop (words c d) bound tail) →
         (o : Option Value) → (v : Value) ×
         (o ≡ Some v) →
         Alike R P Q B
         (and_then (after_load c.environment.parts (handle_type c.function h) c.world h o kept t) f)
-        (bound_next (read_value c.world (placed o t)) x names (follow_all (words c d) bound tail))
+        (bound_next (read_value c.world (placed o t)) x names (follow_in_loop (words c d) bound tail))
     load_at none fresh next None v = absurd (none-some v.0 v.1)
     load_at none fresh next (Some u) v = load_place none fresh next (place_in u)
 
@@ -238,18 +238,18 @@ module _ (p : Module) (c : Call) (n : Names) (d : Respond) (facts : Facts p c n 
         MayBind c n b s x (Some (Load q)) →
         GoesOn c n R P Q B s kept
         (with_emitted_handle b false (usable_all c.function s (q ∷ [])) x s h) f
-        (follow_all (words c d) bound tail) →
+        (follow_in_loop (words c d) bound tail) →
         Alike R P Q B
         (and_then (if_counted b (after_load c.environment.parts (handle_type c.function h) c.world h
         (used_value c kept q)) kept t) f)
-        (follow_all (words c d) bound (let_if b x (place_form (written_form (naming c n) s q)) tail)
+        (follow_in_loop (words c d) bound (let_if b x (place_form (written_form (naming c n) s q)) tail)
         names t)
     emit_load none true q m next =
         let u = and_left (usable c.function s q) true m.0 in
         subst (λ z. Alike R P Q B
         (and_then (after_load c.environment.parts (handle_type c.function h) c.world h
         (used_value c kept q) kept t) f)
-        (bound_next (read_value c.world z) x names (follow_all (words c d) bound tail)))
+        (bound_next (read_value c.world z) x names (follow_in_loop (words c d) bound tail)))
         (sym (place_here p c n d facts s names kept r q u t))
         (load_at none m.1 next (used_value c kept q)
         (value_only c.environment.parts (handle_type c.function q) (used_value c kept q)
@@ -257,21 +257,21 @@ module _ (p : Module) (c : Call) (n : Names) (d : Respond) (facts : Facts p c n 
     emit_load none false q m next = next kept names t r (agree_refl s kept)
 
     let_at : IsFresh c n s x → GoesOn c n R P Q B s kept (update s h (Bound x)) f
-        (follow_all (words c d) bound tail) → (o : Option Value) →
+        (follow_in_loop (words c d) bound tail) → (o : Option Value) →
         (IsTrue (is_present (s h)) → o ≡ kept h) →
         TypedValue c.environment.parts (handle_type c.function h) o → (q : ReachedOrHalted Value) →
         q ≡ reach o t →
         Alike R P Q B (f (update kept h o) t)
-        (bound_next q x names (follow_all (words c d) bound tail))
+        (bound_next q x names (follow_in_loop (words c d) bound tail))
     let_at fresh next o un v q e =
         let same = e ∙ ap (λ o. reach o t) v.1 in
         let there = next (update kept h (Some v.0)) (bind names x (Some (IsValue v.0))) t
         (bind_related c n s names kept h x v.0 r (λ p. sym v.1 ∙ un p) i fresh v.2)
         (agree_update s kept h (Some v.0) (λ p. sym v.1 ∙ un p)) in
         subst (λ o. Alike R P Q B (f (update kept h o) t)
-        (bound_next q x names (follow_all (words c d) bound tail))) (sym v.1)
+        (bound_next q x names (follow_in_loop (words c d) bound tail))) (sym v.1)
         (subst (λ q. Alike R P Q B (f (update kept h (Some v.0)) t)
-        (bound_next q x names (follow_all (words c d) bound tail))) (sym same) there)
+        (bound_next q x names (follow_in_loop (words c d) bound tail))) (sym same) there)
 
     inline_at : (u : Bool) →
         (IsTrue u → IsTrue (usable_all c.function s (operands_of (expression_of c.function h)))) →
@@ -279,8 +279,8 @@ module _ (p : Module) (c : Call) (n : Names) (d : Respond) (facts : Facts p c n 
         (IsTrue u → TypedValue c.environment.parts (handle_type c.function h) o) →
         o ≡ computed_value c kept (expression_of c.function h) →
         GoesOn c n R P Q B s kept (with_emitted_handle false true u x s h) f
-        (follow_all (words c d) bound tail) →
-        Alike R P Q B (f (update kept h o) t) (follow_all (words c d) bound tail names t)
+        (follow_in_loop (words c d) bound tail) →
+        Alike R P Q B (f (update kept h o) t) (follow_in_loop (words c d) bound tail names t)
     inline_at true u o un v e next =
         next (update kept h o) names t (inline_related c n s names kept h o r un (u refl) (v refl) e) (agree_update s kept h o un)
     inline_at false u o un v e next =
@@ -324,9 +324,9 @@ module _ (p : Module) (c : Call) (n : Names) (d : Respond) (facts : Facts p c n 
         LeafFits p c.function (handle_type c.function h) e → MayBind c n b s x e →
         GoesOn c n R P Q B s kept
         (with_emitted_handle b true (usable_all c.function s (operands_of e)) x s h) f
-        (follow_all (words c d) bound tail) →
+        (follow_in_loop (words c d) bound tail) →
         Alike R P Q B (f (update kept h (computed_value c kept e)) t)
-        (follow_all (words c d) bound
+        (follow_in_loop (words c d) bound
         (let_if b x (value_form
         (own_form (naming c n) (written_form (naming c n) s) e)) tail)
         names t)
@@ -344,20 +344,20 @@ module _ (p : Module) (c : Call) (n : Names) (d : Respond) (facts : Facts p c n 
         (ap (computed_value c kept) (sym q)) next
 
     request_at : (IsTrue (is_present (s h)) → ⊥) → (w : Bytes) → IsFresh c n s x →
-        GoesOn c n R P Q B s kept (update s h (Bound x)) f (follow_all (words c d) bound tail) →
+        GoesOn c n R P Q B s kept (update s h (Bound x)) f (follow_in_loop (words c d) bound tail) →
         (os : Option (List Value)) → (vs : List Value) × (os ≡ Some vs) →
         (q : ReachedOrHalted Value) →
         ((vs : List Value) → os ≡ Some vs → q ≡ Gives (c.world t (Ask w vs)) (Ask w vs ∷ t)) →
         Alike R P Q B
         (and_then (after_request c.environment.parts (handle_type c.function h) c.world h w os kept
-        t) f) (bound_next q x names (follow_all (words c d) bound tail))
+        t) f) (bound_next q x names (follow_in_loop (words c d) bound tail))
     request_at none w fresh next None v q e = absurd (none-some v.0 v.1)
     request_at none w fresh next (Some vs) v q e =
         let value = c.world t (Ask w vs) in
         typed_alike (has_type c.environment.parts (handle_type c.function h) value) (Ask w vs ∷ t)
         (Done (update kept h (Some value)) (Ask w vs ∷ t)) f
         (λ y. subst (λ q. Alike R P Q B (f (update kept h (Some value)) (Ask w vs ∷ t))
-        (bound_next q x names (follow_all (words c d) bound tail))) (sym (e vs refl))
+        (bound_next q x names (follow_in_loop (words c d) bound tail))) (sym (e vs refl))
         (next (update kept h (Some value)) (bind names x (Some (IsValue value))) (Ask w vs ∷ t)
         (bind_related c n s names kept h x value r (λ p. absurd (none p)) i fresh y)
         (agree_update s kept h (Some value) (λ p. absurd (none p)))))
@@ -368,12 +368,12 @@ module _ (p : Module) (c : Call) (n : Names) (d : Respond) (facts : Facts p c n 
         ConstantsTyped c.environment.parts p c.meaning es →
         MayBind c n b s x (Some (Request q w xs es)) →
         GoesOn c n R P Q B s kept (with_emitted_handle b false (usable_all c.function s xs) x s h) f
-        (follow_all (words c d) bound tail) →
+        (follow_in_loop (words c d) bound tail) →
         Alike R P Q B
         (and_then (if_counted b
         (after_request c.environment.parts (handle_type c.function h) c.world h w
         (joined_values (used_values c kept xs) (constant_values c.environment c.meaning es))) kept
-        t) f) (follow_all (words c d) bound
+        t) f) (follow_in_loop (words c d) bound
         (let_if b x (Apply w
         (value_forms_then (written_form (naming c n) s) xs (constant_forms n.outer es))) tail) names
         t)
@@ -400,9 +400,9 @@ module _ (p : Module) (c : Call) (n : Names) (d : Respond) (facts : Facts p c n 
         IsTrue (is_emittable e) → MayBind c n (binds_as c.function h e) s x e →
         GoesOn c n R P Q B s kept
         (with_emitted_handle (binds_as c.function h e) (is_pure e)
-        (usable_all c.function s (operands_of e)) x s h) f (follow_all (words c d) bound tail) →
+        (usable_all c.function s (operands_of e)) x s h) f (follow_in_loop (words c d) bound tail) →
         Alike R P Q B (and_then (emit_as c h e kept t) f)
-        (follow_all (words c d) bound
+        (follow_in_loop (words c d) bound
         (let_if (binds_as c.function h e) x
         (value_form (own_form (naming c n) (written_form (naming c n) s) e)) tail) names t)
     emit_one_as (Some (Load q)) y i l e k m next = emit_load (no_event (Some (Load q)) e (λ vs. refl)) (is_counted c.function 1 h) q m next
@@ -453,9 +453,9 @@ pub emit_alike : (p : Module) (c : Call) (n : Names) (d : Respond) (facts : Fact
     (f : Next KeptValues) (tail : Lines) (k : ℕ) (hs : List ℕ) (s : Handles) (names : Scope)
     (kept : KeptValues) (t : List Event) → Related c n s names kept → MayEmitAll c n k hs s →
     GoesOn c n R P Q B s kept (after_emit (naming c n) k hs s) f
-    (follow_all (words c d) bound tail) →
+    (follow_in_loop (words c d) bound tail) →
     Alike R P Q B (and_then (emit c hs kept t) f)
-    (follow_all (words c d) bound (lets (naming c n) k hs s tail) names t)
+    (follow_in_loop (words c d) bound (lets (naming c n) k hs s tail) names t)
 emit_alike p c n d facts R P Q B bound f tail k [] s names kept t r m next = next kept names t r (agree_refl s kept)
 emit_alike p c n d facts R P Q B bound f tail k (h ∷ hs) s names kept t r m next =
     let k1 = named_after c.function h k in
@@ -471,4 +471,4 @@ emit_alike p c n d facts R P Q B bound f tail k (h ∷ hs) s names kept t r m ne
     kept1 t1 r1 m.1
     (λ kept2 names2 t2 r2 a2. next kept2 names2 t2 r2
     (agree_trans s s1 kept kept1 kept2 x a1 a2))) in
-    subst (λ o. Alike R P Q B o (follow_all (words c d) bound (lets (naming c n) k (h ∷ hs) s tail) names t)) (sym (then_assoc (emit_as c h (expression_of c.function h) kept t) (emit c hs) f)) there
+    subst (λ o. Alike R P Q B o (follow_in_loop (words c d) bound (lets (naming c n) k (h ∷ hs) s tail) names t)) (sym (then_assoc (emit_as c h (expression_of c.function h) kept t) (emit c hs) f)) there

@@ -18,7 +18,8 @@ use Rattle.shader_runs.specs.ProgramRun.{ask_each, same_label, label_if, run, ru
 use Rattle.shader_runs.specs.Text.{Tree, Line, Let, Braces, IfElse, SwitchOn, LoopOf, Lines, last}
 use Rattle.shader_runs.specs.Text.{before, Groups}
 use Rattle.shader_runs.specs.TextRun.{Scope, perform_outcome, value_of, with_value, has_continue}
-use Rattle.shader_runs.specs.TextRun.{among, group_has, follow, follow_all, follow_groups}
+use Rattle.shader_runs.specs.TextRun.{among, group_has, follow, follow_all, follow_in_loop}
+use Rattle.shader_runs.specs.TextRun.{follow_groups}
 use Rattle.shader_runs.specs.Scope.{usable, Handles, Names, bound_name, after_one, named_after}
 use Rattle.shader_runs.specs.Scope.{named_after_all, after_emit, named_by, named_by_all, after}
 use Rattle.shader_runs.specs.Scope.{after_all, forgotten_if}
@@ -155,7 +156,7 @@ module _ (p : Module) (c : Call) (n : Names) (d : Respond) (facts : Facts p c n 
   own_lines : (st : Statement) (k : ℕ) (s : Handles) (names : Scope) (kept kept1 : KeptValues)
       (t t1 : List Event) → Related c n s names kept → Fits p c n k st s →
       run c bound st kept t ≡ Done kept1 t1 → (names1 : Scope) ×
-      (follow_all (words c d) bound (form (naming c n) k st s last) names t ≡ Done names1 t1) ×
+      (follow_in_loop (words c d) bound (form (naming c n) k st s last) names t ≡ Done names1 t1) ×
       (Related c n (forgotten_if (holds_continue st) s (after (naming c n) k st s)) names1 kept1 ×
       Agree s kept kept1)
   own_lines st k s names kept kept1 t t1 r m e =
@@ -166,7 +167,7 @@ module _ (p : Module) (c : Call) (n : Names) (d : Respond) (facts : Facts p c n 
   -- a line that gives a name or nothing
   one_line : (x : Line) (s1 : Handles) (names : Scope) (kept1 : KeptValues) (t t1 : List Event) →
       has_continue x ≡ false → (names1 : Scope) ×
-      (follow_all (words c d) bound (before x last) names t ≡ Done names1 t1) ×
+      (follow_in_loop (words c d) bound (before x last) names t ≡ Done names1 t1) ×
       Related c n s1 names1 kept1 → (names1 : Scope) × Related c n s1 names1 kept1 ×
       ((tail : Lines) → Leads (before x tail) (λ q. behind q) names t tail names1 t1)
   one_line x s1 names kept1 t t1 none w =
@@ -211,7 +212,7 @@ module _ (p : Module) (c : Call) (n : Names) (d : Respond) (facts : Facts p c n 
 
   closing_line : (x : Line) (s : Handles) (names : Scope) (kept kept1 : KeptValues)
       (t t1 : List Event) → Closes x names t → Related c n s names kept → (names1 : Scope) ×
-      (follow_all (words c d) bound (before x last) names t ≡ Done names1 t1) × Agree s kept kept1 →
+      (follow_in_loop (words c d) bound (before x last) names t ≡ Done names1 t1) × Agree s kept kept1 →
       (names1 : Scope) × Related c n s names1 kept1 ×
       ((tail : Lines) → Leads (before x tail) (λ q. behind q) names t tail names1 t1)
   closing_line x s names kept kept1 t t1 z r w =
@@ -241,7 +242,7 @@ module _ (p : Module) (c : Call) (n : Names) (d : Respond) (facts : Facts p c n 
       own = value_form (own_form (naming c n) (written_form (naming c n) s) (expression_of c.function h))
 
       go : (b : Bool) (tail : Lines) (names1 : Scope) →
-          follow_all (words c d) bound (let_if b x own last) names t ≡ Done names1 t1 →
+          follow_in_loop (words c d) bound (let_if b x own last) names t ≡ Done names1 t1 →
           Leads (let_if b x own tail) (behind_lines (cond b 1 0)) names t tail names1 t1
       go true tail names1 e q names2 t2 h = goes_behind_line (sym (then_done (follow (words c d) bound (Let x own) names t)) ∙ e) h
       go false tail names1 e q names2 t2 h =
@@ -459,8 +460,8 @@ module _ (p : Module) (c : Call) (n : Names) (d : Respond) (facts : Facts p c n 
     turns_go (suc j) names kept kept1 t t1 r q =
         let parts = then_parts (module_turn c bound b b2 e kept t) (after_turns (module_turn c bound b b2 e) j) kept1 t1 q in
         let keep = turns_keep p c n d facts bound s S1 S2 (any_continue b) (any_continue b2)
-        (run_all c bound b) (run_all c bound b2) (follow_all (words c d) bound Body_lines)
-        (follow_all (words c d) bound Continuing_lines) e (extends_all c n k b s) m.2
+        (run_all c bound b) (run_all c bound b2) (follow_in_loop (words c d) bound Body_lines)
+        (follow_in_loop (words c d) bound Continuing_lines) e (extends_all c n k b s) m.2
         (λ kept names t r. same_all p c n d facts bound b k s names kept t r m.0)
         (λ kept names t r. same_all p c n d facts bound b2 K1 S1 names kept t r m.1) kept in
         let one = both_done (keep kept names t (r, agree_refl s kept)) parts.0 parts.1 parts.2 in
@@ -471,7 +472,7 @@ module _ (p : Module) (c : Call) (n : Names) (d : Respond) (facts : Facts p c n 
     body_goes : (names : Scope) (kept kept1 : KeptValues) (t t1 : List Event) →
         Related c n s names kept → and_continue (run_all c bound b kept t) (λ s t. Done s t) ≡
         Done kept1 t1 → (names1 : Scope) ×
-        (and_continue (follow_all (words c d) bound Body_lines names t) (λ s t. Done s t) ≡
+        (and_continue (follow_in_loop (words c d) bound Body_lines names t) (λ s t. Done s t) ≡
         Done names1 t1) × Related c n S1 names1 kept1
     body_goes names kept kept1 t t1 r q =
         let same = same_all p c n d facts bound b k s names kept t r m.0 in
@@ -481,7 +482,7 @@ module _ (p : Module) (c : Call) (n : Names) (d : Respond) (facts : Facts p c n 
     -- the end of `continuing`
     continuing_goes : (names : Scope) (kept kept1 : KeptValues) (t t1 : List Event) →
         Related c n S1 names kept → run_all c bound b2 kept t ≡ Done kept1 t1 → (names1 : Scope) ×
-        (follow_all (words c d) bound Continuing_lines names t ≡ Done names1 t1) ×
+        (follow_in_loop (words c d) bound Continuing_lines names t ≡ Done names1 t1) ×
         Related c n S2 names1 kept1
     continuing_goes names kept kept1 t t1 r q =
         let w = both_done (same_all p c n d facts bound b2 K1 S1 names kept t r m.1) kept1 t1 q in
@@ -490,8 +491,8 @@ module _ (p : Module) (c : Call) (n : Names) (d : Respond) (facts : Facts p c n 
     in_turn : {g : Region} {kept kept1 : KeptValues} {t t1 : List Event} →
         InTurn bound (run_all c bound b) (run_all c bound b2) (module_turn c bound b b2 e) g kept t
         kept1 t1 → (names : Scope) → Related c n s names kept →
-        (names1 : Scope) × InTurn bound (follow_all (words c d) bound Body_lines)
-        (follow_all (words c d) bound Continuing_lines) Turn g names t names1 t1 ×
+        (names1 : Scope) × InTurn bound (follow_in_loop (words c d) bound Body_lines)
+        (follow_in_loop (words c d) bound Continuing_lines) Turn g names t names1 t1 ×
         Related c n (handles_in (naming c n) k (Loop b b2 e) g s) names1 kept1 ×
         FitsAll p c n (named_in c.function (Loop b b2 e) g k) (statements_in (Loop b b2 e) g)
         (handles_in (naming c n) k (Loop b b2 e) g s) ×

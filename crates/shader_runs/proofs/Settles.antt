@@ -27,7 +27,8 @@ use Rattle.shader_runs.specs.TextRun.{dereference, address_reached, part_reached
 use Rattle.shader_runs.specs.TextRun.{index_into, part_picked, undecided_reached, logical_reached}
 use Rattle.shader_runs.specs.TextRun.{evaluate, evaluate_all, value_of, with_value, with_place}
 use Rattle.shader_runs.specs.TextRun.{perform_outcome, has_continue, break_line, return_line, among}
-use Rattle.shader_runs.specs.TextRun.{group_has, follow, follow_all, follow_groups, with_parameters}
+use Rattle.shader_runs.specs.TextRun.{group_has, follow, follow_all, follow_in_loop, follow_groups}
+use Rattle.shader_runs.specs.TextRun.{with_parameters}
 use Rattle.shader_runs.specs.TextRun.{with_variables, put_first, first_followed, first_of_each}
 use Rattle.shader_runs.specs.TextRun.{entered_by, follow_body, follow_call, WordUse, NamesFunction}
 use Rattle.shader_runs.specs.TextRun.{AsksForEvent, Operates, MeansNothing, respond_by_use}
@@ -451,13 +452,13 @@ module _ (k : ℕ) where
             (groups_settle groups (label_if (group_has (Numbered z) groups) z) names e))))
             (value_settles a names t)
         line_settles (LoopOf b d o) names t =
-            turns_settle (turn (follow_all l k b) (follow_all l k d) (break_line l o))
-            (turn (follow_all l' n b) (follow_all l' n d) (break_line l' o))
+            turns_settle (turn (follow_in_loop l k b) (follow_in_loop l k d) (break_line l o))
+            (turn (follow_in_loop l' n b) (follow_in_loop l' n d) (break_line l' o))
             (λ names e. and_continue_settles
-            (λ s1 t1. and_then (within (follow_all l k d s1 t1)) (break_line l o))
-            (λ s1 t1. and_then (within (follow_all l' n d s1 t1)) (break_line l' o))
+            (λ s1 t1. and_then (within (follow_in_loop l k d s1 t1)) (break_line l o))
+            (λ s1 t1. and_then (within (follow_in_loop l' n d s1 t1)) (break_line l' o))
             (λ s1 t1. and_then_settles (break_line l o) (break_line l' o) (break_settles o)
-            (within_settles (lines_settle d s1 t1))) (lines_settle b names e)) k n less
+            (within_settles (looped_settle d s1 t1))) (looped_settle b names e)) k n less
             (omega arith) names t
         line_settles BreakLine names t = same here
         line_settles ContinueLine names t = same here
@@ -469,7 +470,12 @@ module _ (k : ℕ) where
         lines_settle : (ls : Lines) → SettlesNext (follow_all l k ls) (follow_all l' n ls)
         lines_settle last names t = same here
         lines_settle (before x ls) names t =
-            closed_if_settles (has_continue x) names (and_then_settles (follow_all l k ls) (follow_all l' n ls) (lines_settle ls) (line_settles x names t))
+            and_then_settles (follow_all l k ls) (follow_all l' n ls) (lines_settle ls) (line_settles x names t)
+
+        looped_settle : (ls : Lines) → SettlesNext (follow_in_loop l k ls) (follow_in_loop l' n ls)
+        looped_settle last names t = same here
+        looped_settle (before x ls) names t =
+            closed_if_settles (has_continue x) names (and_then_settles (follow_in_loop l k ls) (follow_in_loop l' n ls) (looped_settle ls) (line_settles x names t))
 
         groups_settle : (gs : Groups) (x : Label) → SettlesNext (follow_groups l k gs x) (follow_groups l' n gs x)
         groups_settle no_group x names t = same here

@@ -24,7 +24,7 @@ use Rattle.shader_runs.specs.Text.{Lines}
 use Rattle.shader_runs.specs.TextRun.{IsValue, Scope, read_value, as_value, word_reached}
 use Rattle.shader_runs.specs.TextRun.{perform_outcome, evaluate_all, value_of, with_value}
 use Rattle.shader_runs.specs.TextRun.{break_line, return_line, among, group_has, follow_all}
-use Rattle.shader_runs.specs.TextRun.{follow_groups}
+use Rattle.shader_runs.specs.TextRun.{follow_in_loop, follow_groups}
 use Rattle.shader_runs.specs.Scope.{usable_all, is_present, Bound, Handles, Names, usable}
 use Rattle.shader_runs.specs.Scope.{usable_if, named_by, named_by_all, after, after_all}
 use Rattle.shader_runs.specs.Scope.{forgotten_if}
@@ -38,6 +38,7 @@ use Rattle.shader_runs.proofs.Alike.{continued, broke, returned_alike, stopped, 
 use Rattle.shader_runs.proofs.Alike.{typed_alike, Steps, weaker, then_alike, continue_alike}
 use Rattle.shader_runs.proofs.Alike.{within_alike, turns_alike, switch_alike, closed_alike}
 use Rattle.shader_runs.proofs.Alike.{chosen_alike, used_alike, pointer_alike, there_alike}
+use Rattle.shader_runs.proofs.Alike.{alike_ends, list_ends}
 use Rattle.shader_runs.proofs.Relation.{ResultTyped, Returns, Related, Extends, Agree, extends_refl}
 use Rattle.shader_runs.proofs.Relation.{agree_refl, agree_trans, related_agree, related_forgotten}
 use Rattle.shader_runs.proofs.Evaluation.{naming, words, Respond, request_responds}
@@ -98,12 +99,19 @@ or_right true b e = refl
 or_right false b e = e
 
 module _ (p : Module) (c : Call) (n : Names) (d : Respond) (facts : Facts p c n d) (bound : ℕ) where
+  -- lines whose names are forgotten
+  pub same_body : (s s1 : Handles) (kept : KeptValues) (held : Bool) (o : Outcome KeptValues) (ls : Lines) (names : Scope) (t : List Event) →
+      Same c n s kept s1 held o (follow_in_loop (words c d) bound ls names t) →
+      SameBody c s kept held o (follow_all (words c d) bound ls names t)
+  same_body s s1 kept held o ls names t same =
+      alike_ends (list_ends (words c d) bound ls names t) (weaker (λ k l p. p.1) (λ k l q. (q.1, q.2)) (λ k l b. b) same)
+
   -- a block leaves the scope as it was
-  block_line : (s s1 : Handles) (names : Scope) (kept : KeptValues) (held : Bool)
+  block_line : (s : Handles) (names : Scope) (kept : KeptValues) (held : Bool)
       (o : Outcome KeptValues) (o' : Outcome Scope) → Related c n s names kept →
-      Same c n s kept s1 held o o' → SameLine c n s kept held o (closed_outcome names o')
-  block_line s s1 names kept held o o' r same =
-      closed_alike names (λ k l p. (related_agree c n s names kept k p.1 r, p.1)) (λ k l q. (q.1, q.2)) (λ k l b. b) same
+      SameBody c s kept held o o' → SameLine c n s kept held o (closed_outcome names o')
+  block_line s names kept held o o' r same =
+      closed_alike names (λ k l p. (related_agree c n s names kept k p r, p)) (λ k l q. q) (λ k l b. b) same
 
   leave_alike : (s s2 : Handles) (kept0 : KeptValues) (e : Option ℕ) →
       IsTrue (usable_if c.function s2 e) → (kept : KeptValues) (names : Scope) (t : List Event) →
@@ -130,22 +138,22 @@ module _ (p : Module) (c : Call) (n : Names) (d : Respond) (facts : Facts p c n 
       (with_value q (λ v t1. Returned (Some v) t1))) (sym there) (returned_alike typed))
 
   -- a choice, where each branch is alike
-  if_line : (s sa sb : Handles) (names : Scope) (kept : KeptValues) (t : List Event) (h : ℕ)
+  if_line : (s : Handles) (names : Scope) (kept : KeptValues) (t : List Event) (h : ℕ)
       (ha hb : Bool) (a b : Outcome KeptValues) (a' b' : List Event → Outcome Scope) →
-      Related c n s names kept → IsTrue (usable c.function s h) → Same c n s kept sa ha a (a' t) →
-      Same c n s kept sb hb b (b' t) →
+      Related c n s names kept → IsTrue (usable c.function s h) → SameBody c s kept ha a (a' t) →
+      SameBody c s kept hb b (b' t) →
       SameLine c n s kept (ha || hb) (or_stuck (used_value c kept h) t (λ v. branch_by v t a b))
       (with_value (value_of (words c d) (value_at (naming c n) s h) names t)
       (λ v t1. closed_outcome names (branch_by v t1 (a' t1) (b' t1))))
-  if_line s sa sb names kept t h ha hb a b a' b' r u same_a same_b =
+  if_line s names kept t h ha hb a b a' b' r u same_a same_b =
       used_alike _ _ (used_value c kept h) t
       (value_of (words c d) (value_at (naming c n) s h) names t)
       (value_here p c n d facts s names kept r h u t)
       (λ v. closed_alike names (λ k l p. (related_agree c n s names kept k p r, p)) (λ k l q. q)
       (λ k l b. b) (chosen_alike {P = λ k l. Agree s kept k} {Q = λ k l. Agree s kept k ×
       IsTrue (ha || hb)} {B = λ k l. Agree s kept k} v t
-      (weaker (λ k l p. p.1) (λ k l q. (q.1, or_left ha hb q.2)) (λ k l b. b) same_a)
-      (weaker (λ k l p. p.1) (λ k l q. (q.1, or_right ha hb q.2)) (λ k l b. b) same_b)))
+      (weaker (λ k l p. p) (λ k l q. (q.0, or_left ha hb q.1)) (λ k l b. b) same_a)
+      (weaker (λ k l p. p) (λ k l q. (q.0, or_right ha hb q.1)) (λ k l b. b) same_b)))
 
   -- a loop, of which each turn starts in the loop's own scope
   module _ (s s1 s2 : Handles) (hb hd : Bool) (body continuing : Next KeptValues)
@@ -220,7 +228,11 @@ result_used c None o i = absurd i
 
 module _ (p : Module) (c : Call) (n : Names) (d : Respond) (facts : Facts p c n d) (bound : ℕ) where
   abbrev Follow : Lines → Next Scope
-  Follow ls = follow_all (words c d) bound ls
+  Follow ls = follow_in_loop (words c d) bound ls
+
+  -- lines that are in no loop's list, but in a block of their own
+  abbrev Inside : Lines → Next Scope
+  Inside ls = follow_all (words c d) bound ls
 
   -- what is to be shown of a statement and what follows it
   abbrev Row : ℕ → Statement → Handles → Type 0
@@ -257,19 +269,19 @@ module _ (p : Module) (c : Call) (n : Names) (d : Respond) (facts : Facts p c n 
 
   block_row : (k : ℕ) (b : Statements) (s : Handles) → List_row k b s → Row k (Block b) s
   block_row k b s same names kept t held2 s2 f tail r m next =
-      let o' = closed_outcome names (Follow (form_all (naming c n) k b s) names t) in
+      let o' = closed_outcome names (Inside (form_all (naming c n) k b s) names t) in
       subst (λ held. Same c n s kept (forgotten_if (any_continue b) s s2) (any_continue b || held2)
       (and_then (run_all c bound b kept t) f)
       (closed_if held names (and_then o' (Follow tail)))) (sym (continue_all p c n k b s m))
       (row c n s names kept r (any_continue b) held2 s2 (run_all c bound b kept t) o' f
-      (Follow tail) (block_line p c n d facts bound s _ names kept (any_continue b) _ _ r
-      (same names kept t r m)) next)
+      (Follow tail) (block_line p c n d facts bound s names kept (any_continue b) _ _ r
+      (same_body p c n d facts bound s _ kept (any_continue b) _ (form_all (naming c n) k b s) names t (same names kept t r m))) next)
 
   if_row : (k h : ℕ) (a b : Statements) (s : Handles) → List_row k a s → List_row (named_by_all c.function a k) b s → Row k (If h a b) s
   if_row k h a b s same_a same_b names kept t held2 s2 f tail r m next =
       let k1 = named_by_all c.function a k in
-      let a' = Follow (form_all (naming c n) k a s) names in
-      let b' = Follow (form_all (naming c n) k1 b s) names in
+      let a' = Inside (form_all (naming c n) k a s) names in
+      let b' = Inside (form_all (naming c n) k1 b s) names in
       let held = any_continue a || any_continue b in
       let o = or_stuck (used_value c kept h) t (λ v. branch_by v t (run_all c bound a kept t) (run_all c bound b kept t)) in
       let o' = with_value (value_of (words c d) (value_at (naming c n) s h) names t) (λ v t1. closed_outcome names (branch_by v t1 (a' t1) (b' t1))) in
@@ -277,8 +289,10 @@ module _ (p : Module) (c : Call) (n : Names) (d : Respond) (facts : Facts p c n 
       (closed_if x names (and_then o' (Follow tail))))
       (sym (ap₂ (λ x y. x || y) (continue_all p c n k a s m.1) (continue_all p c n k1 b s m.2)))
       (row c n s names kept r held held2 s2 o o' f (Follow tail)
-      (if_line p c n d facts bound s _ _ names kept t h (any_continue a) (any_continue b) _ _ a'
-      b' r m.0 (same_a names kept t r m.1) (same_b names kept t r m.2)) next)
+      (if_line p c n d facts bound s names kept t h (any_continue a) (any_continue b) _ _ a'
+      b' r m.0
+      (same_body p c n d facts bound s _ kept (any_continue a) _ (form_all (naming c n) k a s) names t (same_a names kept t r m.1))
+      (same_body p c n d facts bound s _ kept (any_continue b) _ (form_all (naming c n) k1 b s) names t (same_b names kept t r m.2))) next)
 
   loop_row : (k : ℕ) (b b2 : Statements) (e : Option ℕ) (s : Handles) → List_row k b s → List_row (named_by_all c.function b k) b2 (after_all (naming c n) k b s) → Row k (Loop b b2 e) s
   loop_row k b b2 e s same_b same_d names kept t held2 s2 f tail r m next =
@@ -496,15 +510,16 @@ module _ (p : Module) (c : Call) (n : Names) (d : Respond) (facts : Facts p c n 
     -- a case that stays
     body_alone : (names : Scope) (kept : KeptValues) (t : List Event) → Related c n s names kept →
         FitsAll p c n k b s → SameBody c s kept (any_continue b || some_case_continues cs)
-        (On_from false kept t) (Follow (form_all (naming c n) k b s) names t)
-    body_alone names kept t r m = stays (same names kept t r m)
+        (On_from false kept t) (Inside (form_all (naming c n) k b s) names t)
+    body_alone names kept t r m =
+        stays (same_body p c n d facts bound s _ kept (any_continue b) _ (form_all (naming c n) k b s) names t (same names kept t r m))
       where
         stays : {o : Outcome KeptValues} {o' : Outcome Scope} →
-            Same c n s kept (after_all (naming c n) k b s) (any_continue b) o o' →
+            SameBody c s kept (any_continue b) o o' →
             SameBody c s kept (any_continue b || some_case_continues cs)
             (and_then o (λ kept1 t1. Done kept1 t1)) o'
-        stays (done h) = done h.1
-        stays (continued h) = continued (h.1, or_left (any_continue b) (some_case_continues cs) h.2)
+        stays (done h) = done h
+        stays (continued h) = continued (h.0, or_left (any_continue b) (some_case_continues cs) h.1)
         stays (broke h) = broke h
         stays (returned_alike r) = returned_alike r
         stays stopped = stopped
@@ -526,7 +541,7 @@ module _ (p : Module) (c : Call) (n : Names) (d : Respond) (facts : Facts p c n 
     here_stays labels x e names kept t r m =
         let others = follow_groups (words c d) bound (form_cases (naming c n) (named_by_all c.function b k) [] cs s) x names t in
         subst (λ z. SameBody c s kept (any_continue b || some_case_continues cs)
-        (On_from false kept t) (cond z (Follow (form_all (naming c n) k b s) names t) others))
+        (On_from false kept t) (cond z (Inside (form_all (naming c n) k b s) names t) others))
         (sym e) (body_alone names kept t r m.1)
 
     -- another case
@@ -539,7 +554,7 @@ module _ (p : Module) (c : Call) (n : Names) (d : Respond) (facts : Facts p c n 
         let others = follow_groups (words c d) bound (form_cases (naming c n) (named_by_all c.function b k) [] cs s) x names t in
         subst (λ z. SameBody c s kept (any_continue b || some_case_continues cs)
         (run_cases c bound cs x kept t)
-        (cond z (Follow (form_all (naming c n) k b s) names t) others)) (sym e)
+        (cond z (Inside (form_all (naming c n) k b s) names t) others)) (sym e)
         (more_held kept (rest.searching [] (first_followed_by cs) x refl names kept t r m.2))
 
   or_second : (a b : Bool) → a ≡ false → (a || b) ≡ b

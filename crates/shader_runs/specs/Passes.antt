@@ -18,7 +18,7 @@ use Rattle.shader_runs.specs.ProgramRun.{same_label, has_label, label_if, run, r
 use Rattle.shader_runs.specs.Text.{Tree, Line, Braces, IfElse, SwitchOn, LoopOf, Lines, last}
 use Rattle.shader_runs.specs.Text.{before, Groups, no_group, group}
 use Rattle.shader_runs.specs.TextRun.{Scope, Words, value_of, break_line, among, group_has, follow}
-use Rattle.shader_runs.specs.TextRun.{follow_all}
+use Rattle.shader_runs.specs.TextRun.{follow_in_loop}
 
 -- where more statements or lines stand inside one: a block, the branches, the cases of a switch or
 -- the groups of its text, and in each turn of a loop, the first one 0, its body, its `continuing`
@@ -185,7 +185,8 @@ lines_behind (before x ls) (emitting i) = ls
 -- one turn of a text's loop, which leaves the names that it began with
 abbrev pub text_turn : Words → ℕ → (body continuing : Lines) → Option Tree → Next Scope
 text_turn l n b d e names t =
-    closed_outcome names (turn (follow_all l n b) (follow_all l n d) (break_line l e) names t)
+    closed_outcome names
+    (turn (follow_in_loop l n b) (follow_in_loop l n d) (break_line l e) names t)
 
 -- this label is one of the group with this index, and of no group before it
 pub data GoesToGroup (x : Label) : Groups → ℕ → Type 0 where
@@ -214,7 +215,8 @@ pub data TextComes (l : Words) (n : ℕ) :
       TextComes l n (SwitchOn e gs) (CaseBody i) names t names t1
   into_loop_line : {b d : Lines} {e : Option Tree} {g : Region}
       {names names1 : Scope} {t t1 : List Event} →
-      InTurn n (follow_all l n b) (follow_all l n d) (text_turn l n b d e) g names t names1 t1 →
+      InTurn n (follow_in_loop l n b) (follow_in_loop l n d) (text_turn l n b d e) g
+      names t names1 t1 →
       TextComes l n (LoopOf b d e) g names t names1 t1
 
 -- the run of lines, begun with these names and events, passes a point with those

@@ -239,7 +239,7 @@ abbrev mutual
   follow l n (LoopOf b d e) names t =
       turns n (λ names1 t1.
       closed_outcome names1
-      (turn (follow_all l n b) (follow_all l n d) (break_line l e) names1 t1)) names t
+      (turn (follow_in_loop l n b) (follow_in_loop l n d) (break_line l e) names1 t1)) names t
   follow l n BreakLine names t = Broke names t
   follow l n ContinueLine names t = Continued names t
   follow l n (ReturnLine e) names t = return_line l e names t
@@ -247,12 +247,17 @@ abbrev mutual
   follow l n (Perform w es) names t =
       perform_outcome names (word_reached l w names t (evaluate_all l es names t))
 
-  -- the names that a list leaves are those for its loop's `continuing`: none from the first line
-  -- with a `continue` on
+  -- lines in their order
   pub follow_all : Words → ℕ → Lines → Next Scope
   follow_all l n last names t = Done names t
-  follow_all l n (before x ls) names t =
-      closed_if (has_continue x) names (and_then (follow l n x names t) (follow_all l n ls))
+  follow_all l n (before x ls) names t = and_then (follow l n x names t) (follow_all l n ls)
+
+  -- the same of a loop's body, or of its `continuing`. A `continue` may skip the lines after it, so
+  -- what comes after the list in the loop sees the names from before the first line that holds one
+  pub follow_in_loop : Words → ℕ → Lines → Next Scope
+  follow_in_loop l n last names t = Done names t
+  follow_in_loop l n (before x ls) names t =
+      closed_if (has_continue x) names (and_then (follow l n x names t) (follow_in_loop l n ls))
 
   -- the first group with this label
   pub follow_groups : Words → ℕ → Groups → Label → Next Scope
