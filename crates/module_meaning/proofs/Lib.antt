@@ -27,3 +27,4 @@ pub mod Shapes
 pub mod SideBySide
 pub mod Stepwise
 pub mod TypeIdentity
+mod StrayLineExamples

@@ -28,7 +28,7 @@ use Rattle.shader_runs.specs.Value.{Place, Rooted, LocalRoot, Part, At, Pointer,
 use Rattle.module_meaning.proofs.ModuleShapeExamples.{one}
 
 -- a vector of no items
-abbrev none_of : {X : Type 0} → Vec X Global → Vec X Global
+abbrev pub none_of : {X : Type 0} → Vec X Global → Vec X Global
 none_of v =
     record v {
       len = 0;

@@ -1,7 +1,8 @@
 -- The program of shapes of every module: its functions and entry points, its constants, overrides
 -- and variables, and what its places are made of.
 --
--- Throughout, m is a module, info what is known of it, c a constant, o an override and g a variable.
+-- Throughout, m is a module, info what is known of it, c a constant, o an override and g a
+-- variable.
 use Rattle.std.specs.Prelude.{List, ◌++◌, false, map, reverse, if◌then◌else◌, unwrap_or}
 use Rattle.std.specs.List.{filter}
 use Rattle.std.specs.Option.{is_some}

@@ -37,7 +37,7 @@ numbered_key m i =
     option_map_or key.Constant (slice_get (named_handles 0 m.constants) i)
     (key.Override (i - named_count m.constants))
 
--- the names of the module's items, of which those of structs are operators where a text declares them
+-- the names of the module's items; those of structs that a text declares make values, as operators
 abbrev pub outer_names : NameMap → ir_module.Module → ModuleNames
 outer_names names m =
     record {

@@ -1,10 +1,11 @@
--- What the places of a module are made of, by types alone: how a pointer to a place is spelled tells
--- the parts of the place, and how a pointer to each of them is spelled. So a place has its type
--- whether or not an expression of the module leads to it.
+-- What the places of a module are made of, by the rules of types: how a pointer to a place is
+-- spelled tells the parts of the place, and how a pointer to each of them is spelled. So a place has
+-- its type whether or not an expression of the module leads to it.
 --
--- Throughout, m is a module, info is what is known of it, whole is how a pointer is spelled, at is a
--- space, base the handle of what is there, word a member's name, r a type of a pointer, d what stands
--- around a group g of expressions, and e is one of these.
+-- Throughout, m is a module, info is what is known of it, whole is how a pointer is spelled, at is
+-- a space, base the handle of what is there, index and ty are a member's number and type, word is
+-- its name, r a type of a pointer, d what stands around a group g of expressions, and e is one of
+-- these.
 use Rattle.std.specs.Prelude.{ℕ, ◌+◌, Bool, false, ◌&&◌, List, [], ◌∷◌, ◌++◌, map}
 use Rattle.std.specs.Prelude.{Option, Some, None, if◌then◌else◌, slice_get, unwrap_or}
 use Rattle.std.specs.List.{enumerate_from, find, flat_map, zip}
@@ -35,11 +36,12 @@ use Rattle.shader_runs.specs.Value.{Parts, NoParts, Elements, Components, Member
 use Rattle.shader_runs.specs.Value.{PointerType, Selector, MemberNamed, same_bytes, same_type}
 
 -- ---- pointers
--- the spaces in which places are: all but that of handles, and storage with each access that has a
--- word of its own
+-- memory of which these bits tell what may be done with it
 abbrev pub storage : (bits : ℕ) → AddressSpace
 storage bits = space.Storage (record { 0 = bits })
 
+-- the spaces in which places are: all but that of handles, and storage with each access that has
+-- a word of its own
 abbrev pub place_spaces : List AddressSpace
 place_spaces =
     space.Function ∷ space.Private ∷ space.WorkGroup ∷ space.Uniform ∷ storage load_bit ∷
@@ -52,7 +54,8 @@ column_pointers at (inner.Matrix columns rows s) =
     Value (inner.ValuePointer (Some rows) s at) ∷ []
 column_pointers at _ = []
 
--- the pointers in a space to a type of the module, which stands beside its handle, and to its columns
+-- the pointers in a space to a type of the module, which stands beside its handle, and to its
+-- columns
 abbrev pub pointers_to : AddressSpace → ℕ × Type_ → List TypeResolution
 pointers_to at p = Value (inner.Pointer p.0 at) ∷ column_pointers at p.1.inner
 
@@ -102,10 +105,10 @@ members_taken m info whole word g =
     (zip g.expressions g.known)
 
 -- ---- parts
--- The type of a pointer to a member of what a pointer spelled so points to: of one to the member's
--- type in the same space, if it has a form. Where it has none, pointers to the whole that are spelled
--- alike may lead to members in storage of other bits, of which no word tells. All expressions that take
--- the member have one type, and it is that of the first.
+-- The type of a pointer to a member of what a pointer spelled so points to: r, which points to the
+-- member's type in the same space, if r has a form. Where it has none, storage of other bits has
+-- another pointer to the member, though pointers to the whole are spelled alike. The expressions
+-- that take the member then have one type, and it is that of the first.
 abbrev pub pointer_to_member :
     Module → ModuleInfo → (whole word : List ℕ) → TypeResolution → TypeResolution
 pointer_to_member m info whole word r =

@@ -41,8 +41,8 @@ spelled_type t ty = unwrap_or (known_text (type_segments (spelling_context t) ty
 abbrev pub spelled_resolution : TypeNames → TypeResolution → Option (List ℕ)
 spelled_resolution t r = known_text (resolution_segments (spelling_context t) r)
 
--- The spelling by which an operator is called that makes a value of this type. A struct that no text
--- declares has a name, too, but no text calls anything by that.
+-- The spelling by which an operator is called that makes a value of this type. A struct that no
+-- text declares has a name, too, but no text calls anything by that.
 abbrev pub called_spelling : Module → TypeResolution → Option (List ℕ)
 called_spelling m r =
     if is_undeclared_struct m r then None else spelled_resolution (type_names m) r

@@ -1,8 +1,8 @@
 -- Structs that no text declares: those that WGSL's own functions give, and those of external textures.
 -- A text can't name them, so that no type over one is spellable, though each has a form by its handle.
 --
--- Throughout, s are the special types of a module m, types are its types, h is the handle of one, p is
--- one beside its handle, it a type by itself, r a type of an expression, names are those of the
+-- Throughout, s are the special types of a module m, types are its types, h is the handle of one, p
+-- is one beside its handle, it a type by itself, r a type of an expression, names are those of the
 -- module's items, es is what is known of a function's expressions, base is the handle of one, and
 -- index the number of a part.
 use Rattle.std.specs.Prelude.{ℕ, zero, suc, Bool, true, false, not, ◌&&◌, ◌||◌, List, [], ◌∷◌, codes}

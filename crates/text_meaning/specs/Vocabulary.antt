@@ -1,5 +1,5 @@
--- The words that a text may use beside the names of its items: those that ask for an event, and those
--- that are operators.
+-- The words that a text may use before operands beside the names of its functions: those that ask
+-- for an event, and those that are operators.
 --
 -- Throughout, structs are the names of the structs that the text declares.
 use Rattle.std.specs.Prelude.{ℕ, List, map}

@@ -1,0 +1,157 @@
+-- A line that calls a word which means nothing: a program that has one runs as no module does that
+-- goes on there.
+--
+-- Throughout, a module has one function, which does nothing, and its text has such a line in it.
+use Rattle.std.proofs.Common.{◌≡◌, Bool, true, false, List, [], ◌∷◌, Option, None, refl}
+use Rattle.std.proofs.Common.{sym, ap, ◌∙◌, codes}
+use Rattle.std.proofs.lemmas.Bool.{false≢true}
+use Rattle.std.specs.Prelude.{◌||◌, cond}
+use Rattle.naga_ir.specs.StatementTree.{no_statements}
+use Rattle.naga_ir.specs.declared.module.Function as ir_function
+use Rattle.naga_ir.specs.declared.module.Module as ir_module
+use Rattle.naga_info.specs.declared.info.ModuleInfo.{ModuleInfo}
+use Rattle.shader_runs.specs.Value.{Bytes, same_bytes, Truth, Value}
+use Rattle.shader_runs.specs.World.{Entry, Event, Meaning, Settings, World}
+use Rattle.shader_runs.specs.Outcome.{answer, Gives, Halts, ReachedOrHalted, Stuck}
+use Rattle.shader_runs.specs.Constants.{follow_module, run_module}
+use Rattle.shader_runs.specs.Premises.{IsTyped, SettingsFit}
+use Rattle.shader_runs.specs.Program as shapes
+use Rattle.shader_runs.specs.Text.{before, last, no_more, Perform}
+use Rattle.shader_runs.specs.TextRun.{follow_all, MeansNothing, NamesFunction, no_names}
+use Rattle.shader_runs.specs.TextRun.{respond_by_use, word_use, Words}
+use Rattle.shader_runs.proofs.Update.{same_bytes_self}
+use Rattle.text_meaning.specs.Abstraction.{program_read}
+use Rattle.text_meaning.specs.Vocabulary.{vocabulary_read}
+use Rattle.wgsl_text.specs.Declarations.{no_declarations, Program}
+use Rattle.wgsl_text.specs.Expressions.{NoArguments}
+use Rattle.wgsl_text.specs.Functions.{NoResult}
+use Rattle.wgsl_text.specs.Operators.{is_built_in}
+use Rattle.wgsl_text.specs.Requests.{is_request}
+use Rattle.wgsl_text.specs.Statements.{CallStatement, NoStatements, Statements, Then}
+use Rattle.wgsl_text.specs.Types.{Named}
+use Rattle.module_meaning.specs.Faithful.{RunsAs}
+use Rattle.module_meaning.specs.FunctionShapes.{function_shape}
+use Rattle.module_meaning.specs.ModuleShapes.{module_shape}
+use Rattle.module_meaning.specs.Names.{function_name, module_names}
+use Rattle.module_meaning.proofs.ModuleShapeExamples.{one}
+use Rattle.module_meaning.proofs.PlaceExamples.{none_of}
+
+-- a world that answers all alike, and a meaning that gives all alike
+abbrev world : World
+world past event = Truth true
+
+abbrev meaning : Meaning
+meaning word values = Truth true
+
+abbrev settings : Settings
+settings = record { overrides = []; globals = [] }
+
+module _ (other : ir_module.Module) (known : ModuleInfo) (other_function : ir_function.Function) where
+  abbrev f : ir_function.Function
+  f =
+      record other_function {
+        arguments = none_of other_function.arguments;
+        result = None;
+        local_variables = [];
+        expressions = [];
+        body = no_statements;
+      }
+
+  abbrev m : ir_module.Module
+  m =
+      record other {
+        types = [];
+        constants = [];
+        overrides = [];
+        global_variables = [];
+        global_expressions = [];
+        functions = f ∷ [];
+        entry_points = none_of other.entry_points;
+      }
+
+  abbrev info : ModuleInfo
+  info =
+      record known {
+        functions = one known.functions [];
+        entry_points = none_of known.entry_points;
+        const_expression_types = none_of known.const_expression_types;
+      }
+
+  abbrev shape : shapes.Module
+  shape = module_shape m info
+
+  -- a text with one function of this name, in which these statements stand
+  abbrev text_of : Bytes → Statements → Program
+  text_of w body =
+      record no_declarations {
+        functions =
+            record { name = w; parameters = []; result = NoResult; locals = []; body = body } ∷ [];
+      }
+
+  abbrev stray : Statements
+  stray = Then (CallStatement (Named (codes "frobnicate")) NoArguments) NoStatements
+
+  abbrev entered : List Event
+  entered = Entry 0 [] [] ∷ []
+
+  module_goes_on : run_module shape settings world meaning 0 0 [] [] ≡ Gives None entered
+  module_goes_on = refl
+
+  abbrev run_of : Bytes → Statements → ReachedOrHalted (Option Value)
+  run_of w body =
+      follow_module (program_read (text_of w body)) shape.parts settings world meaning
+      (vocabulary_read (text_of w body)) 0 w [] []
+
+  -- whatever the name is, also that of the function itself
+  abbrev behind_entry : Bool → ReachedOrHalted (Option Value)
+  behind_entry named =
+      let l : Words = record {
+        parts = shape.parts;
+        world = world;
+        meaning = meaning;
+        respond = λ word vs t. respond_by_use (cond (named || false) NamesFunction MeansNothing) world meaning word vs t;
+      } in
+      answer (follow_all l 0 (before (Perform (codes "frobnicate") no_more) last) no_names entered)
+
+  stuck_behind : (named : Bool) → behind_entry named ≡ Halts Stuck entered
+  stuck_behind true = refl
+  stuck_behind false = refl
+
+  -- what a word is that names no function in front of it
+  abbrev uncalled : Bytes → ReachedOrHalted (Option Value)
+  uncalled w =
+      let text = text_of w stray in
+      respond_by_use (word_use (program_read text).functions (vocabulary_read text) w) world meaning
+      w [] []
+
+  text_is_stuck : (w : Bytes) → run_of w stray ≡ Halts Stuck entered
+  unfolding is_request is_built_in
+  text_is_stuck w =
+      ap (λ b. cond b (behind_entry (same_bytes (codes "frobnicate") w)) (uncalled w)) (same_bytes_self w)
+      ∙ stuck_behind (same_bytes (codes "frobnicate") w)
+
+  -- without the line it goes on as the module does
+  text_goes_on : (w : Bytes) →
+      run_of w NoStatements ≡ run_module shape settings world meaning 0 0 [] []
+  text_goes_on w = ap (λ b. cond b (Gives None entered) (uncalled w)) (same_bytes_self w)
+
+  settings_fit : SettingsFit shape settings
+  settings_fit = record { overrides = refl; globals = refl }
+
+  typed : IsTyped shape meaning
+  typed =
+      record {
+        functions =
+            (record { constants = λ h. tt; operators = λ h is vs fit. absurd (false≢true is) }, tt);
+        initialisers = λ i e at. absurd cc;
+      }
+
+  -- so the module does not run as a text with the line, under the name of its function
+  stray_is_refused : RunsAs m info (text_of (function_name m (module_names m) 0) stray) → ⊥
+  stray_is_refused runs =
+      let same =
+      runs settings settings_fit meaning typed 0 (function_shape m info f []) refl [] refl world 0 []
+      tt in
+      let apart : Halts Stuck entered ≡ Gives None entered =
+      sym (text_is_stuck (function_name m (module_names m) 0)) ∙ same in
+      absurd cc
