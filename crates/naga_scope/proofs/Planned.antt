@@ -1,15 +1,17 @@
 -- What a plan of a function says of its module.
-use Rattle.std.proofs.Common.{◌≡◌, ℕ, Bool, zero, suc, List, [], ◌∷◌, None, Some, subst, sym, ◌∙◌}
+use Rattle.std.proofs.Common.{◌≡◌, ℕ, Bool, zero, suc, List, [], ◌∷◌, None, Some, subst, sym, ◌∙◌, true≢false}
 use Rattle.std.proofs.lemmas.Option.{same_Some}
-use Rattle.std.specs.Prelude.{Err, IfErr, IfOk, IsTrue, Ok, Result, ◌↔◌, slice_get}
+use Rattle.std.specs.Prelude.{Err, IfErr, IfOk, IsFalse, IsTrue, Ok, Result, ◌↔◌, slice_get}
 use Rattle.naga_ir.specs.declared.module.Function as ir_function
 use Rattle.naga_ir.specs.declared.module.Module.{Module}
 use Rattle.naga_info.specs.declared.info.ExpressionInfo.{ExpressionInfo}
 use Rattle.naga_info.specs.declared.info.ModuleInfo.{ModuleInfo}
-use Rattle.shader_runs.specs.Program.{operands_of}
+use Rattle.shader_runs.specs.Program.{expression_of, operands_of}
 use Rattle.shader_runs.specs.Premises.{AllBelow}
 use Rattle.shader_runs.specs.Scope.{fits_function}
 use Rattle.shader_runs.specs.ScopeRules.{ScopeHolds}
+use Rattle.shader_runs.specs.ScopeFaults.{HasScopeFault}
+use Rattle.shader_runs.proofs.ScopeFaults.{scope_faults_are_found}
 use Rattle.shader_runs.proofs.ScopeRules.{scope_check_is_the_rules}
 use Rattle.module_meaning.specs.FunctionNumbers.{all_functions, all_infos}
 use Rattle.module_meaning.specs.FunctionShapes.{function_shape, function_shapes}
@@ -21,15 +23,26 @@ use Rattle.naga_form.proofs.WellFormed.{any_shape}
 use Rattle.naga_scope.specs.Plans.{IsPlan, IsPlanOf, Planned}
 use Rattle.module_meaning.specs.Written.{OfFunctionAt}
 
--- the check of a function decides whether the rules of scope hold in it
-pub check_is_the_rules : (m : Module) (info : ModuleInfo) (f : ir_function.Function) (es : List ExpressionInfo) →
-    OperandsStandBefore f.expressions →
-    (IsTrue (fits_function (function_naming (λ key. None) (λ number. []) m info 0 f es))
-    ↔ ScopeHolds (function_shape m info f es))
-check_is_the_rules m info f es ordered =
-    scope_check_is_the_rules (function_naming (λ key. None) (λ number. []) m info 0 f es)
-    (λ h. any_shape m info f es h (λ o. AllBelow h (operands_of o)) tt
-    (λ e at. shape_ordered (declared m info (types_known es)) f.expressions h e (ordered h e at)))
+module _ (m : Module) (info : ModuleInfo) (f : ir_function.Function) (es : List ExpressionInfo)
+    (ordered : OperandsStandBefore f.expressions) where
+  abbrev Checked : Bool
+  Checked = fits_function (function_naming (λ key. None) (λ number. []) m info 0 f es)
+
+  operands_before : (h : ℕ) → AllBelow h (operands_of (expression_of (function_shape m info f es) h))
+  operands_before h =
+      any_shape m info f es h (λ o. AllBelow h (operands_of o)) tt
+      (λ e at. shape_ordered (declared m info (types_known es)) f.expressions h e (ordered h e at))
+
+  -- the check of a function decides whether the rules of scope hold in it
+  pub check_is_the_rules : IsTrue Checked ↔ ScopeHolds (function_shape m info f es)
+  check_is_the_rules =
+      scope_check_is_the_rules (function_naming (λ key. None) (λ number. []) m info 0 f es) operands_before
+
+  -- and where it fails, the function breaks one at some place
+  pub failure_is_a_fault : IsFalse Checked → HasScopeFault (function_shape m info f es)
+  failure_is_a_fault fails =
+      (scope_faults_are_found (function_shape m info f es) operands_before).0
+      (λ rules. true≢false (sym (check_is_the_rules.1 rules) ∙ fails))
 
 -- a function that there is, with what is known of it, has a shape
 pub shape_found : (m : Module) (info : ModuleInfo) (fs : List ir_function.Function)

@@ -2,7 +2,7 @@
 --
 -- Throughout, m is the module, info is what is known of its expressions, f is the shape of a function,
 -- and explicit says whether `let`s tell types.
-use Rattle.std.specs.Prelude.{◌≡◌, ◌<◌, ◌^◌, ℕ, Bool, List, [], Option, Some, IfSome, IsSomeAnd}
+use Rattle.std.specs.Prelude.{◌≡◌, ◌<◌, ◌^◌, ℕ, Bool, List, [], Some, IsSomeAnd}
 use Rattle.std.specs.Prelude.{IsFalse, IsTrue, get_or, length, nat_le, slice_get}
 use Rattle.naga_ir.specs.declared.module.Function as ir
 use Rattle.naga_info.specs.declared.info.ExpressionInfo.{ExpressionInfo}
@@ -14,9 +14,9 @@ use Rattle.naga_info.specs.declared.info.ModuleInfo.{ModuleInfo}
 use Rattle.naga_info.specs.declared.info.TypeResolution.TheVariants.{Handle}
 use Rattle.shader_runs.specs.Program.{Function}
 use Rattle.shader_runs.specs.Scope.{at_start}
-use Rattle.shader_runs.specs.ScopeRules.{ScopeHolds}
-use Rattle.module_meaning.specs.FunctionNumbers.{all_functions, all_infos}
-use Rattle.module_meaning.specs.FunctionShapes.{function_shape, function_shapes}
+use Rattle.shader_runs.specs.ScopeFaults.{HasScopeFault}
+use Rattle.module_meaning.specs.FunctionShapes.{function_shape}
+use Rattle.module_meaning.specs.Premises.{function_shape_at}
 use Rattle.module_meaning.specs.ExpressionLabels.{expression_labels}
 use Rattle.module_meaning.specs.Names.{expression_name}
 use Rattle.naga_names.specs.Naming.{HasNamed, Names}
@@ -30,6 +30,10 @@ use Rattle.naga_scope.specs.declared.plan.PlanError.{PlanError}
 use Rattle.naga_scope.specs.declared.plan.PlanError.TheVariants.{OutOfScope, WithoutForm, Unnamed}
 use Rattle.naga_scope.specs.declared.plan.PlanError.TheVariants.{TypeWithoutForm, LetWithoutForm}
 use Rattle.naga_scope.specs.declared.plan.PlanError.TheVariants.{StatementWithoutForm, Memory}
+
+-- there is a function with this number, and it breaks a rule of scope at some place
+abbrev pub HasScopeFaultIn : Module → ModuleInfo → (number : ℕ) → Type 0
+HasScopeFaultIn m info number = IsSomeAnd (function_shape_at m info number) HasScopeFault
 
 -- what contracts see of a plan: where the expressions stand at the function's start, and the names
 -- that front ends gave, in the order of the text
@@ -54,12 +58,12 @@ pub record IsPlan (explicit : Bool) (m : Module) (info : ModuleInfo) (f : ir.Fun
   pub changes : HasRoom plan.scope (block_changes f.body)
   pub formed : WrittenHaveForms explicit m info f es
 
--- why there is no plan of it, where the namer was this: the rules of scope don't hold in it, this
--- statement is the first without a form, a written handle has none, a type that is spelled has none,
--- a label gets no name, or memory ran out
+-- why there is no plan of it, where the namer was this: it breaks a rule of scope at some place,
+-- this statement is the first without a form, a written handle has none, a type that is spelled has
+-- none, a label gets no name, or memory ran out
 abbrev pub IsRefusalToPlan : (explicit : Bool) → Module → ModuleInfo → ir.Function →
     List ExpressionInfo → Names → PlanError → Type 0
-IsRefusalToPlan explicit m info f es namer OutOfScope = ScopeHolds (function_shape m info f es) → ⊥
+IsRefusalToPlan explicit m info f es namer OutOfScope = HasScopeFault (function_shape m info f es)
 IsRefusalToPlan explicit m info f es namer (StatementWithoutForm it) =
     formless_statement f.body ≡ Some it
 IsRefusalToPlan explicit m info f es namer (WithoutForm h) =

@@ -1,5 +1,5 @@
 use Rattle.std.proofs.Common.{◌+◌, ◌<◌, ◌^◌, ◌≡◌, ◌∙◌, List, ℕ, arith, length, map, string_bytes, ap}
-use Rattle.std.proofs.Common.{[], subst, sym, true≢false}
+use Rattle.std.proofs.Common.{[], subst, sym}
 use Rattle.std.specs.declared.string.String.{String}
 use Rattle.module_meaning.specs.ExpressionLabels.{expression_labels}
 use Rattle.naga_form.proofs.Fits.{mapped_length}
@@ -9,7 +9,7 @@ use Rattle.naga_scope.specs.KnownFunctions.{bound_in, expressions_of, has_form_i
 use Rattle.naga_scope.specs.Marks.{Sweeps}
 use Rattle.naga_scope.proofs.FormedStatements.{none_formless}
 use Rattle.naga_scope.proofs.SpelledTypes.{declared_lacks, let_lacks, spelled_formed}
-use Rattle.naga_scope.proofs.Planned.{check_is_the_rules}
+use Rattle.naga_scope.proofs.Planned.{check_is_the_rules, failure_is_a_fault}
 use Rattle.naga_scope.proofs.plan.Plan.of_function.Goals as goal
 
 pub function_holds-requires : goal.function_holds-requires
@@ -29,10 +29,10 @@ function_holds-requires c =
     }
 
 pub returns-then-not-function_holds-clause-err : goal.returns-then-not-function_holds-clause-err
-returns-then-not-function_holds-clause-err c rules =
+returns-then-not-function_holds-clause-err c =
     let k = c.args.known.now in
-    let holds = (check_is_the_rules k.shader.now k.module_info.now k.function.now k.info.now c.requires.ordered).1 rules in
-    true≢false (sym holds ∙ (sym c.function_holds.ensures.scope ∙ c.if-not-function_holds.true))
+    failure_is_a_fault k.shader.now k.module_info.now k.function.now k.info.now c.requires.ordered
+    (sym c.function_holds.ensures.scope ∙ c.if-not-function_holds.true)
 
 -- there are as many names as labels
 few : {X : Type 0} (labels : List (List ℕ)) (names : List (String X)) → length (map string_bytes names) ≡ 0 + length labels → length names < 2 ^ 64 → length labels < 2 ^ 64
