@@ -126,7 +126,11 @@ const REFUSALS: &[(&str, &str, &str)] = &[
         r#"{"functions": [[-1]]}"#,
         "info.functions[0][0]: number out of range",
     ),
-    (r#"{"fuctions": []}"#, "{}", "module: unknown member `fuctions`"),
+    (
+        r#"{"fuctions": []}"#,
+        "{}",
+        "module: unknown member `fuctions`",
+    ),
     (
         "{}",
         r#"{"module": {}, "info": {}}"#,
