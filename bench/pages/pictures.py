@@ -33,9 +33,10 @@ LAYERS = [
         ("naga_words", "sinks, spellings"),
         ("naga_back", "naga's helpers"),
     ]),
-    ("layouts", CODE, [
+    ("numbers", CODE, [
         ("wgsl_layout", "WGSL's rules, by numbers"),
         ("naga_layout", "layouts of a module's types"),
+        ("float_numerals", "floats in decimal"),
     ]),
     ("languages", LAWS, [
         ("wgsl_text", "the grammar of texts"),

@@ -90,7 +90,7 @@ double_told f d fits =
 
 -- what is written are digits, some of them before the point, and the exponent is not too great
 
-record IsWritten (whole fraction : List ℕ) (e : ℤ) : Type 0 where
+pub record IsWritten (whole fraction : List ℕ) (e : ℤ) : Type 0 where
   pub some : 0 < length whole
   pub whole_digits : AllDigits 10 whole
   pub fraction_digits : AllDigits 10 fraction
@@ -123,11 +123,15 @@ either_written ds n e false is value some small few = record {
   small = leading_small e (length ds - 1) small (omega (arith, few));
 }
 
-pub double_read : (f : Format) (d : Decimal) → d.digits < 2 ^ 64 → nat_abs d.exponent ≤ 2 ^ 63 → parse_float f (double_numeral_text d) ≡ Some (denoted f d)
-double_read f d fits small =
+pub double_written : (d : Decimal) → d.digits < 2 ^ 64 → nat_abs d.exponent ≤ 2 ^ 63 → IsWritten (double_whole d) (double_fraction d) (double_exponent d)
+double_written d fits small =
     let own = decimal_is_IsNumeral d.digits fits in
     let ds = decimal d.digits in
     let few : length ds ≤ 20 = length-decimal-le 20 d.digits (omega arith) (omega (arith, fits)) fits in
-    let w = either_written ds d.digits d.exponent (has_plain_form (leading_power ds d.exponent)) own.0.1 own.1 own.0.0 small few in
+    either_written ds d.digits d.exponent (has_plain_form (leading_power ds d.exponent)) own.0.1 own.1 own.0.0 small few
+
+pub double_read : (f : Format) (d : Decimal) → d.digits < 2 ^ 64 → nat_abs d.exponent ≤ 2 ^ 63 → parse_float f (double_numeral_text d) ≡ Some (denoted f d)
+double_read f d fits small =
+    let w = double_written d fits small in
     text_read f d.negative (double_whole d) (double_fraction d) (double_exponent d) w.small w.whole_digits w.fraction_digits w.some
     ∙ ap Some (double_told f d fits)

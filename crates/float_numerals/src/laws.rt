@@ -3,6 +3,7 @@
 ghost use Rattle.std.specs.Prelude.{◌≡◌, Some, pos};
 ghost use Rattle.std.specs.Float.{Format, binary64};
 ghost use Rattle.std.specs.Float.Parse.{parse_float};
+ghost use Rattle.std.specs.Str.Parse.{AllDigits, IsNumeral};
 ghost use Rattle.float_numerals.specs.Denoted.{denoted, told};
 ghost use Rattle.float_numerals.specs.Half.{denoted_half, told_half};
 ghost use Rattle.float_numerals.specs.Texts.{double_exponent, double_fraction, double_whole};
@@ -24,6 +25,16 @@ pub fn text_is_read(decimal: Decimal)
         ≡ Some (denoted f decimal) }
     ensures double_text { (f : Format) → parse_float f (double_numeral_text decimal)
         ≡ Some (denoted f decimal) }
+{
+    let _digits = decimal.digits;
+}
+
+/// A numeral is written by digits, and some stand before the point.
+pub fn digits_are_written(decimal: Decimal)
+    ensures whole { IsNumeral 10 (whole_digits decimal) }
+    ensures fraction { AllDigits 10 (fraction_digits decimal) }
+    ensures double_whole { IsNumeral 10 (double_whole decimal) }
+    ensures double_fraction { AllDigits 10 (double_fraction decimal) }
 {
     let _digits = decimal.digits;
 }

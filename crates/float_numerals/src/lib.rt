@@ -14,5 +14,5 @@ mod text;
 
 pub use choice::{double_decimal, half_decimal, single_decimal};
 pub use decimal::Decimal;
-pub use laws::text_is_read;
+pub use laws::{digits_are_written, text_is_read};
 pub use text::{push_double, push_half, push_single};
