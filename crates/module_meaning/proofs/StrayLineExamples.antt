@@ -150,7 +150,7 @@ module _ (other : ir_module.Module) (known : ModuleInfo) (other_function : ir_fu
   stray_is_refused : RunsAs m info (text_of (function_name m (module_names m) 0) stray) → ⊥
   stray_is_refused runs =
       let same =
-      runs settings settings_fit meaning typed 0 (function_shape m info f []) refl [] refl world 0 []
+      runs 0 settings settings_fit meaning typed (function_shape m info f []) refl [] refl world 0 []
       tt in
       let apart : Halts Stuck entered ≡ Gives None entered =
       sym (text_is_stuck (function_name m (module_names m) 0)) ∙ same in
