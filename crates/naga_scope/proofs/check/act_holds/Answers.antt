@@ -12,9 +12,3 @@ returns-then-are_usable-clause-after c holds =
 
 pub returns-else-are_usable-clause-kept : goal.returns-else-are_usable-clause-kept
 returns-else-are_usable-clause-kept c = extends_refl _
-
-pub returns-then-are_usable-clause-after : goal.returns-then-are_usable-clause-after
-returns-then-are_usable-clause-after c = λ is.
-    c.result_holds.ensures.after (λ key. None) c.args.known.now.shader.now 0
-    ∙ ap (λ r. after_result (inner_names (λ key. None) c.args.known.now.shader.now (λ number. []) 0)
-    r (handles_at c.args.scope.now)) c.result.ensures
