@@ -25,7 +25,9 @@ use Rattle.naga_ir.specs.declared.module.Module.{Module}
 use Rattle.naga_info.specs.declared.info.ExpressionInfo.{ExpressionInfo}
 use Rattle.naga_info.specs.declared.info.ModuleInfo.{ModuleInfo}
 use Rattle.shader_runs.specs.Program.{Function}
+use Rattle.shader_runs.specs.ScopeFaults.{HasScopeFault}
 use Rattle.shader_runs.specs.ScopeRules.{ScopeHolds}
+use Rattle.shader_runs.proofs.ScopeFaults.{fault_is_no_rule}
 use Rattle.module_meaning.specs.Accepted.{is_accepted}
 use Rattle.module_meaning.specs.ExpressionForms.{expression_has_form}
 use Rattle.module_meaning.proofs.Lists.{list_all_at}
@@ -46,7 +48,7 @@ use Rattle.naga_names.proofs.Refusal.{element}
 use Rattle.module_meaning.specs.ExpressionLabels.{SomeLabelIsFull, expression_labels}
 use Rattle.module_meaning.specs.Names.{labels_named_in, wgsl_names}
 use Rattle.naga_scope.specs.ExpressionNames.{HasOtherUses, IsRefusalOfLabels}
-use Rattle.naga_scope.specs.Plans.{IsPlanOf, IsRefusalToPlanOf, Planned, ScopeHoldsIn}
+use Rattle.naga_scope.specs.Plans.{function_shape_at, HasScopeFaultIn, IsPlanOf, IsRefusalToPlanOf, Planned}
 use Rattle.naga_scope.specs.declared.plan.PlanError.{PlanError}
 use Rattle.naga_scope.specs.declared.plan.PlanError.TheVariants.{LetWithoutForm, OutOfScope}
 use Rattle.naga_scope.specs.declared.plan.PlanError.TheVariants.{TypeWithoutForm, Unnamed}
@@ -142,11 +144,17 @@ module _ (explicit : Bool) (m : Module) (info : ModuleInfo) (i : ℕ) (error : E
       let formless = some_formless n.function.body n.statement n.formless in
       absurd cc
 
+-- a function that breaks a rule of scope
+scope_fails : (o : Option Function) → IsSomeAnd o HasScopeFault → IfSome o ScopeHolds → ⊥
+scope_fails None fault holds = fault
+scope_fails (Some f) fault holds = fault_is_no_rule f fault holds
+
 -- a fault
 pub fault_fails : (explicit : Bool) (m : Module) (info : ModuleInfo) (earlier : List (List ℕ)) (i : ℕ)
     (error : Error) → IsFault explicit m info earlier i error →
     IsWritableAt explicit m info earlier i → ⊥
-fault_fails explicit m info earlier i error (inl scope) w = scope.1 w.in_scope
+fault_fails explicit m info earlier i error (inl scope) w =
+    scope_fails (function_shape_at m info i) scope.1 w.in_scope
 fault_fails explicit m info earlier i error (inr (inl formless)) w =
     formless_fails explicit m info i error formless earlier w
 fault_fails explicit m info earlier i error (inr (inr full)) w = w.nameable full.1
@@ -260,12 +268,13 @@ module _ (explicit : Bool) (m : Module) (info : ModuleInfo) (accepted : IsTrue (
   known : (es : List ExpressionInfo) × (slice_get (all_infos info) i ≡ Some es)
   known = element (all_infos info) i (omega (arith, within, counted))
 
-  -- where the check of the function fails, the rules don't hold in it
+  -- where the check of the function fails, it breaks a rule of scope
   out_of_scope : (namer : Names) → IsRefusalToPlanOf explicit m info i namer OutOfScope →
-      ScopeHoldsIn m info i → ⊥
-  out_of_scope namer refusal holds =
-      refusal f known.0 stands known.1 (subst (λ o. IfSome o ScopeHolds)
-      (shape_found m info (all_functions m) (all_infos info) i f known.0 stands known.1) holds)
+      HasScopeFaultIn m info i
+  out_of_scope namer refusal =
+      subst (λ o. IsSomeAnd o HasScopeFault)
+      (sym (shape_found m info (all_functions m) (all_infos info) i f known.0 stands known.1))
+      (refusal f known.0 stands known.1)
 
   -- a handle of which something is known is in range
   known_there : (es : List ExpressionInfo) (h : ℕ) (P : ExpressionInfo → Type 0) →
@@ -293,10 +302,10 @@ module _ (explicit : Bool) (m : Module) (info : ModuleInfo) (accepted : IsTrue (
   -- behind these labels
   module _ (earlier : List (List ℕ)) where
     for_scope : (reported : Error) → IsCustom (codes "operand out of scope") reported →
-        (ScopeHoldsIn m info i → ⊥) → IsPlanRefusal explicit m info earlier i reported
-    for_scope (Custom message) is fails = (tt, inl (is, fails))
-    for_scope (Memory e) is fails = tt
-    for_scope _ is fails = absurd is
+        HasScopeFaultIn m info i → IsPlanRefusal explicit m info earlier i reported
+    for_scope (Custom message) is fault = (tt, inl (is, fault))
+    for_scope (Memory e) is fault = tt
+    for_scope _ is fault = absurd is
 
     for_form : (reported : Error) → HasFormlessIn explicit m info i reported → IsPlanRefusal explicit m info earlier i reported
     for_form (FmtError reason) (inl n) =

@@ -48,7 +48,7 @@ use Rattle.module_meaning.specs.ExpressionLabels.{SomeLabelIsFull}
 use Rattle.module_meaning.specs.Names.{labels_named_in, wgsl_names}
 use Rattle.naga_names.specs.Naming.{HasNamed, Names}
 use Rattle.naga_scope.specs.ExpressionNames.{HasOtherUses}
-use Rattle.naga_scope.specs.Plans.{OfFunctionAt, ScopeHoldsIn}
+use Rattle.naga_scope.specs.Plans.{HasScopeFaultIn, OfFunctionAt, ScopeHoldsIn}
 use Rattle.naga_scope.specs.declared.plan.PlanError.{PlanError}
 use Rattle.naga_scope.specs.declared.plan.PlanError.TheVariants.{LetWithoutForm, OutOfScope}
 use Rattle.naga_scope.specs.declared.plan.PlanError.TheVariants.{TypeWithoutForm, Unnamed}
@@ -322,13 +322,13 @@ pub record IsWritableAt (explicit : Bool) (m : Module) (info : ModuleInfo)
   pub formed : OfFunctionAt m info number (WrittenHaveForms explicit m info)
   pub nameable : ExpressionNamesAreFullIn m earlier number → ⊥
 
--- why it has no plan: the rules of scope don't hold in it, a statement without a form stands in it,
--- an expression without one is written there or a type without one spelled, a label that a front
--- end gave in it gets no name, or memory ran out
+-- why it has no plan: it breaks a rule of scope at some place, a statement without a form stands in
+-- it, an expression without one is written there or a type without one spelled, a label that a
+-- front end gave in it gets no name, or memory ran out
 abbrev pub IsFault : (explicit : Bool) → Module → ModuleInfo → (earlier : List (List ℕ)) →
     (number : ℕ) → Error → Type 0
 IsFault explicit m info earlier number error =
-    (TellsOfScope error × (ScopeHoldsIn m info number → ⊥))
+    (TellsOfScope error × HasScopeFaultIn m info number)
     ⊎ (HasFormlessIn explicit m info number error
     ⊎ (TellsOfFullNamer error × ExpressionNamesAreFullIn m earlier number))
 

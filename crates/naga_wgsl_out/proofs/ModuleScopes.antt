@@ -22,7 +22,6 @@ use Rattle.module_meaning.specs.FunctionShapes.{function_shapes}
 use Rattle.naga_form.proofs.AcceptedFunctions.{all_counted}
 use Rattle.naga_names.proofs.Refusal.{element}
 use Rattle.module_meaning.specs.Names.{labels_before}
-use Rattle.naga_scope.specs.Plans.{ScopeHoldsIn}
 use Rattle.naga_wgsl_fns.specs.declared.error.Error.{Error}
 use Rattle.naga_wgsl_fns.specs.declared.error.Error.TheVariants.{Custom, FmtError, Memory}
 use Rattle.naga_wgsl_fns.specs.Refusals.{IsFault, IsWritableAt}
@@ -44,28 +43,10 @@ turned : (fs behind : List Function) → EachScopeHolds fs → EachScopeHolds be
 turned [] behind each rest = rest
 turned (f ∷ fs) behind each rest = turned fs (f ∷ behind) each.1 (each.0, rest)
 
-turned_back : (fs behind : List Function) → EachScopeHolds (reverse_aux fs behind) →
-    EachScopeHolds fs × EachScopeHolds behind
-turned_back [] behind each = (tt, each)
-turned_back (f ∷ fs) behind each =
-    let parts = turned_back fs (f ∷ behind) each in ((parts.1.0, parts.0), parts.1.1)
-
-each_at : (fs : List Function) → EachScopeHolds fs → (i : ℕ) → IfSome (slice_get fs i) ScopeHolds
-each_at [] each i = tt
-each_at (f ∷ fs) each zero = each.0
-each_at (f ∷ fs) each (suc i) = each_at fs each.1 i
-
 each_from : (fs : List Function) → ((i : ℕ) → i < length fs → IfSome (slice_get fs i) ScopeHolds) →
     EachScopeHolds fs
 each_from [] at = tt
 each_from (f ∷ fs) at = (at 0 (omega arith), each_from fs (λ i lt. at (suc i) (omega (arith, lt))))
-
--- where the rules hold in a module, they hold in each function
-pub scope_holds_in : (m : Module) (info : ModuleInfo) → ScopesHold m info → (i : ℕ) →
-    ScopeHoldsIn m info i
-scope_holds_in m info rules i =
-    let own = function_shapes m info (all_functions m) (all_infos info) in
-    each_at own (turned_back own [] rules).0 i
 
 -- ---- functions with a plan
 pub has_plan_holds : (explicit : Bool) (m : Module) (info : ModuleInfo) (i : ℕ) →
@@ -157,7 +138,7 @@ module _ (explicit : Bool) (m : Module) (info : ModuleInfo) (i : ℕ) where
   fault_refuses before after (FmtError e) tells fault = absurd tells
   fault_refuses before after (Memory e) tells fault = absurd tells
   fault_refuses before after (Custom message) tells (inl scope) =
-      inr (inl (scope.0, λ rules. scope.1 (scope_holds_in m info rules i)))
+      inr (inl (scope.0, (i, scope.1)))
   fault_refuses before after (Custom message) tells (inr (inl formless)) =
       inr (inr (inr (i, formless)))
   fault_refuses before after (Custom message) tells (inr (inr full)) =

@@ -12,6 +12,7 @@ use Rattle.naga_names.specs.Keys.{NameMap}
 use Rattle.naga_names.specs.Naming.{Names}
 use Rattle.naga_names.specs.Refusal.{SomeNameIsFull, SomeKeyIsFull}
 use Rattle.naga_names.specs.Reset.{labelled_items}
+use Rattle.naga_scope.specs.Plans.{HasScopeFaultIn}
 use Rattle.naga_wgsl_fns.specs.DeclarationRefusals.{NamesDeclaration}
 use Rattle.naga_wgsl_fns.specs.Errors.{IsSinkWant}
 use Rattle.naga_wgsl_fns.specs.Refusals.{ExpressionNamesAreFullIn, HasFormlessIn, HasNamedLabels}
@@ -57,10 +58,11 @@ HasFormless explicit m info error =
     NamesDeclaration m error ⊎ ((number : ℕ) × HasFormlessIn explicit m info number error)
 
 -- ---- refusals
--- the rules of scope don't hold in some function: an operand is used where it is out of scope, or
--- an `Emit` isn't allowed
+-- the function with some number breaks a rule of scope at some place: it uses a handle that is out
+-- of scope there, or gives one that may not be given there
 abbrev pub IsOutOfScope : Module → ModuleInfo → (message : List ℕ) → Type 0
-IsOutOfScope m info message = (message ≡ codes "operand out of scope") × (ScopesHold m info → ⊥)
+IsOutOfScope m info message =
+    (message ≡ codes "operand out of scope") × ((number : ℕ) × HasScopeFaultIn m info number)
 
 -- Why a module is refused, of which this is known, where the sink had failed so often before and
 -- has failed so often now: the sink failed, memory ran out, the names can't be told, an operand is
