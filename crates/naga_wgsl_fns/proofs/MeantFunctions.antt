@@ -29,7 +29,8 @@ use Rattle.naga_form.proofs.OneFunction.{binds_at, resolves_at, runs_at}
 use Rattle.naga_back.specs.declared.context.FunctionType.{FunctionType}
 use Rattle.naga_back.specs.declared.flags.WriterFlags.{WriterFlags}
 use Rattle.naga_wgsl_fns.specs.FunctionText.{annotates_types}
-use Rattle.naga_wgsl_fns.specs.Items.{IsMeant, StandsIn, names_behind, program_behind}
+use Rattle.naga_wgsl_fns.specs.Items.{IsMeant, IsToldByAnswers, StandsIn, names_behind}
+use Rattle.naga_wgsl_fns.specs.Items.{program_behind}
 use Rattle.naga_wgsl_fns.specs.Refusals.{IsWritableAt}
 
 module _ (named : LabelNames) (explicit : Bool) (names : NameMap) (m : Module) (info : ModuleInfo) where
@@ -145,3 +146,8 @@ is_meant flags m info accepted ty earlier later is writable content now stands =
           (up_to number have writable.formed) (up_to number scopes writable.in_scope);
       interface = λ declarations have. has_interface_under m info explicit named accepted declarations have;
     }
+
+-- what the answers of calls tell of functions before one
+pub told_by_answers : IsToldByAnswers
+told_by_answers explicit m info number were =
+    (λ g lt. (were g lt).1.plan.formed, λ g lt. (were g lt).1.plan.in_scope)

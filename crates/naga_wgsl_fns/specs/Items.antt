@@ -2,7 +2,7 @@
 --
 -- Throughout, m is the module, earlier are labels that were named before, ty says which of its functions
 -- is meant and number is that of it, and explicit says whether `let`s tell types.
-use Rattle.std.specs.Prelude.{◌≡◌, ⊤, ℕ, ◌++◌, Bool, List, ◌⊎◌, Ok, Err, IfErr, OnErr, OnOk}
+use Rattle.std.specs.Prelude.{◌≡◌, ⊤, ℕ, ◌<◌, ◌++◌, Bool, List, ◌⊎◌, Ok, Err, IfErr, OnErr, OnOk}
 use Rattle.std.specs.Prelude.{Result, Some, slice_get}
 use Rattle.naga_ir.specs.declared.module.Module.{Module}
 use Rattle.naga_info.specs.declared.info.ModuleInfo.{ModuleInfo}
@@ -127,8 +127,8 @@ pub record IsMeant (explicit : Bool) (m : Module) (info : ModuleInfo) (earlier :
   pub resolution : DeclarationsHaveForms m →
       ResolvesAt (names_behind m earlier (function_number m ty)) m info
       (program_behind explicit m info earlier (function_number m ty)) (function_number m ty)
-  -- Where what is written of each function before it has forms too, and the rules of scope hold there,
-  -- it does what the module does. Each answer without an error tells this of its function.
+  -- Where what is written of each function before it has forms too, and the rules of scope hold
+  -- there, it does what the module does. Each answer without an error tells this of its function.
   pub runs : DeclarationsHaveForms m →
       WrittenHaveFormsBefore explicit m info (function_number m ty) →
       ScopesHoldBefore m info (function_number m ty) →
@@ -137,6 +137,15 @@ pub record IsMeant (explicit : Bool) (m : Module) (info : ModuleInfo) (earlier :
   -- The interface of the program is the module's, where each function has forms.
   pub interface : DeclarationsHaveForms m → AllWrittenHaveForms explicit m info →
       HasInterfaceOf m info (program_behind explicit m info earlier (function_number m ty))
+
+-- What the meaning of a function's runs asks of those before it is what an answer without an error
+-- tells of each: so it holds where they were written by themselves, under whatever names.
+abbrev pub IsToldByAnswers : Type 0
+IsToldByAnswers =
+    (explicit : Bool) (m : Module) (info : ModuleInfo) (number : ℕ) →
+    ((g : ℕ) → g < number →
+    (earlier : List (List ℕ)) × IsWritableFunction explicit m info earlier g) →
+    WrittenHaveFormsBefore explicit m info number × ScopesHoldBefore m info number
 
 -- A call was asked to write the function behind the text that its sink held; it answered, and the
 -- sink holds another text now. The sink had failed so often before, and has failed so often now.
@@ -151,8 +160,9 @@ pub record FunctionWriting (m : Module) (info : ModuleInfo) (flags : WriterFlags
   -- Otherwise it appends the function's text, which has exactly one reading.
   pub text_ok : OnOk answer (now ≡ content ++ text_behind m info flags earlier (function_number m ty))
   pub reading : OnOk answer (AppendsOne ty content now)
-  -- Where the earlier labels begin with those of the module's items, the text is meant so: its `let`s,
-  -- what its identifiers and words stand for, and its runs are the module's, whatever stands after it.
+  -- Where the earlier labels begin with those of the module's items, the text is meant so: its
+  -- `let`s, what its identifiers and words stand for, and its runs are the module's, whatever stands
+  -- after it.
   pub meaning : OnOk answer ((later : List (List ℕ)) → earlier ≡ item_labels m ++ later →
       IsMeant (annotates_types flags) m info earlier ty content now)
   pub failures_ok : OnOk answer (after ≡ before)

@@ -35,8 +35,7 @@ use Rattle.module_meaning.specs.ExpressionForms.{expression_has_form, global_is_
 use Rattle.module_meaning.specs.ExpressionForms.{is_written_literal, known_passes}
 use Rattle.module_meaning.specs.Sampling.{offset_is_written, sampling_is_written}
 use Rattle.module_meaning.specs.LackingScalars.{lacking_scalar}
-use Rattle.module_meaning.specs.Written.{IsSpelledIn, IsWrittenIn, WrittenHaveForms}
-use Rattle.module_meaning.specs.Written.{WrittenHaveFormsAt}
+use Rattle.module_meaning.specs.Written.{IsSpelledIn, IsWrittenIn, WrittenHaveFormsAt}
 use Rattle.module_meaning.specs.ExpressionOperators.{has_parts}
 use Rattle.module_meaning.specs.Undeclared.{is_spellable, names_undeclared}
 use Rattle.module_meaning.specs.Conversions.{conversion_target}

@@ -8,7 +8,7 @@ ghost use Rattle.module_meaning.specs.Names.{HasNamesOf, wgsl_names};
 ghost use Rattle.naga_names.specs.Keys.{names_in};
 ghost use Rattle.naga_names.specs.Naming.{HasNamed};
 ghost use Rattle.naga_scope.specs.ExpressionNames.{HasOtherUses};
-ghost use Rattle.naga_wgsl_fns.specs.Items.{FunctionWriting, HasNamedItemsOf};
+ghost use Rattle.naga_wgsl_fns.specs.Items.{FunctionWriting, HasNamedItemsOf, IsToldByAnswers};
 
 use crate::error::Error;
 use crate::formless_declarations::head_without_form;
@@ -62,6 +62,11 @@ pub fn write_function<W: TextSink>(
         None => write_by_plan(alloc, module, info, &ty, names, namer, flags, out),
     }
 }
+
+/// Where the functions before one were written by themselves, what its meaning asks of them holds.
+pub fn answers_tell_of_those_before()
+    ensures { IsToldByAnswers }
+{}
 
 /// The same of a function of which what it takes and gives and its stage have forms.
 fn write_by_plan<W: TextSink>(

@@ -94,8 +94,8 @@ fn add_without_text(rt: &impl Abort, alloc: Global, shader: &mut ModuleBuilder) 
     shader.add_function(function).expect(rt, "memory");
 }
 
-/// What stands after a function is nothing to its text: the first one is written, and the last one is
-/// refused, as the module is.
+/// What stands after a function is nothing to its text: the first one is written, and the last one
+/// is refused, as the module is.
 #[test]
 fn a_function_is_written_before_one_that_is_refused(rt: HostRuntime) {
     let alloc = rt.alloc();
