@@ -104,6 +104,7 @@ fn a_function_is_written_before_one_that_is_refused(rt: HostRuntime) {
     add_without_text(&rt, alloc, &mut shader);
     count(&mut shader.info, &shader.module);
     assert!(rt; accepts(&shader.module, &shader.info));
+    assert_eq!(rt; shader.module.functions.len(), 2);
     let whole = write_string(alloc, &shader.module, &shader.info, no_flags());
     assert!(rt; whole.is_err());
     let (names, mut namer) = names_of(alloc, &shader.module).expect(&rt, "names");
