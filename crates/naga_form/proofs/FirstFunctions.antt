@@ -27,7 +27,7 @@ use Rattle.shader_runs.proofs.Names.{length-functions_of}
 use Rattle.shader_runs.proofs.ScopeRules.{scope_check_is_the_rules}
 use Rattle.text_meaning.specs.Abstraction.{function_read, program_read}
 use Rattle.module_meaning.specs.Accepted.{is_accepted}
-use Rattle.module_meaning.specs.DeclarationForms.{DeclarationsHaveForms}
+use Rattle.module_meaning.specs.DeclarationForms.{ItemsHaveForms}
 use Rattle.module_meaning.specs.FunctionNumbers.{all_functions, all_infos}
 use Rattle.module_meaning.specs.FunctionShapes.{function_shape}
 use Rattle.module_meaning.specs.ModuleShapes.{module_shape}
@@ -224,9 +224,9 @@ module _ (m : Module) (info : ModuleInfo) (accepted : IsTrue (is_accepted m info
           ∙ sym (form_functions-map (reverse listed) ∙ map-reverse form_function listed))))
 
       -- what the laws ask of them
-      pub first_fits : DeclarationsHaveForms m → FirstFit p n later first_namings
-      first_fits declarations = record {
-        items = subst (λ fs. ItemsFit p n fs) texts_split (items_fit m info explicit named accepted declarations);
+      pub first_fits : ItemsHaveForms m → FirstFit p n later first_namings
+      first_fits items = record {
+        items = subst (λ fs. ItemsFit p n fs) texts_split (items_fit m info explicit named accepted items);
         others = others count;
         functions = ap (λ fs. others count ++ fs) shapes_first ∙ shapes_parted count;
         all = first_all_fit;

@@ -27,7 +27,7 @@ use Rattle.text_meaning.specs.Resolution.{hides_no_type}
 use Rattle.wgsl_text.specs.Functions.{Function}
 use Rattle.module_meaning.specs.Accepted.{is_accepted}
 use Rattle.module_meaning.specs.Bindings.{BindsAt}
-use Rattle.module_meaning.specs.DeclarationForms.{DeclarationsHaveForms}
+use Rattle.module_meaning.specs.DeclarationForms.{ItemsHaveForms}
 use Rattle.module_meaning.specs.Faithful.{RunsAt}
 use Rattle.module_meaning.specs.FunctionNumbers.{all_functions, all_infos}
 use Rattle.module_meaning.specs.FunctionShapes.{function_shapes}
@@ -127,7 +127,7 @@ module _ (m : Module) (info : ModuleInfo) (explicit : Bool) (named : LabelNames)
         annotations = ap (λ l. slice_get l g) (annotations_are m info explicit named accepted);
       }
 
-  module _ (are : AreLabelNames m named) (declarations : DeclarationsHaveForms m) where
+  module _ (are : AreLabelNames m named) (items : ItemsHaveForms m) where
     -- ---- resolution
     one_resolves : (g : ℕ) → WrittenHaveFormsAt explicit m info g → ScopeHoldsIn m info g →
         (f : ir_function.Function) (es : List ExpressionInfo) → slice_get (all_functions m) g ≡ Some f →
@@ -146,9 +146,9 @@ module _ (m : Module) (info : ModuleInfo) (explicit : Bool) (named : LabelNames)
         let is = accepted_at m info accepted g f es there in
         let text = program_read (program_under named m info explicit) in
         ap (text_function_targets (text_names text)) (read_at g have f es at known)
-        ∙ (ap (λ t. text_function_targets (text_names t) (form_function (function_naming (module_names m) (named g) m info g f es))) (reads_items m info explicit named accepted declarations)
+        ∙ (ap (λ t. text_function_targets (text_names t) (form_function (function_naming (module_names m) (named g) m info g f es))) (reads_items m info explicit named accepted items)
         ∙ function_resolves_as_meant (module_shape m info) (outer_names (module_names m) m) text.functions
-        (items_fit m info explicit named accepted declarations) callees (omega (arith, counted, within))
+        (items_fit m info explicit named accepted items) callees (omega (arith, counted, within))
         (function_naming (module_names m) (named g) m info g f es)
         (function_fits_at m info accepted explicit named are g f es there have scope callees counted (first_shapes_tell m info accepted g))
         (leaves_are_own m info is.callees f is.ranges es))
@@ -185,7 +185,7 @@ module _ (m : Module) (info : ModuleInfo) (explicit : Bool) (named : LabelNames)
     resolves_at g have scope =
         record {
           body = body_resolves g have scope;
-          items = items_resolve m info explicit named accepted declarations;
+          items = items_resolve m info explicit named accepted items;
           not_hidden = hides_none_at g have;
         }
 
@@ -204,8 +204,8 @@ module _ (m : Module) (info : ModuleInfo) (explicit : Bool) (named : LabelNames)
         (one_vocabulary m info explicit named)
         ∙ (ap
         (λ (text : TextModule). follow_module text shape.parts settings world meaning outer.vocabulary turns (function_name m (module_names m) g) arguments past)
-        (reads_items m info explicit named accepted declarations
+        (reads_items m info explicit named accepted items
         ∙ ap (form_module_with (p m info explicit named) (n m info explicit named)) (texts_split m info accepted explicit named are (suc g) have scopes))
         ∙ first_run_alike shape outer texts first
-        (first_fits m info accepted explicit named are (suc g) have scopes declarations) settings fit meaning typed g (omega (arith, counted)) f
+        (first_fits m info accepted explicit named are (suc g) have scopes items) settings fit meaning typed g (omega (arith, counted)) f
         found arguments typed_arguments world turns past keeps)

@@ -37,6 +37,7 @@ use Rattle.module_meaning.specs.Accepted.{is_accepted}
 use Rattle.module_meaning.specs.AlikeTypes.{are_alike}
 use Rattle.module_meaning.specs.Bindings.{BindsAt, BindsUnder}
 use Rattle.module_meaning.specs.DeclarationForms.{DeclarationsHaveForms, IsInitialiser}
+use Rattle.module_meaning.specs.DeclarationForms.{ItemsHaveForms}
 use Rattle.module_meaning.specs.Faithful.{HasInterfaceOf, RunsAs, RunsAt}
 use Rattle.module_meaning.specs.Written.{AllWrittenHaveForms, WrittenHaveForms}
 use Rattle.module_meaning.specs.Written.{WrittenHaveFormsAt, WrittenHaveFormsBefore}
@@ -170,11 +171,12 @@ OneBinds =
     IsTrue (is_accepted m info) → (number : ℕ) → WrittenHaveFormsAt explicit m info number →
     BindsAt named m info explicit (program_under named m info explicit) number
 
--- what holds of one function where all that the module declares has a form too
+-- what holds of one function where the items that it may name have forms, whatever the module declares
+-- beside
 abbrev pub OfOne : (LabelNames → (explicit : Bool) → Module → ModuleInfo → ℕ → Type 0) → Type 0
 OfOne Holds =
     (m : Module) (info : ModuleInfo) (explicit : Bool) (named : LabelNames) →
-    IsTrue (is_accepted m info) → AreLabelNames m named → DeclarationsHaveForms m →
+    IsTrue (is_accepted m info) → AreLabelNames m named → ItemsHaveForms m →
     (number : ℕ) → Holds named explicit m info number
 
 -- its identifiers and words, and the module's, stand for what they were written for, where the rules
