@@ -2,7 +2,7 @@
 --
 -- Throughout, m is a module, t a type's tree, r a type of an expression, and n are the names that
 -- types are spelled with.
-use Rattle.std.specs.Prelude.{◌≡◌, ◌↔◌, ℕ, suc, ◌++◌, ◌∷◌, List, Some, None, IsTrue, true, Bool, length}
+use Rattle.std.specs.Prelude.{◌≡◌, ◌↔◌, ℕ, ◌++◌, ◌∷◌, List, Some, None, IsTrue, true, Bool, length}
 use Rattle.std.specs.List.{list_all}
 use Rattle.std.specs.Option.{option_map}
 use Rattle.naga_ir.specs.declared.expression.Literal.{Literal}
@@ -39,6 +39,7 @@ use Rattle.module_meaning.specs.Bindings.{BindsAt, BindsUnder}
 use Rattle.module_meaning.specs.DeclarationForms.{DeclarationsHaveForms, IsInitialiser}
 use Rattle.module_meaning.specs.DeclarationForms.{ItemsHaveForms}
 use Rattle.module_meaning.specs.Faithful.{HasInterfaceOf, RunsAs, RunsAt}
+use Rattle.module_meaning.specs.FunctionNumbers.{callee_count, function_type}
 use Rattle.module_meaning.specs.Written.{AllWrittenHaveForms, WrittenHaveForms}
 use Rattle.module_meaning.specs.Written.{WrittenHaveFormsAt, WrittenHaveFormsBefore}
 use Rattle.module_meaning.specs.InfoSizes.{type_is_fit, resolution_is_fit}
@@ -186,10 +187,12 @@ OneResolves = OfOne (λ named explicit m info number.
     WrittenHaveFormsAt explicit m info number → ScopeHoldsIn m info number →
     ResolvesAt named m info (program_under named m info explicit) number)
 
--- it does what the module does, where this is asked of it and of those before it, which it may call
+-- it does what the module does, where this is asked of it and of those that it may call
 abbrev pub OneRuns : Type 0
 OneRuns = OfOne (λ named explicit m info number.
-    WrittenHaveFormsBefore explicit m info (suc number) → ScopesHoldBefore m info (suc number) →
+    let callees = callee_count m (function_type m number) in
+    WrittenHaveFormsAt explicit m info number → ScopeHoldsIn m info number →
+    WrittenHaveFormsBefore explicit m info callees → ScopesHoldBefore m info callees →
     RunsAt m info (program_under named m info explicit) number)
 
 -- the check of scope decides the rules
