@@ -96,8 +96,8 @@ pub record HeadHasForm (m : Module) (number : ℕ) : Type 0 where
   pub stage : (p : EntryPoint) → entry_point_numbered m number ≡ Some p →
       IsTrue (stage_has_form p p.stage)
 
--- The items that a function may name have forms, as far as its runs and what its identifiers stand for
--- hang on them: the types of variables, and each initialiser.
+-- The items that a function may name have forms, as far as its runs and what its identifiers stand
+-- for hang on them: the types of variables, and each initialiser.
 pub record ItemsHaveForms (m : Module) : Type 0 where
   pub variables : (i : ℕ) (v : GlobalVariable) → slice_get m.global_variables i ≡ Some v →
       IsTrue (is_spellable m (Handle v.ty))

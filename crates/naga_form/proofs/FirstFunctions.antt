@@ -22,7 +22,7 @@ use Rattle.shader_runs.specs.Program as shapes
 use Rattle.shader_runs.specs.Scope.{ModuleNames, Naming}
 use Rattle.shader_runs.specs.ScopeRules.{ScopeHolds}
 use Rattle.shader_runs.specs.Text.{TextFunction}
-use Rattle.shader_runs.proofs.Calls.{first_numbered}
+use Rattle.shader_runs.proofs.OneRun.{first_numbered}
 use Rattle.shader_runs.proofs.Names.{length-form_functions, length-functions_of}
 use Rattle.shader_runs.proofs.ScopeRules.{scope_check_is_the_rules}
 use Rattle.text_meaning.specs.Abstraction.{function_read, program_read}

@@ -49,7 +49,7 @@ use Rattle.shader_runs.specs.Scope.{ModuleNames, Naming, at_start}
 use Rattle.shader_runs.specs.Text.{TextFunction, TextModule}
 use Rattle.shader_runs.specs.Value.{Value}
 use Rattle.shader_runs.specs.World.{Meaning, Settings, World}
-use Rattle.shader_runs.proofs.Calls.{initialisers_are_alike}
+use Rattle.shader_runs.proofs.OneRun.{initialisers_are_alike}
 use Rattle.text_meaning.specs.Abstraction.{expression_read, program_read}
 use Rattle.text_meaning.specs.Attributes.{stage_read}
 use Rattle.text_meaning.specs.Interface.{access_read, constant_interface_read}

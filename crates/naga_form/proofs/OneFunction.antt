@@ -24,7 +24,8 @@ use Rattle.shader_runs.specs.Resolution.{function_targets, text_function_targets
 use Rattle.shader_runs.specs.Scope.{Naming}
 use Rattle.shader_runs.specs.Text.{TextModule}
 use Rattle.shader_runs.proofs.Bindings.{function_binds_as_meant}
-use Rattle.shader_runs.proofs.Calls.{numbered_within, one_runs_alike}
+use Rattle.shader_runs.proofs.Calls.{numbered_within}
+use Rattle.shader_runs.proofs.OneRun.{one_runs_alike}
 use Rattle.shader_runs.proofs.Resolution.{function_resolves_as_meant}
 use Rattle.text_meaning.specs.Abstraction.{function_read, functions_of, program_read, statements_read}
 use Rattle.text_meaning.specs.Resolution.{hides_no_type}

@@ -14,7 +14,7 @@ use Rattle.shader_runs.specs.World.{Vocabulary}
 use Rattle.shader_runs.specs.Text.{TextModule}
 use Rattle.shader_runs.specs.Constants.{follow_module}
 use Rattle.shader_runs.specs.Form.{form_function, form_functions, form_module}
-use Rattle.shader_runs.proofs.Calls.{runs_alike}
+use Rattle.shader_runs.proofs.OneRun.{runs_alike}
 use Rattle.text_meaning.specs.Abstraction.{function_read, functions_of, program_read}
 use Rattle.module_meaning.specs.Accepted.{is_accepted}
 use Rattle.module_meaning.specs.DeclarationForms.{DeclarationsHaveForms}

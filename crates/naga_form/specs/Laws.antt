@@ -172,8 +172,8 @@ OneBinds =
     IsTrue (is_accepted m info) → (number : ℕ) → WrittenHaveFormsAt explicit m info number →
     BindsAt named m info explicit (program_under named m info explicit) number
 
--- what holds of one function where the items that it may name have forms, whatever the module declares
--- beside
+-- what holds of one function where the items that it may name have forms, whatever the module
+-- declares beside
 abbrev pub OfOne : (LabelNames → (explicit : Bool) → Module → ModuleInfo → ℕ → Type 0) → Type 0
 OfOne Holds =
     (m : Module) (info : ModuleInfo) (explicit : Bool) (named : LabelNames) →

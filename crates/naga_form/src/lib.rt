@@ -59,8 +59,8 @@ pub fn initialisers_have_values()
 {}
 
 /// Each of its identifiers and words stands for what it was written for, where the rules of scope
-/// hold in the module. Of one function it is so where the items that it may name have forms, whatever
-/// stands in the other functions and in what they take and give.
+/// hold in the module. Of one function it is so where the items that it may name have forms,
+/// whatever stands in the other functions and in what they take and give.
 pub fn resolves_as_meant()
     ensures whole { ResolvesAsMeant }
     ensures one { OneResolves }

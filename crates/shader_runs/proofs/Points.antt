@@ -16,9 +16,8 @@ use Rattle.shader_runs.proofs.Update.{has_types_length}
 use Rattle.shader_runs.proofs.Relation.{as_denoted, Stands, Related}
 use Rattle.shader_runs.proofs.Evaluation.{naming, words, Respond}
 use Rattle.shader_runs.proofs.Form.{Facts, typed_value, value_here}
-use Rattle.shader_runs.proofs.Calls.{starting, facts, starts, body_fits, calls_alike, uses_fit}
-use Rattle.shader_runs.proofs.Calls.{named_alike}
-use Rattle.shader_runs.proofs.Calls.{names_are}
+use Rattle.shader_runs.proofs.Calls.{starting, facts, starts, body_fits, calls_alike, named_alike}
+use Rattle.shader_runs.proofs.OneRun.{names_are, uses_fit}
 use Rattle.shader_runs.proofs.Places.{lines_there}
 use Rattle.shader_runs.proofs.Passes.{passes}
 use Rattle.shader_runs.proofs.Names.{items_fit, length-functions_of, module_names_in_scope}

@@ -1,9 +1,9 @@
 -- The laws: a call runs alike by the text and by the module, event by event.
 --
--- Throughout, p is a module, n are its names and fs its functions with theirs, later are functions of
--- a text that stand after these or after f, others the module's there, between those of a text between f
--- and its callees, uncalled the module's there, m is the meaning, w the world, g the number of a function f, vs are its arguments and t the events so far, i is an
--- index and e an initialiser.
+-- Throughout, p is a module, n are its names and fs its functions with theirs, m is the meaning, w the
+-- world, g the number of a function f, vs are its arguments and t the events so far, i is an index
+-- and e an initialiser. Functions of a text that stand after f are later, and those between f and
+-- its callees are between; others and uncalled are the module's there.
 use Rattle.std.specs.Prelude.{◌≡◌, ℕ, ◌++◌, List, [], ◌∷◌, length, Some, IsTrue, slice_get}
 use Rattle.std.specs.Prelude.{drop}
 use Rattle.shader_runs.specs.Value.{Value, has_types}
@@ -49,9 +49,9 @@ pub record ItemsFit (p : Module) (n : ModuleNames) (functions : List TextFunctio
   pub named : AreNamed n functions
   pub counted : length functions ≡ length p.functions
 
--- f is a function of the module, and fits. Its callees are the module's first functions, all that it calls
--- are among them, and they fit. Of the functions between and of the later ones nothing is asked but
--- their names, whatever the text has for them.
+-- f is a function of the module, and fits. Its callees are the module's first functions and fit, and
+-- all that it calls are among them. Of the functions between and of the later ones nothing is asked
+-- but their names, whatever the text has for them.
 pub record OneFits (p : Module) (n : ModuleNames) (later : List TextFunction) (f : Naming)
     (between : List TextFunction) (callees : List Naming) : Type 0 where
   pub items : ItemsFit p n (later ++ (form_function f ∷ (between ++ form_functions callees)))
@@ -81,8 +81,8 @@ RunsAlike =
     follow_module text p.parts settings w m n.vocabulary turns (n.function g) vs t
     ≡ run_module p settings w m turns g vs t
 
--- The same of one function that fits behind its callees, whatever stands after it and between it and
--- them, in the module and in the text.
+-- The same of one function that fits behind its callees, whatever stands after it, and between it
+-- and them, in the module and in the text.
 abbrev pub OneRunsAlike : Type 0
 OneRunsAlike =
     (p : Module) (n : ModuleNames) (later : List TextFunction) (f : Naming)
@@ -94,7 +94,8 @@ OneRunsAlike =
     (w : World) (turns : ℕ) (t : List Event) →
     let g = f.names.earlier in
     KeepsTypes (run_module p settings w m turns g vs t) →
-    let text = form_module_with p n (later ++ (form_function f ∷ (between ++ form_functions callees))) in
+    let functions = later ++ (form_function f ∷ (between ++ form_functions callees)) in
+    let text = form_module_with p n functions in
     follow_module text p.parts settings w m n.vocabulary turns (n.function g) vs t
     ≡ run_module p settings w m turns g vs t
 

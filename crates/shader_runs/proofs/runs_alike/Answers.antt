@@ -1,4 +1,4 @@
-use Rattle.shader_runs.proofs.Calls.{one_runs_alike, runs_alike}
+use Rattle.shader_runs.proofs.OneRun.{one_runs_alike, runs_alike}
 use Rattle.shader_runs.proofs.runs_alike.Goals as goal
 
 pub returns-clause-whole : goal.returns-clause-whole
