@@ -110,7 +110,13 @@ scope_after l text s (suc n) = scope_with (initialiser_value l (scope_after l te
 -- what words do in the initialisers of a text
 abbrev pub initialiser_words : TextModule → PartTypes → World → Meaning → Vocabulary → Words
 initialiser_words text parts w m vocabulary =
-    record { parts = parts; world = w; meaning = m; respond = operate text m vocabulary }
+    record {
+      parts = parts;
+      world = w;
+      meaning = m;
+      operates = vocabulary.is_operator;
+      respond = operate text m vocabulary;
+    }
 
 -- the names of a text: as many rounds as it has named constants
 abbrev pub module_scope :
