@@ -1,7 +1,6 @@
 -- What the places of a module are made of, by the rules of types: how a pointer to a place is
 -- spelled tells the parts of the place, and how a pointer to each of them is spelled. So a place has
--- its type whether or not an expression of the module leads to it. Of a type that the module lacks
--- nothing is known: its places have no parts, unless it is a column's.
+-- its type whether or not an expression of the module leads to it.
 --
 -- Throughout, m is a module, info is what is known of it, whole is how a pointer is spelled, at is
 -- a space, base the handle of what is there, index and ty are a member's number and type, word is
