@@ -141,9 +141,8 @@ abbrev pub module_initialiser_value :
     Module → Settings → Meaning → ConstantTree → Option Value
 module_initialiser_value p s m e = constant_value (environment_of p s m) m e
 
--- the run of a function of the text, by its name. What types are made of is told to it. Where it is
--- told as to a module's run, the text's structs are to be declared with the members of the module's,
--- which is asked beside the run
+-- the run of a function of the text, by its name. What types are made of is told to it. That its
+-- structs are declared with the members that a module has is not asked here, but by an interface
 abbrev pub follow_module :
     TextModule → PartTypes → Settings → World → Meaning → Vocabulary → (turns : ℕ) →
     (name : Bytes) → List Value → List Event → ReachedOrHalted (Option Value)

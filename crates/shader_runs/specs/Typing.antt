@@ -1,8 +1,8 @@
 -- When a module's operators are typed consistently.
 --
 -- Throughout, p is a module, f a function, h a handle, e a constant tree, w a word, xs are
--- operands, k is a type, x and y are signatures, x is a selector too, b a base, i an index and z an
--- integer, whole the spelling of a pointer, parts are those of all places, and own parts those of one.
+-- operands, k is a type, x and y are signatures, x is a selector too, b a base, i an index, z an
+-- integer and whole the spelling of a pointer; parts are those of all places, own those of one.
 use Rattle.std.specs.Prelude.{◌≡◌, ℕ, ℤ, List, [], ◌∷◌, ◌++◌, Option, Some, None, slice_get}
 use Rattle.shader_runs.specs.Value.{Parts, PartTypes, Step, Selector, MemberNamed, part_pointer}
 use Rattle.shader_runs.specs.Value.{step_to, step_at, ValueType, BooleanType, IntegerType}
