@@ -4,7 +4,7 @@
 -- doesn't ask that they are: a negation of a literal is not.
 use Rattle.module_meaning.specs.Writable.{AreWrittenOut, is_written_out, written_out_within, written_out_over}
 use Rattle.module_meaning.specs.Names.{TypesAreDistinguished}
-use Rattle.std.proofs.Common.{◌≡◌, ℕ, zero, suc, ◌<◌, ◌+◌, Bool, true, false, List, [], ◌∷◌, refl, sym, ap, ◌∙◌, length}
+use Rattle.std.proofs.Common.{◌≡◌, ℕ, zero, suc, ◌<◌, ◌+◌, Bool, true, false, List, [], ◌∷◌, refl, sym, ap, ◌∙◌, length, subst}
 use Rattle.std.proofs.Common.{Option, Some, None, slice_get, arith, nat_lt, ◌&&◌}
 use Rattle.std.specs.List.{list_all}
 use Rattle.std.specs.Prelude.{IsTrue, ◌||◌}
@@ -23,7 +23,7 @@ use Rattle.shader_runs.specs.Program.{ConstantTree, Constructed}
 use Rattle.module_meaning.specs.Accepted.{is_accepted}
 use Rattle.module_meaning.specs.AgreeingOperators.{Group, module_operators_agree}
 use Rattle.module_meaning.specs.ExpressionOperators.{constructor}
-use Rattle.module_meaning.specs.ExpressionShapes.{Declared, trees, tree_then, trees_of, built, tree_over}
+use Rattle.module_meaning.specs.ExpressionShapes.{Declared, trees, tree_then, trees_of, built, tree_over, computed_over}
 use Rattle.module_meaning.specs.ExpressionTypes as types
 use Rattle.module_meaning.specs.InfoSizes.{sizes_fit, type_is_fit, all_known}
 use Rattle.module_meaning.specs.OperatorTable.{Operator, Splat}
@@ -43,6 +43,7 @@ use Rattle.module_meaning.proofs.Lists.{all_pass, list_all_at}
 use Rattle.module_meaning.proofs.Lists.{placed_at}
 use Rattle.naga_form.proofs.AcceptedGroups.{IsSoundGroup, own_known, own_group, declarations_are}
 use Rattle.naga_form.proofs.ConstantInitialisers.{HaveTrees, named_stands}
+use Rattle.naga_form.proofs.ComputedTrees.{computed_as_written}
 use Rattle.naga_form.proofs.ConstantTrees.{wanted_there, availability_tree}
 use Rattle.naga_form.proofs.Signatures.{group_context}
 
@@ -233,11 +234,13 @@ module _ (m : Module) (info : ModuleInfo) where
 
           by : (o : Option Expression) → slice_get m.global_expressions h ≡ o → option_map_or (written_out_over (written_out_within levels m.global_expressions)) o false ≡ true →
               ((k : ℕ) → written_out_within levels m.global_expressions k ≡ true → HasTree (global k)) →
-              HasTree (option_and_then (tree_over (declared_over m (constant_over m global) (global_types_known info)) global h) o)
+              HasTree (option_and_then (computed_over (declared_over m (constant_over m global) (global_types_known info)) global h) o)
           by None at out have = absurd cc
           by (Some e) at out have =
-              over_there None Own own_is (constant_over m global) global (written_out_within levels m.global_expressions) h e at (λ k lt. have k)
-              (λ c same. let item = constant_named None Own own_is h c (at ∙ ap Some same) in constant_stands global c item.0 item.1) out
+              subst HasTree
+              (sym (computed_as_written (declared_over m (constant_over m global) (global_types_known info)) global h (written_out_within levels m.global_expressions) e out))
+              (over_there None Own own_is (constant_over m global) global (written_out_within levels m.global_expressions) h e at (λ k lt. have k)
+              (λ c same. let item = constant_named None Own own_is h c (at ∙ ap Some same) in constant_stands global c item.0 item.1) out)
 
       -- so each initialiser of a named one has
       pub have_trees : AreWrittenOut m → HaveTrees m info accepted distinguished
