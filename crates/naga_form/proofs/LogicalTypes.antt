@@ -1,7 +1,7 @@
 -- The types of what `&&` and `||` take and give, in expressions that stand together in an accepted
 -- module: on `bool` they give `bool`.
 use Rattle.naga_form.proofs.AgreeingUses.{value_at, value_is}
-use Rattle.std.proofs.Common.{◌≡◌, ℕ, Bool, true, false, List, [], ◌∷◌, refl, sym, ap, ◌∙◌, subst}
+use Rattle.std.proofs.Common.{◌≡◌, ℕ, Bool, true, false, List, refl, sym, ap, ◌∙◌}
 use Rattle.std.proofs.Common.{Option, Some, None, slice_get, if◌then◌else◌, arith, get_or}
 use Rattle.std.specs.Prelude.{unwrap_or}
 use Rattle.std.specs.Option.{option_map, option_map_or, option_and_then, is_some}

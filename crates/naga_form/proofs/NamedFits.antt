@@ -94,7 +94,6 @@ use Rattle.naga_form.proofs.OperatingWords.{length_free, product_free, query_fre
 use Rattle.naga_form.proofs.OperatingWords.{texel_free}
 use Rattle.naga_ir.specs.Operands.{cooperative_operands, query_operands}
 use Rattle.naga_ir.specs.declared.expression.SampleLevel.{SampleLevel}
-use Rattle.naga_ir.specs.declared.types.VectorSize.{VectorSize}
 use Rattle.shader_runs.specs.Premises.{ConstantsWords}
 use Rattle.std.proofs.Common.{◌++◌}
 use Rattle.std.specs.Option.{is_some, option_to_list}

@@ -5,11 +5,10 @@ use Rattle.naga_form.proofs.AgreeingUses.{value_at, value_is}
 use Rattle.naga_form.proofs.LogicalTypes.{logical_fits as values_are_logical}
 use Rattle.module_meaning.specs.Names.{ItemsAreDistinguished}
 use Rattle.std.proofs.Common.{◌≡◌, ℕ, Bool, true, false, List, [], ◌∷◌, refl, sym, ap, ◌∙◌, subst, length}
-use Rattle.std.proofs.Common.{Option, Some, None, slice_get, if◌then◌else◌, arith, get_or}
-use Rattle.std.specs.Prelude.{IsTrue, ℤ, pos, unwrap_or}
-use Rattle.std.specs.Option.{option_map, option_map_or, option_and_then, is_some}
+use Rattle.std.proofs.Common.{Option, Some, None, slice_get, if◌then◌else◌}
+use Rattle.std.specs.Prelude.{IsTrue, ℤ, pos}
+use Rattle.std.specs.Option.{option_map, option_map_or, option_and_then}
 use Rattle.std.proofs.lemmas.Bool.{and_parts}
-use Rattle.std.proofs.lemmas.Option.{same_Some}
 use Rattle.std.proofs.lemmas.Slice.Eq.{bytes_eq-Decides}
 use Rattle.naga_ir.specs.declared.expression.Expression as ir
 use Rattle.naga_ir.specs.declared.expression.Expression.TheVariants as expression
@@ -19,41 +18,37 @@ use Rattle.naga_ir.specs.declared.module.Function as ir_function
 use Rattle.naga_ir.specs.declared.module.Module as ir_module
 use Rattle.naga_ir.specs.declared.operators.BinaryOperator.{BinaryOperator}
 use Rattle.naga_ir.specs.declared.operators.BinaryOperator.TheVariants as binary
-use Rattle.naga_ir.specs.declared.types.Scalar.{Scalar}
 use Rattle.naga_ir.specs.declared.types.ScalarKind.{ScalarKind}
 use Rattle.naga_ir.specs.declared.types.ScalarKind.TheVariants as kind
 use Rattle.naga_ir.specs.declared.types.TypeInner.{TypeInner}
 use Rattle.naga_ir.specs.declared.types.TypeInner.TheVariants as inner
-use Rattle.naga_ir.specs.declared.types.Type_.{Type_}
 use Rattle.naga_info.specs.Resolution.{inner_of, handle_of}
 use Rattle.naga_info.specs.declared.info.ExpressionInfo.{ExpressionInfo}
 use Rattle.naga_info.specs.declared.info.ModuleInfo.{ModuleInfo}
 use Rattle.naga_info.specs.declared.info.TypeResolution.{TypeResolution}
 use Rattle.naga_info.specs.declared.info.TypeResolution.TheVariants.{Handle, Value}
-use Rattle.wgsl_words.specs.Words.{scalar_word}
 use Rattle.shader_runs.specs.Program.{Expression, Function, Load, Request, Result, no_constant, expression_of, handle_type}
 use Rattle.shader_runs.specs.Typing.{AccessFits, AccessIndexFits, IsPart, LogicalFits, PartsFit}
 use Rattle.shader_runs.specs.Value.{Bytes, Selector, step_at, step_to, PartTypes}
-use Rattle.shader_runs.specs.Value.{ValueType, BooleanType, IntegerType, PointerType, OtherType}
+use Rattle.shader_runs.specs.Value.{ValueType, IntegerType, PointerType}
 use Rattle.module_meaning.specs.Accepted.{is_accepted}
 use Rattle.module_meaning.specs.AgreeingOperators.{Group, function_group}
-use Rattle.module_meaning.specs.AlikeTypes.{type_key, type_identity, handle_key, inner_key, key_within, found_key_by, named_key_by, scalar_key}
+use Rattle.module_meaning.specs.AlikeTypes.{type_identity}
 use Rattle.module_meaning.specs.ExpressionOperators.{constructor, cast, cast_to, type_known, is_atomic_pointer, matrix_load, query_operator}
 use Rattle.module_meaning.specs.ExpressionShapes.{part_selector, selector, part_shape, shape_of, applied_or, asking}
-use Rattle.naga_ir.specs.Literals.{scalar_of}
-use Rattle.module_meaning.specs.ExpressionTypes.{is_bool, is_bool_of, logical_type, binary_type, wanted_type, Anything, LikeThis, is_wanted, if_any, only}
+use Rattle.module_meaning.specs.ExpressionTypes.{logical_type, binary_type, wanted_type, LikeThis, is_wanted, if_any, only}
 use Rattle.module_meaning.specs.FunctionShapes.{function_shape}
 use Rattle.module_meaning.specs.OperandDemands.{operand_is, is_integer, is_integer_kind}
 use Rattle.module_meaning.specs.OperatorTable.{Operator as TableOperator, BinarySign, WithoutForm, Formless, ValueOf, Construct, CooperativeLoad, AtomicLoad, asks, run_word}
 use Rattle.module_meaning.specs.Shapes.{operator_shape}
 use Rattle.module_meaning.specs.ExpressionContexts.{declared, expression_context, types_known}
-use Rattle.module_meaning.specs.Types.{scalar_values, type_of_values, word_of_values, values_of}
-use Rattle.module_meaning.specs.TypeIdentity.{identity, identity_code, word_of_unspelled_type, level, kind_number}
+use Rattle.module_meaning.specs.Types.{scalar_values, type_of_values, word_of_values}
+use Rattle.module_meaning.specs.TypeIdentity.{identity, identity_code, level}
 use Rattle.module_meaning.specs.TypeParts.{known_inner, has_computed_parts, is_part_number, part_type}
 use Rattle.module_meaning.specs.Types.{called_spelling}
 use Rattle.naga_form.proofs.AcceptedGroups.{IsSoundGroup, types_are_counted, operands_known, own_known}
 use Rattle.naga_form.proofs.ModulePlaces.{expression_is, handle_type_is}
-use Rattle.naga_form.proofs.SameValues.{TypesAreCounted, IsFit, numbers_by_values, values_by_numbers}
+use Rattle.naga_form.proofs.SameValues.{TypesAreCounted, IsFit}
 use Rattle.module_meaning.specs.ModuleShapes.{module_shape}
 use Rattle.module_meaning.specs.PlaceParts.{place_parts}
 use Rattle.naga_form.proofs.PlaceParts.{IsPointer, element_at, element_to, member_to}

@@ -23,7 +23,7 @@ use Rattle.module_meaning.specs.ExpressionShapes.{applied_shape, applied_or, par
 use Rattle.module_meaning.specs.ExpressionShapes.{shape_of, asking}
 use Rattle.module_meaning.specs.FunctionShapes.{function_shape, shapes_from}
 use Rattle.module_meaning.specs.ModuleShapes.{initialiser}
-use Rattle.module_meaning.specs.OperatorTable.{Operator, Splat, WithoutForm, PartAt, run_word, asks}
+use Rattle.module_meaning.specs.OperatorTable.{Operator, WithoutForm, PartAt, run_word, asks}
 use Rattle.module_meaning.specs.OperatorTable.{TypeIsSound}
 use Rattle.module_meaning.specs.Shapes.{operator_shape}
 use Rattle.module_meaning.specs.ExpressionContexts.{declared, types_known}
@@ -46,7 +46,6 @@ use Rattle.naga_form.proofs.SoundOperators.{constructor_is_sound, atomic_is_soun
 use Rattle.naga_form.proofs.SoundOperators.{applied_is_sound}
 use Rattle.naga_form.proofs.TreeWords.{constant_words, initialiser_words, levels_words, offset_words}
 use Rattle.naga_form.proofs.TreeWords.{or_false_words, written_words, zero_words}
-use Rattle.naga_ir.specs.declared.types.VectorSize.{VectorSize}
 
 -- ---- expressions
 -- in a function of a program of shapes, behind so many others
