@@ -1,8 +1,7 @@
--- Each constant of an accepted module has a tree. Where the initialisers of those with a name are
--- written out, as a literal, another constant, an override, a zero value, a composition or a splat
--- of such, these have trees too, and so it is where all that a module declares has a form. Acceptance
--- doesn't ask that they are: a negation of a literal is not.
-use Rattle.module_meaning.specs.Writable.{AreWrittenOut, is_written_out, written_out_within, written_out_over}
+-- Each constant of an accepted module has a tree. So has what is written out of the module's own
+-- expressions, as a literal, a constant, an override, a zero value, a composition or a splat of such;
+-- and so the initialisers of the constants with a name, where all that a module declares has a form.
+use Rattle.module_meaning.specs.Writable.{AreComputed, written_out_within, written_out_over}
 use Rattle.module_meaning.specs.Names.{TypesAreDistinguished}
 use Rattle.std.proofs.Common.{◌≡◌, ℕ, zero, suc, ◌<◌, ◌+◌, Bool, true, false, List, [], ◌∷◌, refl, sym, ap, ◌∙◌, length, subst}
 use Rattle.std.proofs.Common.{Option, Some, None, slice_get, arith, nat_lt, ◌&&◌}
@@ -99,21 +98,6 @@ module _ (m : Module) where
           option_map_or (written_out_over out) o false ≡ true
       by None is each = absurd cc
       by (Some e) is each = over each e is
-
-  -- so the initialiser of each constant with a name is
-  pub are_written_out : DeclarationsHaveForms m → AreWrittenOut m
-  are_written_out declarations =
-      all_pass (λ c. is_none c.name || is_written_out m.global_expressions c.init) m.constants
-      (λ i c at. by c.init c.name
-      (λ named.
-      form_is_out (suc c.init) c.init
-      (declarations.initialisers c.init (IsInitialiser.OfConstant i c at named))))
-    where
-      by : {X : Type 0} (init : ℕ) (name : Option X) →
-          (is_some name ≡ true → is_written_out m.global_expressions init ≡ true) →
-          (is_none name || is_written_out m.global_expressions init) ≡ true
-      by init None out = refl
-      by init (Some name) out = out refl
 
 module _ (m : Module) (info : ModuleInfo) where
   -- ---- of expressions that stand together
@@ -242,13 +226,26 @@ module _ (m : Module) (info : ModuleInfo) where
               (over_there None Own own_is (constant_over m global) global (written_out_within levels m.global_expressions) h e at (λ k lt. have k)
               (λ c same. let item = constant_named None Own own_is h c (at ∙ ap Some same) in constant_stands global c item.0 item.1) out)
 
-      -- so each initialiser of a named one has
-      pub have_trees : AreWrittenOut m → HaveTrees m info accepted distinguished
-      have_trees out i c named =
-          let k = named_stands m.constants i c named in
-          global_there (suc c.init) c.init
-          (by c.name k.2 (list_all_at (λ c. is_none c.name || is_written_out m.global_expressions c.init) m.constants k.0 c out k.1))
+      -- so each initialiser of a named one has, where all that is declared has a form
+      pub are_computed : DeclarationsHaveForms m → AreComputed m info
+      are_computed declarations =
+          all_pass (λ c. is_none c.name || is_some (global_tree m info c.init)) m.constants
+          (λ i c at. by c.name (λ named.
+          let out = form_is_out m (suc c.init) c.init (declarations.initialisers c.init (IsInitialiser.OfConstant i c at named)) in
+          ap is_some (global_there (suc c.init) c.init out).1))
         where
-          by : {X : Type 0} (name : Option X) → is_some name ≡ true → (is_none name || is_written_out m.global_expressions c.init) ≡ true → is_written_out m.global_expressions c.init ≡ true
-          by (Some name) named is = is
-          by None named is = absurd cc
+          by : {X : Type 0} {b : Bool} (name : Option X) → (is_some name ≡ true → b ≡ true) → (is_none name || b) ≡ true
+          by None has = refl
+          by (Some name) has = has refl
+
+      -- and where all are computed, each has its tree
+      pub have_trees : AreComputed m info → HaveTrees m info accepted distinguished
+      have_trees computed i c named =
+          let k = named_stands m.constants i c named in
+          by c.name (global_tree m info c.init) k.2
+          (list_all_at (λ c. is_none c.name || is_some (global_tree m info c.init)) m.constants k.0 c computed k.1)
+        where
+          by : {X : Type 0} (name : Option X) (o : Option ConstantTree) → is_some name ≡ true → (is_none name || is_some o) ≡ true → HasTree o
+          by (Some name) (Some t) named is = (t, refl)
+          by (Some name) None named is = absurd cc
+          by None o named is = absurd cc
