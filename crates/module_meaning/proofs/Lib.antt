@@ -15,6 +15,7 @@ mod RangeExamples
 pub mod Layouts
 pub mod Lists
 pub mod ModuleShapeExamples
+mod ComputedExamples
 pub mod PlaceExamples
 pub mod NumberExamples
 pub mod Operations
