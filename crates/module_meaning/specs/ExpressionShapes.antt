@@ -223,8 +223,8 @@ part_tree d tree_of h base (Some part) operator =
 part_tree d tree_of h base None operator = operated d tree_of h (base ∷ []) operator
 
 -- One of the module's own expressions over the trees of its operands: as it is written out, or the
--- operator that it applies, written or not. What asks for an event has no such tree, and no constant
--- points to what has parts.
+-- operator that it applies, written or not. What asks for an event has no such tree, and no
+-- constant points to what has parts.
 abbrev pub computed_over :
     Declared → (ℕ → Option ConstantTree) → ℕ → ir.Expression → Option ConstantTree
 computed_over d tree_of h (expression.Literal value) =

@@ -1,7 +1,7 @@
 -- What is written out as a constant; and what an accepted module may hold that no text is ever
--- written for, and of which the laws about the runs of all accepted modules ask that there is none: a
--- constant with a name that no operators compute from others, and a case with statements that falls
--- through.
+-- written for, and of which the laws about the runs of all accepted modules ask that there is none:
+-- a constant with a name that no operators compute from others, and a case with statements that
+-- falls through.
 --
 -- Throughout, m is a module, info what is known of it, es are its own expressions, e is one of them
 -- and h a handle of one, c is a constant, s a statement, b the rest of a block and cs the further
@@ -41,8 +41,8 @@ written_out_within (suc levels) es h =
 abbrev pub is_written_out : List Expression → ℕ → Bool
 is_written_out es h = written_out_within (suc h) es h
 
--- the initialiser of each constant with a name has a tree, written out or not: nothing in it asks for
--- an event, or takes a part of what a pointer leads to
+-- the initialiser of each constant with a name has a tree, written out or not: nothing in it asks
+-- for an event, or takes a part of what a pointer leads to
 abbrev pub AreComputed : Module → ModuleInfo → Type 0
 AreComputed m info =
     list_all (λ c. is_none c.name || is_some (global_tree m info c.init)) m.constants ≡ true
