@@ -1,0 +1,115 @@
+-- What a call tells, from what its steps say.
+use Rattle.std.proofs.Common.{◌≡◌, ◌≤◌, ◌∙◌, ℕ, List, [], Err, Ok, Result, absurd, ap, inl, inr, refl, subst, sym}
+use Rattle.std.specs.Prelude.{◌⊎◌, IsTrue}
+use Rattle.naga_ir.specs.declared.module.Module.{Module}
+use Rattle.naga_info.specs.declared.info.ModuleInfo.{ModuleInfo}
+use Rattle.module_meaning.specs.Accepted.{is_accepted}
+use Rattle.naga_back.specs.declared.flags.WriterFlags.{WriterFlags}
+use Rattle.naga_form.specs.Declarations.{written_program}
+use Rattle.wgsl_text.specs.Reading.{layout}
+use Rattle.naga_wgsl_fns.specs.FunctionText.{annotates_types}
+use Rattle.naga_wgsl_fns.specs.declared.error.Error.{Error}
+use Rattle.naga_wgsl_fns.specs.declared.error.Error.TheVariants as error
+use Rattle.naga_wgsl_out.specs.Checked.{IsCounted}
+use Rattle.naga_wgsl_out.specs.Headline.{FaithfulWriting}
+use Rattle.naga_wgsl_out.specs.Writing.{AppendsItsText}
+use Rattle.yorwethul_c.specs.Answers.{IsStopped, IsWritten, LacksMemory, Says, SaysOfError, SaysOfWritten}
+use Rattle.yorwethul_c.specs.Answers.{TellsOfChecking, TellsOfLayouts, TellsOfReading, TellsOfWriting}
+use Rattle.yorwethul_c.specs.Answers.{annotates, status_of_error}
+use Rattle.yorwethul_c.specs.declared.status.Status.{Status}
+use Rattle.yorwethul_c.specs.declared.status.Status.TheVariants as status
+
+pub lacking : (Tells : Status → List ℕ → Type 0) (told : Status) (text : List ℕ) →
+    Tells status.OutOfMemory [] → LacksMemory told text → Tells told text
+lacking Tells told text lacks less =
+    subst (λ s. Tells s text) (sym less.0)
+    (subst (λ t. Tells status.OutOfMemory t) (sym less.1) lacks)
+
+pub said : (Tells : Status → List ℕ → Type 0) (wanted told : Status) (text : List ℕ) →
+    Tells wanted text → Tells status.OutOfMemory [] → Says wanted told text → Tells told text
+said Tells wanted told text tells lacks (inl is) = subst (λ s. Tells s text) (sym is) tells
+said Tells wanted told text tells lacks (inr less) = lacking Tells told text lacks less
+
+-- ---- what is said of reading is told by each call
+
+pub unread_written : (flags : ℕ) (told : Status) (text : List ℕ) → TellsOfReading told text →
+    TellsOfWriting flags told text
+unread_written flags status.NoModule text tells = tells
+unread_written flags status.TooDeep text tells = tells
+unread_written flags status.OutOfMemory text tells = tells
+unread_written flags status.Done text tells = absurd tells
+unread_written flags status.Refused text tells = absurd tells
+unread_written flags status.NotAccepted text tells = absurd tells
+unread_written flags status.UnknownFlag text tells = absurd tells
+unread_written flags status.TooLong text tells = absurd tells
+
+pub unread_checked : (told : Status) (text : List ℕ) → TellsOfReading told text → TellsOfChecking told text
+unread_checked status.NoModule text tells = tells
+unread_checked status.TooDeep text tells = tells
+unread_checked status.OutOfMemory text tells = tells
+unread_checked status.Done text tells = absurd tells
+unread_checked status.Refused text tells = absurd tells
+unread_checked status.NotAccepted text tells = absurd tells
+unread_checked status.UnknownFlag text tells = absurd tells
+unread_checked status.TooLong text tells = absurd tells
+
+pub unread_laid_out : (told : Status) (text : List ℕ) → TellsOfReading told text → TellsOfLayouts told text
+unread_laid_out status.NoModule text tells = tells
+unread_laid_out status.TooDeep text tells = tells
+unread_laid_out status.OutOfMemory text tells = tells
+unread_laid_out status.Done text tells = absurd tells
+unread_laid_out status.Refused text tells = absurd tells
+unread_laid_out status.NotAccepted text tells = absurd tells
+unread_laid_out status.UnknownFlag text tells = absurd tells
+unread_laid_out status.TooLong text tells = absurd tells
+
+-- ---- what the writer did
+
+-- of what is written no failure is told
+no_failures : (explicit : Bool) (m : Module) (info : ModuleInfo) (content : List ℕ) (failures : ℕ) →
+    FaithfulWriting explicit m info (Ok tt) [] content 0 failures →
+    FaithfulWriting explicit m info (Ok tt) [] content 0 0
+no_failures explicit m info content failures f =
+    record { refusals = f.refusals; reading = f.reading; interface = f.interface; runs = f.runs }
+
+-- it stopped by an error
+stopped : (flags : ℕ) (e : Error) (told : Status) (text : List ℕ) → IsStopped flags (status_of_error e) →
+    SaysOfError e told text → TellsOfWriting flags told text
+stopped flags (error.Memory e) told text is says =
+    said (TellsOfWriting flags) status.OutOfMemory told text (says.1 refl) refl says.0
+stopped flags (error.FmtError e) told text is says =
+    said (TellsOfWriting flags) status.TooLong told text is refl says.0
+stopped flags (error.Custom e) told text is says =
+    said (TellsOfWriting flags) status.Refused told text is refl says.0
+stopped flags (error.Unimplemented e) told text is says =
+    said (TellsOfWriting flags) status.Refused told text is refl says.0
+stopped flags (error.UnsupportedRelationalFunction e) told text is says =
+    said (TellsOfWriting flags) status.Refused told text is refl says.0
+stopped flags (error.Unsupported kind value) told text is says =
+    said (TellsOfWriting flags) status.Refused told text is refl says.0
+
+pub wrote : (flags : ℕ) (writer : WriterFlags) (m : Module) (read info : ModuleInfo)
+    (answer : Result Unit Error) (content : List ℕ) (failures : ℕ) (told : Status) (text : List ℕ) →
+    flags ≤ 1 → IsTrue (is_accepted m read) → IsCounted m read info →
+    annotates_types writer ≡ annotates flags →
+    FaithfulWriting (annotates_types writer) m info answer [] content 0 failures →
+    AppendsItsText m info writer answer [] content →
+    SaysOfWritten answer content told text → TellsOfWriting flags told text
+wrote flags writer m read info (Ok tt) content failures told text known accepted counted explicit faithful
+    appends (inl is) =
+    let moved : FaithfulWriting (annotates flags) m info (Ok tt) [] text 0 0 =
+    subst (λ now. FaithfulWriting (annotates flags) m info (Ok tt) [] now 0 0) (sym is.1)
+    (no_failures (annotates flags) m info content failures
+    (subst (λ e. FaithfulWriting e m info (Ok tt) [] content 0 failures) explicit faithful)) in
+    let text_is : text ≡ layout (written_program m info (annotates flags)) =
+    is.1 ∙ (appends ∙ ap (λ e. layout (written_program m info e)) explicit) in
+    let done : IsWritten flags text =
+    record { flags_are_known = known; m = m; read = read; info = info; accepted = accepted; counted = counted; faithful = moved; text_is = text_is } in
+    subst (λ s. TellsOfWriting flags s text) (sym is.0) done
+wrote flags writer m read info (Ok tt) content failures told text known accepted counted explicit faithful
+    appends (inr less) = lacking (TellsOfWriting flags) told text refl less
+wrote flags writer m read info (Err e) content failures told text known accepted counted explicit faithful
+    appends says =
+    stopped flags e told text
+    (record { flags_are_known = known; m = m; read = read; info = info; error = e; beginning = content; failures = failures; accepted = accepted; counted = counted; faithful = subst (λ x. FaithfulWriting x m info (Err e) [] content 0 failures) explicit faithful; told_is = refl })
+    says
