@@ -1,7 +1,7 @@
 -- What a call from C answers: a status, and a text in the caller's memory.
 --
 -- Throughout, m is a module, read is what is known of it, and info is the same with the uses counted.
-use Rattle.std.specs.Prelude.{◌≡◌, ◌≤◌, ⊤, ⊥, ℕ, ◌==◌, ◌++◌, ◌⊎◌, Bool, IsTrue, List, [], length}
+use Rattle.std.specs.Prelude.{◌≡◌, ◌≤◌, ⊤, ℕ, ◌==◌, ◌++◌, ◌⊎◌, Bool, IsTrue, List, [], length}
 use Rattle.std.specs.Prelude.{drop, if◌then◌else◌, nat_le, Result, Ok, Err}
 use Rattle.naga_ir.specs.declared.module.Module.{Module}
 use Rattle.naga_info.specs.declared.info.ModuleInfo.{ModuleInfo}

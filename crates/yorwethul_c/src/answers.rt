@@ -1,6 +1,6 @@
 //! What becomes of a module, as a status and a text.
 
-ghost use Rattle.std.specs.Prelude.{◌≡◌, ◌≤◌, ◌×◌, IfErr, IfOk, string_bytes};
+ghost use Rattle.std.specs.Prelude.{◌≡◌, ◌≤◌, IfErr, IfOk, string_bytes};
 ghost use Rattle.yorwethul_c.specs.Answers.{LacksMemory, Says, SaysOfError, SaysOfWritten};
 ghost use Rattle.yorwethul_c.specs.Answers.{TellsOfChecking, TellsOfLayouts, TellsOfReading};
 ghost use Rattle.yorwethul_c.specs.Answers.{TellsOfWriting};
