@@ -1,7 +1,8 @@
 //! Many modules: each line of the input is answered by a line of the output.
 
 use crate::failure::Failure;
-use module_answers::{JsonPlace, Written, flags_for, write};
+use crate::places::JsonPlace;
+use crate::writing::{Written, flags_for, write};
 use naga_json::{Known, ReadError, known_of};
 use naga_wgsl_out::info::Unaccepted;
 use naga_wgsl_out::wgsl::{Error, WriterFlags};
@@ -107,20 +108,14 @@ fn tell_known(
     flags: WriterFlags,
     members: &mut Members,
 ) -> Result<(), AllocError> {
-    match write(
-        alloc,
-        &known.module,
-        &mut known.info,
-        flags,
-        String::new(alloc),
-    ) {
+    match write(alloc, &known.module, &mut known.info, flags) {
         Ok(written) => tell_written(alloc, written, members),
         Err(unaccepted) => tell_unaccepted(alloc, unaccepted, members),
     }
 }
 
-fn tell_written(alloc: Global, written: Written<String>, members: &mut Members) -> Result<(), AllocError> {
-    let Written { answer, sink: text } = written;
+fn tell_written(alloc: Global, written: Written, members: &mut Members) -> Result<(), AllocError> {
+    let Written { answer, text } = written;
     match answer {
         Ok(()) => put(alloc, "text", Value::String(text), members),
         Err(Error::Memory(error)) => Err(error),

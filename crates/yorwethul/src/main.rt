@@ -6,9 +6,12 @@
 
 mod failure;
 mod inputs;
+mod layouts;
 mod lines;
+mod places;
 mod program;
 mod words;
+mod writing;
 
 use std::io;
 use std::io::{BufWriter, Write};

@@ -1,0 +1,322 @@
+//! Where the members of a module's structs stand: a table that is printed, with the reason why a struct
+//! has no layout.
+
+ghost use Rattle.std.specs.Prelude.{IsTrue};
+ghost use Rattle.module_meaning.specs.Accepted.{is_accepted};
+ghost use Rattle.module_meaning.specs.Ranges.{parts_stand_before};
+
+use naga_info::ModuleInfo;
+use naga_wgsl_out::ir::{
+    Handle, Module, SpecialTypes, StructMember, Type_, TypeInner, UniqueArena,
+};
+use naga_wgsl_out::namer::NameKey;
+use naga_wgsl_out::types::{TypeLayout, type_layout};
+use naga_wgsl_out::wgsl::{Error, names_of};
+use std::alloc::{AllocError, Global};
+use std::collections::HashMap;
+use std::fmt;
+use std::fmt::Display;
+
+/// The structs that a text declares, each with a line for each member, under the names that a text has.
+#[tactic(auto, using(module_meaning::proofs::Layouts::accepted_in_order))]
+pub fn layout_table(alloc: Global, module: &Module, info: &ModuleInfo) -> Result<String, Error>
+    requires accepted { IsTrue (is_accepted «module».now info.now) }
+{
+    let (names, _namer) = names_of(alloc, module)?;
+    Ok(struct_lines(alloc, module, &names)?)
+}
+
+fn struct_lines(
+    alloc: Global,
+    module: &Module,
+    names: &HashMap<NameKey, String>,
+) -> Result<String, AllocError>
+    requires ordered { IsTrue (parts_stand_before «module».now.types) }
+{
+    let mut text = String::new(alloc);
+    for (handle, ty) in module.types.iter() {
+        if let TypeInner::Struct { members, .. } = &ty.inner {
+            if is_declared(&module.special_types, handle) {
+                push_struct(alloc, &module.types, names, handle, members, &mut text)?;
+            }
+        }
+    }
+    Ok(text)
+}
+
+/// Whether a text declares the struct with this handle: no function of WGSL gives it, and it is none of
+/// those of external textures.
+fn is_declared(special: &SpecialTypes, handle: Handle<Type_>) -> bool {
+    for known in special.predeclared_types.values() {
+        if *known == handle {
+            return false;
+        }
+    }
+    special.external_texture_params != Some(handle)
+        && special.external_texture_transfer_function != Some(handle)
+}
+
+/// A struct of these members: its name and its layout, if it has one, and a line for each member.
+fn push_struct(
+    alloc: Global,
+    types: &UniqueArena<Type_>,
+    names: &HashMap<NameKey, String>,
+    handle: Handle<Type_>,
+    members: &[StructMember],
+    text: &mut String,
+) -> Result<(), AllocError>
+    requires ordered { IsTrue (parts_stand_before types.now) }
+{
+    let head = StructLine {
+        name: name_in(names, &NameKey::Type_(handle)),
+        layout: layout_of(types, handle),
+    };
+    push_line(alloc, head, text)?;
+    let mut before = Before::Nothing;
+    // a module with more members than that has no names
+    let mut number: u32 = 0;
+    for member in members {
+        let found = found_of(types, member);
+        let line = MemberLine {
+            name: name_in(names, &NameKey::StructMember(handle, number)),
+            offset: member.offset,
+            found,
+            fault: fault_of(before, member.offset, found),
+        };
+        push_line(alloc, line, text)?;
+        before = ended(member.offset, found);
+        number = number.saturating_add(1);
+    }
+    Ok(())
+}
+
+fn push_line(
+    alloc: Global,
+    line: impl Display + Drop,
+    text: &mut String,
+) -> Result<(), AllocError> {
+    let line = format!(in alloc; "{line}\n")?;
+    text.push_str(line.as_str())
+}
+
+/// The name of an item, which each item of a named module has.
+fn name_in<'a>(names: &'a HashMap<NameKey, String>, key: &NameKey) -> &'a str {
+    match names.get(key) {
+        Some(name) => name.as_str(),
+        None => "_",
+    }
+}
+
+// ---- what is known of a member
+
+/// What is known of a member's type.
+#[derive(Clone, Copy)]
+enum Found {
+    /// The member is bound, so that its offset counts for nothing.
+    Bound,
+    /// The type has this layout.
+    Laid(TypeLayout),
+    /// The type is an array of this stride, or has one in it, where WGSL has the other stride.
+    Strided(u32, u64),
+    /// The type has no layout for another reason.
+    Unlaid,
+}
+
+fn found_of(types: &UniqueArena<Type_>, member: &StructMember) -> Found
+    requires ordered { IsTrue (parts_stand_before types.now) }
+{
+    if member.binding.is_some() {
+        return Found::Bound;
+    }
+    if let Some(layout) = layout_of(types, member.ty) {
+        return Found::Laid(layout);
+    }
+    match other_stride(types, member.ty) {
+        Some((stride, wgsl)) => Found::Strided(stride, wgsl),
+        None => Found::Unlaid,
+    }
+}
+
+/// The layout of the type with this handle, if it is one of these types and has one.
+fn layout_of(types: &UniqueArena<Type_>, ty: Handle<Type_>) -> Option<TypeLayout>
+    requires ordered { IsTrue (parts_stand_before types.now) }
+{
+    if ty.index() < types.len() {
+        type_layout(types, ty)
+    } else {
+        None
+    }
+}
+
+/// The stride of the first array, from a type on through the elements of arrays, whose elements WGSL has
+/// begin at another distance, and that distance.
+fn other_stride(types: &UniqueArena<Type_>, ty: Handle<Type_>) -> Option<(u32, u64)>
+    requires ordered { IsTrue (parts_stand_before types.now) }
+{
+    let mut at = ty;
+    for _ in 0..types.len() {
+        let Some((base, stride)) = array_at(types, at) else {
+            return None;
+        };
+        if let Some(wgsl) = wgsl_stride(types, base) {
+            if wgsl != stride as u64 {
+                return Some((stride, wgsl));
+            }
+        }
+        at = base;
+    }
+    None
+}
+
+/// The elements' type and the stride of an array.
+fn array_at(types: &UniqueArena<Type_>, ty: Handle<Type_>) -> Option<(Handle<Type_>, u32)> {
+    if ty.index() < types.len() {
+        match &types[ty].inner {
+            TypeInner::Array { base, stride, .. } => Some((*base, *stride)),
+            _ => None,
+        }
+    } else {
+        None
+    }
+}
+
+/// The distance at which WGSL has elements of a type begin, if they have a layout and a size.
+fn wgsl_stride(types: &UniqueArena<Type_>, base: Handle<Type_>) -> Option<u64>
+    requires ordered { IsTrue (parts_stand_before types.now) }
+{
+    let layout = layout_of(types, base)?;
+    let size = layout.size? as u64;
+    let alignment = layout.align as u64;
+    if alignment == 0 {
+        None
+    } else {
+        Some(size.next_multiple_of(alignment))
+    }
+}
+
+// ---- why a member can't stay where it is
+
+/// Where the member before ends.
+#[derive(Clone, Copy)]
+enum Before {
+    /// There is none.
+    Nothing,
+    /// Here.
+    End(u64),
+    /// It has no size, or one of more than 32 bits.
+    NoSize,
+    /// It has no layout.
+    Unknown,
+}
+
+fn ended(offset: u32, found: Found) -> Before {
+    match found {
+        Found::Laid(layout) => match layout.size {
+            Some(size) => Before::End(offset as u64 + size as u64),
+            None => Before::NoSize,
+        },
+        _ => Before::Unknown,
+    }
+}
+
+/// Why a member with a layout can't stay at its offset.
+fn fault_of(before: Before, offset: u32, found: Found) -> Option<&'static str> {
+    match found {
+        Found::Laid(layout) => {
+            if is_multiple(offset, layout.align) {
+                fault_after(before, offset)
+            } else {
+                Some("member off its alignment")
+            }
+        }
+        _ => None,
+    }
+}
+
+fn is_multiple(offset: u32, alignment: u32) -> bool {
+    alignment != 0 && offset % alignment == 0
+}
+
+fn fault_after(before: Before, offset: u32) -> Option<&'static str> {
+    match before {
+        Before::Nothing => {
+            if offset == 0 {
+                None
+            } else {
+                Some("member off its alignment")
+            }
+        }
+        _ if offset == 0 => Some("a second member at 0"),
+        Before::End(end) if (offset as u64) < end => Some("members overlap"),
+        Before::NoSize => Some("after a member without a size"),
+        _ => None,
+    }
+}
+
+// ---- lines
+
+#[derive(Clone, Copy)]
+struct StructLine<'a> {
+    name: &'a str,
+    layout: Option<TypeLayout>,
+}
+
+impl fmt::Display for StructLine<'_> {
+    fn fmt<W: fmt::Write>(&self, f: &mut fmt::Formatter<W>) -> fmt::Result {
+        write!(f, "struct {}: ", self.name)?;
+        match self.layout {
+            Some(layout) => write!(f, "{}", LayoutWords(layout)),
+            None => f.write_str("no layout"),
+        }
+    }
+}
+
+#[derive(Clone, Copy)]
+struct MemberLine<'a> {
+    name: &'a str,
+    offset: u32,
+    found: Found,
+    fault: Option<&'static str>,
+}
+
+impl fmt::Display for MemberLine<'_> {
+    fn fmt<W: fmt::Write>(&self, f: &mut fmt::Formatter<W>) -> fmt::Result {
+        write!(f, "    {}: ", self.name)?;
+        if let Found::Bound = self.found {
+            return f.write_str("bound");
+        }
+        write!(f, "offset {}", self.offset)?;
+        match self.found {
+            Found::Bound => Ok(()),
+            Found::Laid(layout) => write!(f, ", {}{}", LayoutWords(layout), Why(self.fault)),
+            Found::Strided(stride, wgsl) => {
+                write!(f, ": array stride {}, by WGSL {}", stride, wgsl)
+            }
+            Found::Unlaid => f.write_str(": its type has no layout"),
+        }
+    }
+}
+
+#[derive(Clone, Copy)]
+struct LayoutWords(TypeLayout);
+
+impl fmt::Display for LayoutWords {
+    fn fmt<W: fmt::Write>(&self, f: &mut fmt::Formatter<W>) -> fmt::Result {
+        match self.0.size {
+            Some(size) => write!(f, "align {}, size {}", self.0.align, size),
+            None => write!(f, "align {}, no size", self.0.align),
+        }
+    }
+}
+
+#[derive(Clone, Copy)]
+struct Why(Option<&'static str>);
+
+impl fmt::Display for Why {
+    fn fmt<W: fmt::Write>(&self, f: &mut fmt::Formatter<W>) -> fmt::Result {
+        match self.0 {
+            Some(reason) => write!(f, ": {}", reason),
+            None => Ok(()),
+        }
+    }
+}
