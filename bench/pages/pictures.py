@@ -61,7 +61,6 @@ LAYERS = [
     ]),
     ("programs", CODE, [
         ("yorwethul", "reads JSON"),
-        ("yorwethul_c", "calls from C"),
         ("wgsl_rows", "samples"),
     ]),
     ("examples", CODE, [
@@ -205,7 +204,7 @@ def layer_faults():
     for line in (TOP / "crates.txt").read_text().splitlines():
         crate, colon, used = line.partition("#")[0].partition(":")
         if colon:
-            # behind the name it may say that the crate is a static library
+            # after the name it may say that the crate is a static library
             uses[crate.split()[0]] = used.split()
     yield from (f"{crate} stands in no layer" for crate in uses if crate not in layer_of)
     yield from (f"crates.txt has no {crate}" for crate in layer_of if crate not in uses)
