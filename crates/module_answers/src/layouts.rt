@@ -45,8 +45,8 @@ fn struct_lines(
     Ok(text)
 }
 
-/// Whether a text declares the struct with this handle: no function of WGSL gives it, and it is none
-/// of those of external textures.
+/// Whether a text declares the struct with this handle: no function of WGSL gives it, and it is
+/// none of those of external textures.
 fn is_declared(special: &SpecialTypes, handle: Handle<Type_>) -> bool {
     for known in special.predeclared_types.values() {
         if *known == handle {
@@ -149,8 +149,8 @@ fn layout_of(types: &UniqueArena<Type_>, ty: Handle<Type_>) -> Option<TypeLayout
     }
 }
 
-/// The stride of the first array, from a type on through the elements of arrays, whose elements WGSL
-/// has begin at another distance, and that distance.
+/// The stride of the first array, from a type on through the elements of arrays, whose elements
+/// WGSL has begin at another distance, and that distance.
 fn other_stride(types: &UniqueArena<Type_>, ty: Handle<Type_>) -> Option<(u32, u64)>
     requires ordered { IsTrue (parts_stand_before types.now) }
 {
