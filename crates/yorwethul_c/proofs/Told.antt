@@ -32,36 +32,36 @@ said Tells wanted told text tells lacks (inr less) = lacking Tells told text lac
 
 -- ---- what is said of reading is told by each call
 
-pub unread_written : (flags : ℕ) (told : Status) (text : List ℕ) → TellsOfReading told text →
-    TellsOfWriting flags told text
-unread_written flags status.NoModule text tells = tells
-unread_written flags status.TooDeep text tells = tells
-unread_written flags status.OutOfMemory text tells = tells
-unread_written flags status.Done text tells = absurd tells
-unread_written flags status.Refused text tells = absurd tells
-unread_written flags status.NotAccepted text tells = absurd tells
-unread_written flags status.UnknownFlag text tells = absurd tells
-unread_written flags status.TooLong text tells = absurd tells
+pub unread_written : (json : List ℕ) (flags : ℕ) (told : Status) (text : List ℕ) → TellsOfReading json told text →
+    TellsOfWriting json flags told text
+unread_written json flags status.NoModule text tells = tells
+unread_written json flags status.TooDeep text tells = tells
+unread_written json flags status.OutOfMemory text tells = tells
+unread_written json flags status.Done text tells = absurd tells
+unread_written json flags status.Refused text tells = absurd tells
+unread_written json flags status.NotAccepted text tells = absurd tells
+unread_written json flags status.UnknownFlag text tells = absurd tells
+unread_written json flags status.TooLong text tells = absurd tells
 
-pub unread_checked : (told : Status) (text : List ℕ) → TellsOfReading told text → TellsOfChecking told text
-unread_checked status.NoModule text tells = tells
-unread_checked status.TooDeep text tells = tells
-unread_checked status.OutOfMemory text tells = tells
-unread_checked status.Done text tells = absurd tells
-unread_checked status.Refused text tells = absurd tells
-unread_checked status.NotAccepted text tells = absurd tells
-unread_checked status.UnknownFlag text tells = absurd tells
-unread_checked status.TooLong text tells = absurd tells
+pub unread_checked : (json : List ℕ) (told : Status) (text : List ℕ) → TellsOfReading json told text → TellsOfChecking json told text
+unread_checked json status.NoModule text tells = tells
+unread_checked json status.TooDeep text tells = tells
+unread_checked json status.OutOfMemory text tells = tells
+unread_checked json status.Done text tells = absurd tells
+unread_checked json status.Refused text tells = absurd tells
+unread_checked json status.NotAccepted text tells = absurd tells
+unread_checked json status.UnknownFlag text tells = absurd tells
+unread_checked json status.TooLong text tells = absurd tells
 
-pub unread_laid_out : (told : Status) (text : List ℕ) → TellsOfReading told text → TellsOfLayouts told text
-unread_laid_out status.NoModule text tells = tells
-unread_laid_out status.TooDeep text tells = tells
-unread_laid_out status.OutOfMemory text tells = tells
-unread_laid_out status.Done text tells = absurd tells
-unread_laid_out status.Refused text tells = absurd tells
-unread_laid_out status.NotAccepted text tells = absurd tells
-unread_laid_out status.UnknownFlag text tells = absurd tells
-unread_laid_out status.TooLong text tells = absurd tells
+pub unread_laid_out : (json : List ℕ) (told : Status) (text : List ℕ) → TellsOfReading json told text → TellsOfLayouts json told text
+unread_laid_out json status.NoModule text tells = tells
+unread_laid_out json status.TooDeep text tells = tells
+unread_laid_out json status.OutOfMemory text tells = tells
+unread_laid_out json status.Done text tells = absurd tells
+unread_laid_out json status.Refused text tells = absurd tells
+unread_laid_out json status.NotAccepted text tells = absurd tells
+unread_laid_out json status.UnknownFlag text tells = absurd tells
+unread_laid_out json status.TooLong text tells = absurd tells
 
 -- ---- what the writer did
 
@@ -73,29 +73,29 @@ no_failures explicit m info content failures f =
     record { refusals = f.refusals; reading = f.reading; interface = f.interface; runs = f.runs }
 
 -- it stopped by an error
-stopped : (flags : ℕ) (e : Error) (told : Status) (text : List ℕ) → IsStopped flags (status_of_error e) →
-    SaysOfError e told text → TellsOfWriting flags told text
-stopped flags (error.Memory e) told text is says =
-    said (TellsOfWriting flags) status.OutOfMemory told text (says.1 refl) refl says.0
-stopped flags (error.FmtError e) told text is says =
-    said (TellsOfWriting flags) status.TooLong told text is refl says.0
-stopped flags (error.Custom e) told text is says =
-    said (TellsOfWriting flags) status.Refused told text is refl says.0
-stopped flags (error.Unimplemented e) told text is says =
-    said (TellsOfWriting flags) status.Refused told text is refl says.0
-stopped flags (error.UnsupportedRelationalFunction e) told text is says =
-    said (TellsOfWriting flags) status.Refused told text is refl says.0
-stopped flags (error.Unsupported kind value) told text is says =
-    said (TellsOfWriting flags) status.Refused told text is refl says.0
+stopped : (json : List ℕ) (flags : ℕ) (e : Error) (told : Status) (text : List ℕ) → IsStopped flags (status_of_error e) →
+    SaysOfError e told text → TellsOfWriting json flags told text
+stopped json flags (error.Memory e) told text is says =
+    said (TellsOfWriting json flags) status.OutOfMemory told text (says.1 refl) refl says.0
+stopped json flags (error.FmtError e) told text is says =
+    said (TellsOfWriting json flags) status.TooLong told text is refl says.0
+stopped json flags (error.Custom e) told text is says =
+    said (TellsOfWriting json flags) status.Refused told text is refl says.0
+stopped json flags (error.Unimplemented e) told text is says =
+    said (TellsOfWriting json flags) status.Refused told text is refl says.0
+stopped json flags (error.UnsupportedRelationalFunction e) told text is says =
+    said (TellsOfWriting json flags) status.Refused told text is refl says.0
+stopped json flags (error.Unsupported kind value) told text is says =
+    said (TellsOfWriting json flags) status.Refused told text is refl says.0
 
-pub wrote : (flags : ℕ) (writer : WriterFlags) (m : Module) (read info : ModuleInfo)
+pub wrote : (json : List ℕ) (flags : ℕ) (writer : WriterFlags) (m : Module) (read info : ModuleInfo)
     (answer : Result Unit Error) (content : List ℕ) (failures : ℕ) (told : Status) (text : List ℕ) →
     flags ≤ 1 → IsTrue (is_accepted m read) → IsCounted m read info →
     annotates_types writer ≡ annotates flags →
     FaithfulWriting (annotates_types writer) m info answer [] content 0 failures →
     AppendsItsText m info writer answer [] content →
-    SaysOfWritten answer content told text → TellsOfWriting flags told text
-wrote flags writer m read info (Ok tt) content failures told text known accepted counted explicit faithful
+    SaysOfWritten answer content told text → TellsOfWriting json flags told text
+wrote json flags writer m read info (Ok tt) content failures told text known accepted counted explicit faithful
     appends (inl is) =
     let moved : FaithfulWriting (annotates flags) m info (Ok tt) [] text 0 0 =
     subst (λ now. FaithfulWriting (annotates flags) m info (Ok tt) [] now 0 0) (sym is.1)
@@ -105,11 +105,11 @@ wrote flags writer m read info (Ok tt) content failures told text known accepted
     is.1 ∙ (appends ∙ ap (λ e. layout (written_program m info e)) explicit) in
     let done : IsWritten flags text =
     record { flags_are_known = known; m = m; read = read; info = info; accepted = accepted; counted = counted; faithful = moved; text_is = text_is } in
-    subst (λ s. TellsOfWriting flags s text) (sym is.0) done
-wrote flags writer m read info (Ok tt) content failures told text known accepted counted explicit faithful
-    appends (inr less) = lacking (TellsOfWriting flags) told text refl less
-wrote flags writer m read info (Err e) content failures told text known accepted counted explicit faithful
+    subst (λ s. TellsOfWriting json flags s text) (sym is.0) done
+wrote json flags writer m read info (Ok tt) content failures told text known accepted counted explicit faithful
+    appends (inr less) = lacking (TellsOfWriting json flags) told text refl less
+wrote json flags writer m read info (Err e) content failures told text known accepted counted explicit faithful
     appends says =
-    stopped flags e told text
+    stopped json flags e told text
     (record { flags_are_known = known; m = m; read = read; info = info; error = e; beginning = content; failures = failures; accepted = accepted; counted = counted; faithful = subst (λ x. FaithfulWriting x m info (Err e) [] content 0 failures) explicit faithful; told_is = refl })
     says

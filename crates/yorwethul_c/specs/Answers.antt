@@ -1,6 +1,7 @@
 -- What a call from C answers: a status, and a text in the caller's memory.
 --
--- Throughout, m is a module, read is what is known of it, and info is the same with the uses counted.
+-- Throughout, m is a module, read is what is known of it, info is the same with the uses counted, and
+-- json is the bytes that a call was given.
 use Rattle.std.specs.Prelude.{◌≡◌, ◌≤◌, ⊤, ℕ, ◌==◌, ◌++◌, ◌⊎◌, Bool, IsTrue, List, [], length}
 use Rattle.std.specs.Prelude.{drop, if◌then◌else◌, nat_le, Result, Ok, Err}
 use Rattle.naga_ir.specs.declared.module.Module.{Module}
@@ -14,6 +15,8 @@ use Rattle.naga_wgsl_fns.specs.declared.error.Error.{Error}
 use Rattle.naga_wgsl_fns.specs.declared.error.Error.TheVariants as error
 use Rattle.naga_wgsl_out.specs.Checked.{IsCounted}
 use Rattle.naga_wgsl_out.specs.Headline.{FaithfulWriting}
+use Rattle.yorwethul_c.specs.Nesting.{nest_past}
+use Rattle.yorwethul_c.specs.declared.nesting.Within.TheVariants as within
 use Rattle.yorwethul_c.specs.declared.status.Status.{Status}
 use Rattle.yorwethul_c.specs.declared.status.Status.TheVariants as status
 
@@ -35,8 +38,8 @@ number_of status.OutOfMemory = 5
 number_of status.TooDeep = 6
 number_of status.TooLong = 7
 
--- A call gave this number, told how many bytes its text needs, and left the memory after it so. Tells
--- is what is so where this status is told with this text.
+-- A call gave this number, told how many bytes its text needs, and left the memory after it so.
+-- Tells is what is so where this status is told with this text.
 pub record HandsOut (Tells : Status → List ℕ → Type 0) (number needed : ℕ)
     (before after : List ℕ) : Type 0 where
   pub told : Status
@@ -69,8 +72,8 @@ pub record IsWritten (flags : ℕ) (text : List ℕ) : Type 0 where
   pub faithful : FaithfulWriting (annotates flags) m info (Ok tt) [] text 0 0
   pub text_is : text ≡ layout (written_program m info (annotates flags))
 
--- The writer stopped at an accepted module, by an error of this status. So a refusal is for a listed
--- construct that stands in the module.
+-- The writer stopped at an accepted module, by an error of this status. So a refusal is for a
+-- listed construct that stands in the module.
 pub record IsStopped (flags : ℕ) (told : Status) : Type 0 where
   pub flags_are_known : flags ≤ 1
   pub m : Module
@@ -97,34 +100,35 @@ pub record IsNotAccepted : Type 0 where
   pub fault : Unaccepted
   pub fails : Fails m read fault
 
--- of what is read: no module stands in the bytes, or memory was refused, and then there is no text
-abbrev pub TellsOfReading : Status → (text : List ℕ) → Type 0
-TellsOfReading status.NoModule text = ⊤
-TellsOfReading status.TooDeep text = ⊤
-TellsOfReading status.OutOfMemory text = text ≡ []
-TellsOfReading _ text = ⊥
+-- of what is read: no module stands in the bytes, more than 127 lists and objects of them are open
+-- at once, or memory was refused, and then there is no text
+abbrev pub TellsOfReading : (json : List ℕ) → Status → (text : List ℕ) → Type 0
+TellsOfReading json status.NoModule text = ⊤
+TellsOfReading json status.TooDeep text = IsTrue (nest_past 127 within.Outside 0 json)
+TellsOfReading json status.OutOfMemory text = text ≡ []
+TellsOfReading json _ text = ⊥
 
 -- of a module that is to be written
-abbrev pub TellsOfWriting : (flags : ℕ) → Status → (text : List ℕ) → Type 0
-TellsOfWriting flags status.Done text = IsWritten flags text
-TellsOfWriting flags status.Refused text = IsStopped flags status.Refused
-TellsOfWriting flags status.TooLong text = IsStopped flags status.TooLong
-TellsOfWriting flags status.NotAccepted text = IsNotAccepted
-TellsOfWriting flags status.UnknownFlag text = 2 ≤ flags
-TellsOfWriting flags told text = TellsOfReading told text
+abbrev pub TellsOfWriting : (json : List ℕ) (flags : ℕ) → Status → (text : List ℕ) → Type 0
+TellsOfWriting json flags status.Done text = IsWritten flags text
+TellsOfWriting json flags status.Refused text = IsStopped flags status.Refused
+TellsOfWriting json flags status.TooLong text = IsStopped flags status.TooLong
+TellsOfWriting json flags status.NotAccepted text = IsNotAccepted
+TellsOfWriting json flags status.UnknownFlag text = 2 ≤ flags
+TellsOfWriting json flags told text = TellsOfReading json told text
 
 -- of one that is only asked whether it is accepted: then there is no text
-abbrev pub TellsOfChecking : Status → (text : List ℕ) → Type 0
-TellsOfChecking status.Done text = IsAccepted × (text ≡ [])
-TellsOfChecking status.NotAccepted text = IsNotAccepted
-TellsOfChecking told text = TellsOfReading told text
+abbrev pub TellsOfChecking : (json : List ℕ) → Status → (text : List ℕ) → Type 0
+TellsOfChecking json status.Done text = IsAccepted × (text ≡ [])
+TellsOfChecking json status.NotAccepted text = IsNotAccepted
+TellsOfChecking json told text = TellsOfReading json told text
 
 -- of one whose layouts are asked for: it is refused where its items get no names
-abbrev pub TellsOfLayouts : Status → (text : List ℕ) → Type 0
-TellsOfLayouts status.Done text = IsAccepted
-TellsOfLayouts status.Refused text = IsAccepted
-TellsOfLayouts status.NotAccepted text = IsNotAccepted
-TellsOfLayouts told text = TellsOfReading told text
+abbrev pub TellsOfLayouts : (json : List ℕ) → Status → (text : List ℕ) → Type 0
+TellsOfLayouts json status.Done text = IsAccepted
+TellsOfLayouts json status.Refused text = IsAccepted
+TellsOfLayouts json status.NotAccepted text = IsNotAccepted
+TellsOfLayouts json told text = TellsOfReading json told text
 
 -- ---- steps on the way
 
@@ -143,7 +147,8 @@ SaysOfError error told text =
     × (status_of_error error ≡ status.OutOfMemory → text ≡ [])
 
 -- what is told of the writer's answer, and of what its sink holds
-abbrev pub SaysOfWritten : Result Unit Error → (content : List ℕ) → Status → (text : List ℕ) → Type 0
+abbrev pub SaysOfWritten : Result Unit Error → (content : List ℕ) → Status → (text : List ℕ) →
+    Type 0
 SaysOfWritten (Ok _) content told text =
     ((told ≡ status.Done) × (text ≡ content)) ⊎ LacksMemory told text
 SaysOfWritten (Err error) content told text = SaysOfError error told text

@@ -1,6 +1,6 @@
 //! What becomes of a module, as a status and a text.
 
-ghost use Rattle.std.specs.Prelude.{◌≡◌, ◌≤◌, IfErr, IfOk, string_bytes};
+ghost use Rattle.std.specs.Prelude.{◌≡◌, ◌≤◌, ℕ, IfErr, IfOk, List, string_bytes};
 ghost use Rattle.yorwethul_c.specs.Answers.{LacksMemory, Says, SaysOfError, SaysOfWritten};
 ghost use Rattle.yorwethul_c.specs.Answers.{TellsOfChecking, TellsOfLayouts, TellsOfReading};
 ghost use Rattle.yorwethul_c.specs.Answers.{TellsOfWriting};
@@ -33,7 +33,7 @@ pub struct Answer {
 
 /// Writes the module that the JSON holds with what is known of it.
 pub fn written(alloc: Global, json: &[u8], flags: u32) -> Answer
-    ensures { TellsOfWriting flags result.status (string_bytes result.text) }
+    ensures { TellsOfWriting json.now flags result.status (string_bytes result.text) }
 {
     if flags > 1 {
         return told(alloc, Status::UnknownFlag, "a bit is set that no flag has");
@@ -46,7 +46,7 @@ pub fn written(alloc: Global, json: &[u8], flags: u32) -> Answer
 
 /// Says whether the module that the JSON holds is accepted.
 pub fn checked(alloc: Global, json: &[u8]) -> Answer
-    ensures { TellsOfChecking result.status (string_bytes result.text) }
+    ensures { TellsOfChecking json.now result.status (string_bytes result.text) }
 {
     match known_in(alloc, json) {
         Ok(known) => checked_known(alloc, &known),
@@ -56,7 +56,7 @@ pub fn checked(alloc: Global, json: &[u8]) -> Answer
 
 /// Tells where the members of the structs stand of the module that the JSON holds.
 pub fn laid_out(alloc: Global, json: &[u8]) -> Answer
-    ensures { TellsOfLayouts result.status (string_bytes result.text) }
+    ensures { TellsOfLayouts json.now result.status (string_bytes result.text) }
 {
     match known_in(alloc, json) {
         Ok(known) => laid_out_known(alloc, &known),
@@ -66,7 +66,7 @@ pub fn laid_out(alloc: Global, json: &[u8]) -> Answer
 
 /// Reads the module, or tells why there is none.
 fn known_in(alloc: Global, json: &[u8]) -> Result<Known, Answer>
-    ensures { IfErr result (λ a. TellsOfReading a.status (string_bytes a.text)) }
+    ensures { IfErr result (λ a. TellsOfReading json.now a.status (string_bytes a.text)) }
 {
     let Ok(text) = std::str::from_utf8(json) else {
         return Err(told(alloc, Status::NoModule, "not UTF-8"));
@@ -79,7 +79,7 @@ fn known_in(alloc: Global, json: &[u8]) -> Result<Known, Answer>
 
 /// Tells why no module was read.
 fn unread(alloc: Global, json: &[u8], error: ReadError) -> Answer
-    ensures { TellsOfReading result.status (string_bytes result.text) }
+    ensures { TellsOfReading json.now result.status (string_bytes result.text) }
 {
     match error {
         ReadError::OutOfMemory => out_of_memory(alloc),
@@ -96,7 +96,7 @@ fn unread(alloc: Global, json: &[u8], error: ReadError) -> Answer
 
 fn written_known(alloc: Global, known: &mut Known, flags: u32) -> Answer
     requires known { flags ≤ 1 }
-    ensures { TellsOfWriting flags result.status (string_bytes result.text) }
+    ensures { (json : List ℕ) → TellsOfWriting json flags result.status (string_bytes result.text) }
 {
     let sink = Limited::new(alloc, LONGEST_TEXT);
     match write(
@@ -133,7 +133,7 @@ fn told_error(alloc: Global, error: Error) -> Answer
 }
 
 fn checked_known(alloc: Global, known: &Known) -> Answer
-    ensures { TellsOfChecking result.status (string_bytes result.text) }
+    ensures { (json : List ℕ) → TellsOfChecking json result.status (string_bytes result.text) }
 {
     match unaccepted(&known.module, &known.info) {
         Some(fault) => not_accepted(alloc, fault),
@@ -145,7 +145,7 @@ fn checked_known(alloc: Global, known: &Known) -> Answer
 }
 
 fn laid_out_known(alloc: Global, known: &Known) -> Answer
-    ensures { TellsOfLayouts result.status (string_bytes result.text) }
+    ensures { (json : List ℕ) → TellsOfLayouts json result.status (string_bytes result.text) }
 {
     match unaccepted(&known.module, &known.info) {
         Some(fault) => not_accepted(alloc, fault),

@@ -1,5 +1,5 @@
-//! What C calls, as `yorwethul.h` declares it: each call tells a status, and puts a text into memory of
-//! the caller's, as `snprintf` does.
+//! What C calls, as `yorwethul.h` declares it: each call tells a status, and puts a text into memory
+//! of the caller's, as `snprintf` does.
 #![tactic(auto)]
 
 mod answers;
@@ -27,7 +27,7 @@ pub extern "C" fn yorwethul_write(
     out: &mut [u8],
     needed: &mut usize,
 ) -> u32
-    ensures { HandsOut (TellsOfWriting flags) result needed.new out.old out.new }
+    ensures { HandsOut (TellsOfWriting json.now flags) result needed.new out.old out.new }
 {
     hand_out(written(alloc, json, flags), out, needed)
 }
@@ -40,7 +40,7 @@ pub extern "C" fn yorwethul_check(
     out: &mut [u8],
     needed: &mut usize,
 ) -> u32
-    ensures { HandsOut TellsOfChecking result needed.new out.old out.new }
+    ensures { HandsOut (TellsOfChecking json.now) result needed.new out.old out.new }
 {
     hand_out(checked(alloc, json), out, needed)
 }
@@ -53,13 +53,13 @@ pub extern "C" fn yorwethul_layout(
     out: &mut [u8],
     needed: &mut usize,
 ) -> u32
-    ensures { HandsOut TellsOfLayouts result needed.new out.old out.new }
+    ensures { HandsOut (TellsOfLayouts json.now) result needed.new out.old out.new }
 {
     hand_out(laid_out(alloc, json), out, needed)
 }
 
-/// The version of the library: a million times the first number, a thousand times the second, and the
-/// third.
+/// The version of the library: a million times the first number, a thousand times the second, and
+/// the third.
 #[unsafe(no_mangle)]
 pub extern "C" fn yorwethul_version() -> u32
     ensures { result ≡ 1000 }

@@ -16,7 +16,8 @@ const DOUBLE: &str = r#"{
         "types": [{"inner": {"Scalar": {"kind": "Sint", "width": 4}}}],
         "functions": [{
             "name": "double", "arguments": [{"name": "x", "ty": 0}], "result": {"ty": 0},
-            "expressions": [{"FunctionArgument": 0}, {"Binary": {"op": "Add", "left": 0, "right": 0}}],
+            "expressions": [
+                {"FunctionArgument": 0}, {"Binary": {"op": "Add", "left": 0, "right": 0}}],
             "body": [{"Emit": {"start": 1, "end": 2}}, {"Return": {"value": 1}}]
         }]
     },
@@ -36,7 +37,8 @@ const ITS_OWN_OPERAND: &str = r#"{
         "types": [{"inner": {"Scalar": {"kind": "Sint", "width": 4}}}],
         "functions": [{
             "name": "double", "arguments": [{"name": "x", "ty": 0}], "result": {"ty": 0},
-            "expressions": [{"FunctionArgument": 0}, {"Binary": {"op": "Add", "left": 1, "right": 0}}],
+            "expressions": [
+                {"FunctionArgument": 0}, {"Binary": {"op": "Add", "left": 1, "right": 0}}],
             "body": [{"Emit": {"start": 1, "end": 2}}, {"Return": {"value": 1}}]
         }]
     },
