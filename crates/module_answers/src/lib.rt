@@ -1,5 +1,5 @@
-//! What is told of a module by those that read it from JSON: its text, the place of a fault, and where
-//! the members of its structs stand. The program and the library for C give the same answers.
+//! What is told of a module by those that read it from JSON: its text, the place of a fault, and
+//! where the members of its structs stand. Programs and libraries can share it.
 #![tactic(auto)]
 
 mod layouts;
