@@ -1,6 +1,6 @@
 -- What a call tells, from what its steps say.
-use Rattle.std.proofs.Common.{◌≡◌, ◌≤◌, ◌∙◌, ℕ, Bool, List, [], Err, Ok, Result, absurd, ap, inl, inr, refl, subst, sym}
-use Rattle.std.specs.Prelude.{◌⊎◌, IsTrue}
+use Rattle.std.proofs.Common.{◌≡◌, ◌≤◌, ◌∙◌, ℕ, Bool, List, [], Err, None, Ok, Option, Result, Some, absurd, ap, inl, inr, is_none, refl, subst, sym}
+use Rattle.std.specs.Prelude.{◌⊎◌, IfErr, IfSome, IsTrue}
 use Rattle.naga_ir.specs.declared.module.Module.{Module}
 use Rattle.naga_info.specs.declared.info.ModuleInfo.{ModuleInfo}
 use Rattle.module_meaning.specs.Accepted.{is_accepted}
@@ -13,7 +13,9 @@ use Rattle.naga_wgsl_fns.specs.declared.error.Error.TheVariants as error
 use Rattle.naga_wgsl_out.specs.Checked.{IsCounted}
 use Rattle.naga_wgsl_out.specs.Headline.{FaithfulWriting}
 use Rattle.naga_wgsl_out.specs.Writing.{AppendsItsText}
-use Rattle.yorwethul_c.specs.Answers.{IsStopped, IsWritten, LacksMemory, Says, SaysOfError, SaysOfWritten}
+use Rattle.naga_acceptance.specs.Faults.{Fails}
+use Rattle.naga_acceptance.specs.declared.faults.Unaccepted.{Unaccepted}
+use Rattle.yorwethul_c.specs.Answers.{IsAccepted, IsNotAccepted, IsStopped, IsWritten, LacksMemory, Says, SaysOfError, SaysOfWritten}
 use Rattle.yorwethul_c.specs.Answers.{TellsOfChecking, TellsOfLayouts, TellsOfReading, TellsOfWriting}
 use Rattle.yorwethul_c.specs.Answers.{annotates, status_of_error}
 use Rattle.yorwethul_c.specs.declared.status.Status.{Status}
@@ -62,6 +64,23 @@ unread_laid_out json status.Refused text tells = absurd tells
 unread_laid_out json status.NotAccepted text tells = absurd tells
 unread_laid_out json status.UnknownFlag text tells = absurd tells
 unread_laid_out json status.TooLong text tells = absurd tells
+
+-- ---- what was asked of the module
+
+pub faulty : (m : Module) (read : ModuleInfo) (found : Option Unaccepted) (fault : Unaccepted) →
+    found ≡ Some fault → IfSome found (Fails m read) → IsNotAccepted
+faulty m read found fault is fails =
+    record { m = m; read = read; fault = fault; fails = subst (λ r. IfSome r (Fails m read)) is fails }
+
+pub faulty_writing : {A : Type 0} (m : Module) (read : ModuleInfo) (given : Result A Unaccepted) (fault : Unaccepted) →
+    given ≡ Err fault → IfErr given (Fails m read) → IsNotAccepted
+faulty_writing m read given fault is fails =
+    record { m = m; read = read; fault = fault; fails = subst (λ r. IfErr r (Fails m read)) is fails }
+
+pub accepted_by : (m : Module) (read : ModuleInfo) (found : Option Unaccepted) →
+    found ≡ None → is_none found ≡ is_accepted m read → IsAccepted
+accepted_by m read found is accepts =
+    record { m = m; read = read; accepted = sym accepts ∙ ap is_none is }
 
 -- ---- what the writer did
 
