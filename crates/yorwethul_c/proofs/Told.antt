@@ -1,5 +1,5 @@
 -- What a call tells, from what its steps say.
-use Rattle.std.proofs.Common.{◌≡◌, ◌≤◌, ◌∙◌, ℕ, Bool, List, [], Err, None, Ok, Option, Result, Some, absurd, ap, inl, inr, is_none, refl, subst, sym}
+use Rattle.std.proofs.Common.{◌≡◌, ◌≤◌, ◌∙◌, ℕ, Bool, List, [], Err, None, Ok, Option, Result, Some, ap, inl, inr, is_none, refl, subst, sym}
 use Rattle.std.specs.Prelude.{◌⊎◌, IfErr, IfSome, IsTrue}
 use Rattle.naga_ir.specs.declared.module.Module.{Module}
 use Rattle.naga_info.specs.declared.info.ModuleInfo.{ModuleInfo}
