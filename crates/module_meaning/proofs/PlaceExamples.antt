@@ -1,7 +1,7 @@
 -- Examples of what the places of a module are made of, computed, where no expression leads to any.
 --
 -- Throughout, a module has these types and this function, and all else that it has is any.
-use Rattle.std.proofs.Common.{◌≡◌, ℕ, pos, true, List, [], ◌∷◌, None, refl, arith}
+use Rattle.std.proofs.Common.{◌≡◌, ℕ, pos, true, List, [], ◌∷◌, Some, None, refl, arith}
 use Rattle.std.proofs.Common.{map, codes, Vec, Global}
 use Rattle.std.specs.Fmt.{digits}
 use Rattle.naga_ir.specs.declared.module.Function as ir_function
@@ -24,7 +24,7 @@ use Rattle.module_meaning.specs.ModuleShapes.{module_shape}
 use Rattle.module_meaning.specs.PlaceParts.{place_parts, parts_behind, member_word}
 use Rattle.module_meaning.specs.Types.{local_pointer}
 use Rattle.shader_runs.specs.Value.{Parts, NoParts, Elements, Components, Members}
-use Rattle.shader_runs.specs.Value.{Place, Rooted, LocalRoot, Part, At, Pointer, has_types}
+use Rattle.shader_runs.specs.Value.{Place, Rooted, LocalRoot, Part, At, Pointer, has_types, ElementAt, step_to}
 use Rattle.module_meaning.proofs.ModuleShapeExamples.{one}
 
 -- a vector of no items
@@ -62,6 +62,8 @@ module _ (other : ir_module.Module) (info : ModuleInfo) (members : Vec StructMem
         inner.Array 0 (size.Constant (record { value = 4; ok = omega arith })) 4 ∷
         inner.Pointer 0 space.Function ∷ inner.Vector vector.Tri single ∷
         inner.Matrix vector.Bi vector.Quad single ∷
+        inner.Array 0 size.Dynamic 4 ∷
+        inner.ValuePointer (Some vector.Bi) (record { kind = kind.Uint; width = 4 }) space.Function ∷
         inner.Struct (two_of members (record member { ty = 0 }) (record member { ty = 3 })) 32 ∷
         [])
 
@@ -103,16 +105,35 @@ module _ (other : ir_module.Module) (info : ModuleInfo) (members : Vec StructMem
     abbrev parts_of : List ℕ → Parts
     parts_of whole = place_parts m known whole
 
-    elements : parts_of (codes "ptr<function, array<i32, 4>>") ≡ Elements (codes "ptr<function, i32>")
+    elements : parts_of (codes "ptr<function, array<i32, 4>>") ≡ Elements (Some 4) (codes "ptr<function, i32>")
     unfolding type_segments digits
     elements = refl
+
+    -- it has an element 3, and none after it
+    last_element : step_to (parts_of (codes "ptr<function, array<i32, 4>>")) (ElementAt 3) ≡ Some (At (pos 3))
+    unfolding type_segments digits
+    last_element = refl
+
+    past_end : step_to (parts_of (codes "ptr<function, array<i32, 4>>")) (ElementAt 4) ≡ None
+    unfolding type_segments digits
+    past_end = refl
+
+    -- of an array of any number it is not known
+    unsized : parts_of (codes "ptr<function, array<i32>>") ≡ Elements None (codes "ptr<function, i32>")
+    unfolding type_segments digits
+    unsized = refl
+
+    -- a pointer that is a type of the module leads to parts, though the module lacks the type of the whole
+    pointed : parts_of (codes "ptr<function, vec2<u32>>") ≡ Components 2 (codes "ptr<function, u32>")
+    unfolding type_segments digits
+    pointed = refl
 
     components : parts_of (codes "ptr<function, vec3<f32>>") ≡ Components 3 (codes "ptr<function, f32>")
     unfolding type_segments
     components = refl
 
     -- a matrix has columns, and a column components, also where the module has no type for it
-    columns : parts_of (codes "ptr<function, mat2x4<f32>>") ≡ Elements (codes "ptr<function, vec4<f32>>")
+    columns : parts_of (codes "ptr<function, mat2x4<f32>>") ≡ Elements (Some 2) (codes "ptr<function, vec4<f32>>")
     unfolding type_segments
     columns = refl
 
@@ -121,8 +142,8 @@ module _ (other : ir_module.Module) (info : ModuleInfo) (members : Vec StructMem
     column = refl
 
     -- a struct has members, by their words alone
-    struct : (whole : List ℕ) → parts_behind m known whole (inner.Pointer 5 space.Function) ≡
-        Members ((member_word m 5 0, codes "ptr<function, i32>") ∷ (member_word m 5 1, codes "ptr<function, vec3<f32>>") ∷ [])
+    struct : (whole : List ℕ) → parts_behind m known whole (inner.Pointer 7 space.Function) ≡
+        Members ((member_word m 7 0, codes "ptr<function, i32>") ∷ (member_word m 7 1, codes "ptr<function, vec3<f32>>") ∷ [])
     unfolding type_segments handle_key
     struct whole = refl
 

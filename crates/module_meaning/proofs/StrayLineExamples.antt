@@ -1,5 +1,5 @@
--- A line that calls a word which means nothing: a program that has one runs as no module does that
--- goes on there.
+-- A line that calls a word which means nothing, and one that calls an operator: a program that has one
+-- runs as no module does that goes on there.
 --
 -- Throughout, a module has one function, which does nothing, and its text has such a line in it.
 use Rattle.std.proofs.Common.{◌≡◌, Bool, true, false, List, [], ◌∷◌, Option, None, refl}
@@ -17,8 +17,8 @@ use Rattle.shader_runs.specs.Constants.{follow_module, run_module}
 use Rattle.shader_runs.specs.Premises.{IsTyped, SettingsFit}
 use Rattle.shader_runs.specs.Program as shapes
 use Rattle.shader_runs.specs.Text.{before, last, no_more, Perform}
-use Rattle.shader_runs.specs.TextRun.{follow_all, MeansNothing, NamesFunction, no_names}
-use Rattle.shader_runs.specs.TextRun.{respond_by_use, word_use, Words}
+use Rattle.shader_runs.specs.TextRun.{follow_all, is_operation, MeansNothing, NamesFunction, no_names}
+use Rattle.shader_runs.specs.TextRun.{Operates, respond_by_use, word_use, Words, WordUse}
 use Rattle.shader_runs.proofs.Update.{same_bytes_self}
 use Rattle.text_meaning.specs.Abstraction.{program_read}
 use Rattle.text_meaning.specs.Vocabulary.{vocabulary_read}
@@ -88,8 +88,13 @@ module _ (other : ir_module.Module) (known : ModuleInfo) (other_function : ir_fu
             record { name = w; parameters = []; result = NoResult; locals = []; body = body } ∷ [];
       }
 
+  -- `frobnicate();`
   abbrev stray : Statements
   stray = Then (CallStatement (Named (codes "frobnicate")) NoArguments) NoStatements
+
+  -- `sampler();`, which is an operator by the word of a type
+  abbrev operating : Statements
+  operating = Then (CallStatement (Named (codes "sampler")) NoArguments) NoStatements
 
   abbrev entered : List Event
   entered = Entry 0 [] [] ∷ []
@@ -102,38 +107,50 @@ module _ (other : ir_module.Module) (known : ModuleInfo) (other_function : ir_fu
       follow_module (program_read (text_of w body)) shape.parts settings world meaning
       (vocabulary_read (text_of w body)) 0 w [] []
 
-  -- whatever the name is, also that of the function itself
-  abbrev behind_entry : Bool → ReachedOrHalted (Option Value)
-  behind_entry named =
+  -- whatever the name is, also that of the function itself; where the word is none, it is used so
+  abbrev behind_entry : Bytes → WordUse → Bool → ReachedOrHalted (Option Value)
+  behind_entry called use_of named =
+      let used = cond (named || false) NamesFunction use_of in
       let l : Words = record {
         parts = shape.parts;
         world = world;
         meaning = meaning;
-        respond = λ word vs t. respond_by_use (cond (named || false) NamesFunction MeansNothing) world meaning word vs t;
+        operates = λ word. is_operation used;
+        respond = λ word vs t. respond_by_use used world meaning word vs t;
       } in
-      answer (follow_all l 0 (before (Perform (codes "frobnicate") no_more) last) no_names entered)
+      answer (follow_all l 0 (before (Perform called no_more) last) no_names entered)
 
-  stuck_behind : (named : Bool) → behind_entry named ≡ Halts Stuck entered
-  stuck_behind true = refl
-  stuck_behind false = refl
+  stuck_behind : (called : Bytes) (named : Bool) → behind_entry called MeansNothing named ≡ Halts Stuck entered
+  stuck_behind called true = refl
+  stuck_behind called false = refl
+
+  stuck_operating : (called : Bytes) (named : Bool) → behind_entry called Operates named ≡ Halts Stuck entered
+  stuck_operating called true = refl
+  stuck_operating called false = refl
 
   -- what a word is that names no function in front of it
-  abbrev uncalled : Bytes → ReachedOrHalted (Option Value)
-  uncalled w =
-      let text = text_of w stray in
+  abbrev uncalled : Bytes → Statements → ReachedOrHalted (Option Value)
+  uncalled w body =
+      let text = text_of w body in
       respond_by_use (word_use (program_read text).functions (vocabulary_read text) w) world meaning
       w [] []
 
   text_is_stuck : (w : Bytes) → run_of w stray ≡ Halts Stuck entered
   unfolding is_request is_built_in
   text_is_stuck w =
-      ap (λ b. cond b (behind_entry (same_bytes (codes "frobnicate") w)) (uncalled w)) (same_bytes_self w)
-      ∙ stuck_behind (same_bytes (codes "frobnicate") w)
+      ap (λ b. cond b (behind_entry (codes "frobnicate") MeansNothing (same_bytes (codes "frobnicate") w)) (uncalled w stray)) (same_bytes_self w)
+      ∙ stuck_behind (codes "frobnicate") (same_bytes (codes "frobnicate") w)
+
+  operating_is_stuck : (w : Bytes) → run_of w operating ≡ Halts Stuck entered
+  unfolding is_request is_built_in
+  operating_is_stuck w =
+      ap (λ b. cond b (behind_entry (codes "sampler") Operates (same_bytes (codes "sampler") w)) (uncalled w operating)) (same_bytes_self w)
+      ∙ stuck_operating (codes "sampler") (same_bytes (codes "sampler") w)
 
   -- without the line it goes on as the module does
   text_goes_on : (w : Bytes) →
       run_of w NoStatements ≡ run_module shape settings world meaning 0 0 [] []
-  text_goes_on w = ap (λ b. cond b (Gives None entered) (uncalled w)) (same_bytes_self w)
+  text_goes_on w = ap (λ b. cond b (Gives None entered) (uncalled w NoStatements)) (same_bytes_self w)
 
   settings_fit : SettingsFit shape settings
   settings_fit = record { overrides = refl; globals = refl }
@@ -146,12 +163,21 @@ module _ (other : ir_module.Module) (known : ModuleInfo) (other_function : ir_fu
         initialisers = λ i e at. absurd cc;
       }
 
-  -- so the module does not run as a text with the line, under the name of its function
-  stray_is_refused : RunsAs m info (text_of (function_name m (module_names m) 0) stray) → ⊥
-  stray_is_refused runs =
+  -- the name of its function
+  abbrev own_name : Bytes
+  own_name = function_name m (module_names m) 0
+
+  -- so the module does not run as a text with such a line, under this name
+  stuck_is_refused : (body : Statements) → run_of own_name body ≡ Halts Stuck entered → RunsAs m info (text_of own_name body) → ⊥
+  stuck_is_refused body stuck runs =
       let same =
       runs 0 settings settings_fit meaning typed (function_shape m info f []) refl [] refl world 0 []
       tt in
-      let apart : Halts Stuck entered ≡ Gives None entered =
-      sym (text_is_stuck (function_name m (module_names m) 0)) ∙ same in
+      let apart : Halts Stuck entered ≡ Gives None entered = sym stuck ∙ same in
       absurd cc
+
+  stray_is_refused : RunsAs m info (text_of own_name stray) → ⊥
+  stray_is_refused = stuck_is_refused stray (text_is_stuck own_name)
+
+  operating_is_refused : RunsAs m info (text_of own_name operating) → ⊥
+  operating_is_refused = stuck_is_refused operating (operating_is_stuck own_name)

@@ -43,9 +43,9 @@ use Rattle.module_meaning.specs.TypeParts.{points_to_atomic}
 pub record ExpressionContext : Type 0 where
   -- the module's types
   pub types : List Type_
-  -- how a type is spelled by which an operator is called, where a text may spell it
+  -- how a type is spelled by which an operator is called. A struct that no text declares is not
   pub spelled : TypeResolution → Option (List ℕ)
-  -- numbers that tell one that it may not
+  -- numbers that tell a type that is not spelled
   pub numbers : TypeResolution → List ℕ
   -- what is known of the type of the expression with a handle
   pub known : ℕ → Option TypeResolution

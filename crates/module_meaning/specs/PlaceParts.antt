@@ -21,7 +21,7 @@ use Rattle.naga_ir.specs.declared.types.TypeInner.TheVariants as inner
 use Rattle.naga_info.specs.Resolution.{inner_of}
 use Rattle.naga_info.specs.declared.info.ModuleInfo.{ModuleInfo}
 use Rattle.naga_info.specs.declared.info.TypeResolution.{TypeResolution}
-use Rattle.naga_info.specs.declared.info.TypeResolution.TheVariants.{Value}
+use Rattle.naga_info.specs.declared.info.TypeResolution.TheVariants.{Handle, Value}
 use Rattle.naga_names.specs.declared.key.NameKey.TheVariants as key
 use Rattle.module_meaning.specs.AgreeingOperators.{Group, groups_of}
 use Rattle.module_meaning.specs.AlikeTypes.{is_spelled}
@@ -29,7 +29,7 @@ use Rattle.module_meaning.specs.ExpressionContexts.{declared}
 use Rattle.module_meaning.specs.ExpressionShapes.{Declared, part_selector}
 use Rattle.module_meaning.specs.Names.{module_names, name_in}
 use Rattle.module_meaning.specs.TypeIdentity.{vector_number}
-use Rattle.module_meaning.specs.TypeParts.{inner_at}
+use Rattle.module_meaning.specs.TypeParts.{element_count, inner_at}
 use Rattle.module_meaning.specs.Types.{type_of_values, word_of_values}
 use Rattle.wgsl_words.specs.Words.{load_bit, store_bit, atomic_bit}
 use Rattle.shader_runs.specs.Value.{Parts, NoParts, Elements, Components, Members, PartTypes}
@@ -63,10 +63,16 @@ pointers_to at p = Value (inner.Pointer p.0 at) ∷ column_pointers at p.1.inner
 abbrev pub pointers_in : Module → AddressSpace → List TypeResolution
 pointers_in m at = flat_map (pointers_to at) (enumerate_from 0 m.types)
 
--- what is known of the module's expressions, and the pointers to each of its types in each space
+-- the module's types, of which some are pointers
+abbrev pub own_types : Module → List TypeResolution
+own_types m = map (λ p. Handle p.0) (enumerate_from 0 m.types)
+
+-- what is known of the module's expressions, its types,
+-- and the pointers to each of its types in each space
 abbrev pub pointer_types : Module → ModuleInfo → List TypeResolution
 pointer_types m info =
-    flat_map (λ g. g.known) (groups_of m info) ++ flat_map (pointers_in m) place_spaces
+    flat_map (λ g. g.known) (groups_of m info) ++
+    (own_types m ++ flat_map (pointers_in m) place_spaces)
 
 -- the first of these that is spelled so
 abbrev pub pointer_spelled : Module → ModuleInfo → (whole : List ℕ) → Option TypeResolution
@@ -135,11 +141,12 @@ abbrev pub parts_at :
 parts_at m info whole at base (inner.Vector n s) =
     Components (vector_number n) (word_of_values m (Value (inner.ValuePointer None s at)))
 parts_at m info whole at base (inner.Matrix columns rows s) =
-    Elements (word_of_values m (Value (inner.ValuePointer (Some rows) s at)))
+    Elements (Some (vector_number columns))
+    (word_of_values m (Value (inner.ValuePointer (Some rows) s at)))
 parts_at m info whole at base (inner.Array item count stride) =
-    Elements (word_of_values m (Value (inner.Pointer item at)))
+    Elements (element_count count) (word_of_values m (Value (inner.Pointer item at)))
 parts_at m info whole at base (inner.BindingArray item count) =
-    Elements (word_of_values m (Value (inner.Pointer item at)))
+    Elements (element_count count) (word_of_values m (Value (inner.Pointer item at)))
 parts_at m info whole at base (inner.Struct members span) =
     Members
     (map (λ p. member_part m info whole at base p.0 p.1.ty) (enumerate_from 0 members.items))

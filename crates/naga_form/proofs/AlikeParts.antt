@@ -20,6 +20,8 @@ use Rattle.naga_ir.specs.declared.image.ImageClass.TheVariants as class
 use Rattle.naga_ir.specs.declared.image.ImageDimension.{ImageDimension}
 use Rattle.naga_ir.specs.declared.module.Module.{Module}
 use Rattle.naga_ir.specs.declared.types.AddressSpace.{AddressSpace}
+use Rattle.naga_ir.specs.declared.types.ArraySize.{ArraySize}
+use Rattle.naga_ir.specs.declared.types.ArraySize.TheVariants as length
 use Rattle.naga_ir.specs.declared.types.AddressSpace.TheVariants as space
 use Rattle.naga_ir.specs.declared.types.Scalar.{Scalar}
 use Rattle.naga_ir.specs.declared.types.TypeInner.{TypeInner}
@@ -37,8 +39,8 @@ use Rattle.module_meaning.specs.InfoSizes.{is_handle_space, is_handle_pointer, r
 use Rattle.naga_words.specs.Spelling.{is_struct}
 use Rattle.module_meaning.specs.Ranges.{parts_before, parts_stand_before}
 use Rattle.module_meaning.proofs.Lists.{placed_at}
-use Rattle.module_meaning.specs.TypeIdentity.{identity, identity_code, word_of_unspelled_type, level, kind_number, vector_number, space_number, truth_number, dimension_number}
-use Rattle.module_meaning.specs.TypeParts.{part_type, pointed_part, member_type, inner_at}
+use Rattle.module_meaning.specs.TypeIdentity.{identity, identity_code, word_of_unspelled_type, level, kind_number, length_kind, length_number, vector_number, space_number, truth_number, dimension_number}
+use Rattle.module_meaning.specs.TypeParts.{part_type, pointed_part, member_type, inner_at, element_count}
 use Rattle.module_meaning.proofs.TypeIdentity.{word_tells}
 use Rattle.naga_form.proofs.AlikeLaw.{form_apart, distinguished_by_itself, each_named, itself}
 use Rattle.naga_form.proofs.AlikeLaw.{itself_back}
@@ -51,19 +53,20 @@ is_pointer (inner.ValuePointer n s at) = true
 is_pointer _ = false
 
 -- ---- kinds of parts
--- what the parts of a place are: none, elements or columns, so many components, or the members of the
+-- what the parts of a place are: none, elements or columns, so many where it is known, so many components, or the members of the
 -- struct with this handle
 pub data PartKind : Type 0 where
-  NoKind ElementKind : PartKind
+  NoKind : PartKind
+  ElementKind : (count : Option ℕ) → PartKind
   ComponentKind : (count : ℕ) → PartKind
   MemberKind : (base : ℕ) → PartKind
 
 -- of a type of the module
 abbrev pub kind_at : (base : ℕ) → TypeInner → PartKind
 kind_at base (inner.Vector n s) = ComponentKind (vector_number n)
-kind_at base (inner.Matrix columns rows s) = ElementKind
-kind_at base (inner.Array item count stride) = ElementKind
-kind_at base (inner.BindingArray item count) = ElementKind
+kind_at base (inner.Matrix columns rows s) = ElementKind (Some (vector_number columns))
+kind_at base (inner.Array item count stride) = ElementKind (element_count count)
+kind_at base (inner.BindingArray item count) = ElementKind (element_count count)
 kind_at base (inner.Struct members span) = MemberKind base
 kind_at base _ = NoKind
 
@@ -78,13 +81,23 @@ abbrev pub has_members : PartKind → Bool
 has_members (MemberKind base) = true
 has_members _ = false
 
+-- how many elements an array of this form has, where it tells
+abbrev count_of_form : List ℕ → Option ℕ
+count_of_form y = if nat_eq (get_or y 1 0) 0 then Some (get_or y 2 0) else None
+
+-- it is how many the array has
+counted_by_form : (n : ArraySize) → element_count n ≡ (if nat_eq (length_kind n) 0 then Some (length_number n) else None)
+counted_by_form (length.Constant number) = refl
+counted_by_form (length.Pending override_handle) = refl
+counted_by_form length.Dynamic = refl
+
 -- by the form of the whole, which is no struct
 abbrev kind_of_form : List ℕ → PartKind
 kind_of_form y =
     if nat_eq (get_or y 0 0) 1 then ComponentKind (get_or y 3 0) else (
-    if nat_eq (get_or y 0 0) 2 then ElementKind else (
-    if nat_eq (get_or y 0 0) 6 then ElementKind else (
-    if nat_eq (get_or y 0 0) 7 then ElementKind else NoKind)))
+    if nat_eq (get_or y 0 0) 2 then ElementKind (Some (get_or y 3 0)) else (
+    if nat_eq (get_or y 0 0) 6 then ElementKind (count_of_form y) else (
+    if nat_eq (get_or y 0 0) 7 then ElementKind (count_of_form y) else NoKind)))
 
 -- the form of a part, by the numbers of the space and the form of the whole, which is no struct
 abbrev part_form : (number access : ℕ) → List ℕ → Option (List ℕ)
@@ -266,10 +279,12 @@ module _ (m : Module) (are : TypesAreCounted m) (stand : PartsStand m) where
       pointee (inner.Pointer other to) is x g = partless (inner.Pointer other to) is (λ index. refl) refl _ (pointer_no_parts to (key_within n m.types other)) x g
       pointee (inner.ValuePointer k s to) is x g = partless (inner.ValuePointer k s to) is (λ index. refl) refl _ (value_pointer_no_parts to (value_key k s)) x g
       pointee (inner.Array element size stride) is x g =
-          elements (inner.Array element size stride) is element _ (λ z. refl) (λ z. refl) (λ index. refl) (λ z. refl)
+          elements (inner.Array element size stride) is element (λ it. level 6 (length_kind size) (length_number size) 0 0 0 ++ it)
+          (λ z. refl) (λ z. refl) (λ index. refl) (λ z. ap ElementKind (counted_by_form size))
           (ltb-true element base (sym (ap (parts_before base) is) ∙ stand base t there)) (key_within n m.types element) refl x g
       pointee (inner.BindingArray element size) is x g =
-          elements (inner.BindingArray element size) is element _ (λ z. refl) (λ z. refl) (λ index. refl) (λ z. refl)
+          elements (inner.BindingArray element size) is element (λ it. level 7 (length_kind size) (length_number size) 0 0 0 ++ it)
+          (λ z. refl) (λ z. refl) (λ index. refl) (λ z. ap ElementKind (counted_by_form size))
           (ltb-true element base (sym (ap (parts_before base) is) ∙ stand base t there)) (key_within n m.types element) refl x g
       pointee (inner.Struct members span) is x g =
           Whole at base (ap (behind at) (sym (same_Some _ x g))) refl (kind_is (inner.Struct members span) is)
@@ -456,7 +471,7 @@ module _ (m : Module) (are : TypesAreCounted m) (stand : PartsStand m) where
   no_members_of_form : (y : List ℕ) → has_members (kind_of_form y) ≡ false
   no_members_of_form y = by (nat_eq (get_or y 0 0) 1) (nat_eq (get_or y 0 0) 2) (nat_eq (get_or y 0 0) 6) (nat_eq (get_or y 0 0) 7)
     where
-      by : (a b c d : Bool) → has_members (if a then ComponentKind (get_or y 3 0) else (if b then ElementKind else (if c then ElementKind else (if d then ElementKind else NoKind)))) ≡ false
+      by : (a b c d : Bool) → has_members (if a then ComponentKind (get_or y 3 0) else (if b then ElementKind (Some (get_or y 3 0)) else (if c then ElementKind (count_of_form y) else (if d then ElementKind (count_of_form y) else NoKind)))) ≡ false
       by true b c d = refl
       by false true c d = refl
       by false false true d = refl

@@ -4,7 +4,7 @@
 --
 -- The table has the parts of the first pointer that is spelled so. Pointers spelled alike are told by the
 -- same numbers, and so lead to parts of one kind.
-use Rattle.std.proofs.Common.{◌≡◌, ◌⊎◌, inl, inr, ℕ, zero, suc, ℤ, Bool, true, false, cond, List, [], ◌∷◌, refl, sym, ap, ◌∙◌, subst, map}
+use Rattle.std.proofs.Common.{◌≡◌, ◌⊎◌, inl, inr, ℕ, zero, suc, ℤ, Bool, true, false, cond, List, [], ◌∷◌, ◌++◌, refl, sym, ap, ◌∙◌, subst, map}
 use Rattle.std.proofs.Common.{Option, Some, None, slice_get, if◌then◌else◌, arith}
 use Rattle.std.specs.Prelude.{IsTrue, not, unwrap_or}
 use Rattle.std.specs.List.{enumerate_from, find, flat_map}
@@ -19,7 +19,7 @@ use Rattle.naga_ir.specs.declared.types.Type_.{Type_}
 use Rattle.naga_info.specs.Resolution.{inner_of}
 use Rattle.naga_info.specs.declared.info.ModuleInfo.{ModuleInfo}
 use Rattle.naga_info.specs.declared.info.TypeResolution.{TypeResolution}
-use Rattle.naga_info.specs.declared.info.TypeResolution.TheVariants.{Value}
+use Rattle.naga_info.specs.declared.info.TypeResolution.TheVariants.{Handle, Value}
 use Rattle.shader_runs.specs.Typing.{IsPart}
 use Rattle.shader_runs.specs.Value.{Bytes, NoParts, Members, At, Field, Selector}
 use Rattle.shader_runs.specs.Value.{PointerType, step_at, step_to, member_pointer, same_bytes, same_type}
@@ -29,7 +29,7 @@ use Rattle.module_meaning.specs.AgreeingOperators.{Group, groups_of}
 use Rattle.module_meaning.specs.AlikeTypes.{type_identity, type_key, handle_key, is_spelled, pointer_key}
 use Rattle.module_meaning.specs.InfoSizes.{is_handle_space}
 use Rattle.module_meaning.specs.Names.{ItemsAreDistinguished}
-use Rattle.module_meaning.specs.PlaceParts.{place_spaces, column_pointers, pointers_to, pointers_in, pointer_types, pointer_spelled}
+use Rattle.module_meaning.specs.PlaceParts.{place_spaces, column_pointers, pointers_to, pointers_in, own_types, pointer_types, pointer_spelled}
 use Rattle.module_meaning.specs.PlaceParts.{members_taken, member_word, member_part, parts_at, parts_behind, place_parts}
 use Rattle.module_meaning.specs.TypeIdentity.{identity, word_of_unspelled_type}
 use Rattle.module_meaning.specs.TypeParts.{inner_at, part_type}
@@ -43,7 +43,7 @@ use Rattle.naga_form.proofs.AgreeingUses.{IsIn, in_flat_map}
 use Rattle.naga_form.proofs.ListPlaces.{made_at, made_from}
 use Rattle.naga_form.proofs.AlikeParts.{is_pointer, PartsStand, PartsAlike, IsFree, is_free, part_fits, FitPart, PartKind, NoKind, ElementKind, ComponentKind, MemberKind, kind_at, kind_behind}
 use Rattle.naga_form.proofs.AlikeParts.{has_members, AlikePlaces, Same, OneKind, OneStruct, alike_places}
-use Rattle.naga_form.proofs.ModulePlaces.{in_row}
+use Rattle.naga_form.proofs.ModulePlaces.{in_row, in_image}
 use Rattle.naga_form.proofs.PointerParts.{points_as, own_word, part_points, are_elements, parts_of_kind, HasElements, has_elements, IsMember}
 use Rattle.naga_form.proofs.SameValues.{TypesAreCounted, IsFit, numbers_by_values, values_by_numbers}
 use Rattle.naga_form.proofs.SoundGroups.{groups_are}
@@ -113,7 +113,7 @@ module _ (m : ir_module.Module) (info : ModuleInfo) (accepted : IsTrue (is_accep
 
   -- each pointer of the module is fit
   pointer_types_fit : (i : ℕ) (r : TypeResolution) → slice_get (pointer_types m info) i ≡ Some r → IsFit m r
-  pointer_types_fit i r at = by (in_row (flat_map (λ g. g.known) (groups_of m info)) (flat_map (pointers_in m) place_spaces) i r at)
+  pointer_types_fit i r at = by (in_row (flat_map (λ g. g.known) (groups_of m info)) (own_types m ++ flat_map (pointers_in m) place_spaces) i r at)
     where
       known : {g : Group} → (f : _) × IsSoundGroup m info f g → IsIn g.known r → IsFit m r
       known sound inside = sound.1.fits inside.0 r inside.1
@@ -122,14 +122,21 @@ module _ (m : ir_module.Module) (info : ModuleInfo) (accepted : IsTrue (is_accep
       made at free p zero is = subst (IsFit m) (same_Some _ r is) (pointer_fit p.0 at free)
       made at free p (suc i) is = column_fit at p.1.inner i r is
 
-      by : ((k : ℕ) × (slice_get (flat_map (λ g. g.known) (groups_of m info)) k ≡ Some r)) ⊎ ((k : ℕ) × (slice_get (flat_map (pointers_in m) place_spaces) k ≡ Some r)) → IsFit m r
-      by (inl here) =
-          let k = in_some (λ g. g.known) (groups_of m info) here.0 r here.1 in
-          known (groups_are m info accepted k.item (k.place, k.there)) k.inside
-      by (inr there) =
+      others : ((k : ℕ) × (slice_get (own_types m) k ≡ Some r)) ⊎ ((k : ℕ) × (slice_get (flat_map (pointers_in m) place_spaces) k ≡ Some r)) → IsFit m r
+      others (inl own) =
+          let made = in_image (λ p. Handle p.0) (enumerate_from 0 m.types) own.0 r own.1 in
+          subst (IsFit m) made.2 tt
+      others (inr there) =
           let k = in_some (pointers_in m) place_spaces there.0 r there.1 in
           let p = in_some (pointers_to k.item) (enumerate_from 0 m.types) k.inside.0 r k.inside.1 in
           made k.item (place_space k.place k.item k.there) p.item p.inside.0 p.inside.1
+
+      by : ((k : ℕ) × (slice_get (flat_map (λ g. g.known) (groups_of m info)) k ≡ Some r)) ⊎
+          ((k : ℕ) × (slice_get (own_types m ++ flat_map (pointers_in m) place_spaces) k ≡ Some r)) → IsFit m r
+      by (inl here) =
+          let k = in_some (λ g. g.known) (groups_of m info) here.0 r here.1 in
+          known (groups_are m info accepted k.item (k.place, k.there)) k.inside
+      by (inr there) = others (in_row (own_types m) (flat_map (pointers_in m) place_spaces) there.0 r there.1)
 
   -- a pointer that is known of an expression
   pub record IsPointer (r : TypeResolution) (whole : Bytes) : Type 0 where
@@ -161,7 +168,7 @@ module _ (m : ir_module.Module) (info : ModuleInfo) (accepted : IsTrue (is_accep
     first =
         let place = in_flat_map (λ g. g.known) (groups_of m info) a.group_there.0 a.group r a.group_there.1 (a.handle, a.known) in
         let found = first_found is_so (pointer_types m info) place.0 r
-        (in_left (flat_map (λ g. g.known) (groups_of m info)) (flat_map (pointers_in m) place_spaces) place.0 r place.1)
+        (in_left (flat_map (λ g. g.known) (groups_of m info)) (own_types m ++ flat_map (pointers_in m) place_spaces) place.0 r place.1)
         (ap (λ v. same_type v (PointerType whole)) a.values ∙ same_type_self (PointerType whole)) in
         let values = same_type_true (type_of_values m found.first) (PointerType whole) found.passes in
         let fit = pointer_types_fit found.among.0 found.first found.among.1 in
@@ -207,7 +214,7 @@ module _ (m : ir_module.Module) (info : ModuleInfo) (accepted : IsTrue (is_accep
             where
               by : (k : PartKind) → are_elements k ≡ true → has_members k ≡ true → ⊥
               by NoKind elements is = absurd cc
-              by ElementKind elements is = absurd cc
+              by (ElementKind count) elements is = absurd cc
               by (ComponentKind count) elements is = absurd cc
               by (MemberKind base) elements is = absurd cc
 
@@ -247,7 +254,7 @@ module _ (m : ir_module.Module) (info : ModuleInfo) (accepted : IsTrue (is_accep
           where
             by : (k : PartKind) → are_elements k ≡ true → IsPart (parts_of_kind k (word_of_values m p)) (step_at (parts_of_kind k (word_of_values m p)) z) (type_of_values m own)
             by NoKind elements = absurd cc
-            by ElementKind elements = own_values
+            by (ElementKind count) elements = own_values
             by (ComponentKind count) elements = own_values
             by (MemberKind base) elements = absurd cc
 
@@ -260,7 +267,7 @@ module _ (m : ir_module.Module) (info : ModuleInfo) (accepted : IsTrue (is_accep
           where
             by : (k : PartKind) → are_elements k ≡ true → IsPart (parts_of_kind k (word_of_values m p)) (Some (At z)) (type_of_values m own)
             by NoKind elements = absurd cc
-            by ElementKind elements = own_values
+            by (ElementKind count) elements = own_values
             by (ComponentKind count) elements = own_values
             by (MemberKind base) elements = absurd cc
 

@@ -20,13 +20,13 @@ use Rattle.naga_names.proofs.Refusal.{element}
 use Rattle.naga_ir.specs.declared.types.ScalarKind.{ScalarKind}
 use Rattle.naga_ir.specs.declared.types.ScalarKind.TheVariants as kind
 use Rattle.shader_runs.specs.Value.{Bytes, Selector, MemberNamed, ElementAt, At, BooleanType, PointerType, OtherType}
-use Rattle.shader_runs.specs.Value.{Parts, NoParts, Elements, Components, step_to, step_to_component, component_number}
+use Rattle.shader_runs.specs.Value.{Parts, NoParts, Elements, Components, step_to, step_to_component, step_to_element, component_number}
 use Rattle.module_meaning.specs.ExpressionShapes.{Declared, own_selector, selector, component_letters}
 use Rattle.module_meaning.specs.ExpressionContexts.{declared}
 use Rattle.module_meaning.specs.PlaceParts.{parts_at, parts_behind, member_word}
 use Rattle.module_meaning.specs.TypeIdentity.{vector_number}
 use Rattle.module_meaning.specs.Types.{type_of_values, word_of_values, values_of, scalar_values}
-use Rattle.module_meaning.specs.TypeParts.{part_type, pointed_part, inner_at, member_type, is_part_number, value_part_count}
+use Rattle.module_meaning.specs.TypeParts.{part_type, pointed_part, inner_at, member_type, is_part_number, value_part_count, element_count}
 use Rattle.naga_form.proofs.AlikeParts.{is_pointer, PartKind, NoKind, ElementKind, ComponentKind, kind_at, kind_behind}
 
 -- ---- pointers
@@ -104,13 +104,13 @@ some_there (Some x) is = (x, refl)
 -- ---- kinds of parts
 -- a computed index leads to them
 abbrev pub are_elements : PartKind → Bool
-are_elements ElementKind = true
+are_elements (ElementKind count) = true
 are_elements (ComponentKind count) = true
 are_elements _ = false
 
 -- parts of this kind that an index leads to, with this spelling of a pointer to each
 abbrev pub parts_of_kind : PartKind → Bytes → Parts
-parts_of_kind ElementKind w = Elements w
+parts_of_kind (ElementKind count) w = Elements count w
 parts_of_kind (ComponentKind count) w = Components count w
 parts_of_kind _ w = NoParts
 
@@ -170,6 +170,10 @@ module _ (m : ir_module.Module) (info : ModuleInfo) (known : ℕ → Option Type
     component_within : (count : ℕ) → nat_lt index count ≡ true → step_to_component count index ≡ Some (At (pos index))
     component_within count within = ap (λ b. cond b (Some (At (pos index))) None) within
 
+    element_within : (o : Option ℕ) → option_map_or (λ count. nat_lt index count) o true ≡ true → step_to_element o index ≡ Some (At (pos index))
+    element_within None within = refl
+    element_within (Some count) within = component_within count within
+
     component : (count : ℕ) → nat_lt index count ≡ true → (o : Option Bytes) → slice_get component_letters index ≡ o →
         Some (option_map_or MemberNamed o (ElementAt index)) ≡ Some s → (w : Bytes) → step_to (Components count w) s ≡ Some (At (pos index))
     component count within None at selected w = numbered (Components count w) (component_within count within) selected
@@ -182,11 +186,13 @@ module _ (m : ir_module.Module) (info : ModuleInfo) (known : ℕ → Option Type
         (component (vector_number n) within (slice_get component_letters index) refl selected)
     part_behind base space t there (inner.Matrix columns rows scalar) is selected within =
         element_behind base space t there (inner.Matrix columns rows scalar) is
-        (Value (inner.ValuePointer (Some rows) scalar space)) refl refl (λ w. numbered (Elements w) refl selected)
+        (Value (inner.ValuePointer (Some rows) scalar space)) refl refl (λ w. numbered (Elements (Some (vector_number columns)) w) (component_within (vector_number columns) within) selected)
     part_behind base space t there (inner.Array item n stride) is selected within =
-        element_behind base space t there (inner.Array item n stride) is (Value (inner.Pointer item space)) refl refl (λ w. numbered (Elements w) refl selected)
+        element_behind base space t there (inner.Array item n stride) is (Value (inner.Pointer item space)) refl refl
+        (λ w. numbered (Elements (element_count n) w) (element_within (element_count n) within) selected)
     part_behind base space t there (inner.BindingArray item n) is selected within =
-        element_behind base space t there (inner.BindingArray item n) is (Value (inner.Pointer item space)) refl refl (λ w. numbered (Elements w) refl selected)
+        element_behind base space t there (inner.BindingArray item n) is (Value (inner.Pointer item space)) refl refl
+        (λ w. numbered (Elements (element_count n) w) (element_within (element_count n) within) selected)
     part_behind base space t there (inner.Struct members span) is selected within =
         let lt : index < length members.items = ltb-true index (length members.items) within in
         let k = element members.items index lt in
@@ -243,9 +249,9 @@ module _ (m : ir_module.Module) (info : ModuleInfo) (whole : Bytes) where
       of_type : (it : TypeInner) → pointed_part at it None ≡ Some p →
           (are_elements (kind_at base it) ≡ true) × (parts_at m info whole at base it ≡ parts_of_kind (kind_at base it) (word_of_values m p))
       of_type (inner.Vector n s) is = (refl, spelled (ComponentKind (vector_number n)) _ is)
-      of_type (inner.Matrix columns rows s) is = (refl, spelled ElementKind _ is)
-      of_type (inner.Array item count stride) is = (refl, spelled ElementKind _ is)
-      of_type (inner.BindingArray item count) is = (refl, spelled ElementKind _ is)
+      of_type (inner.Matrix columns rows s) is = (refl, spelled (ElementKind (Some (vector_number columns))) _ is)
+      of_type (inner.Array item count stride) is = (refl, spelled (ElementKind (element_count count)) _ is)
+      of_type (inner.BindingArray item count) is = (refl, spelled (ElementKind (element_count count)) _ is)
       of_type _ is = absurd cc
 
       by : (o : Option TypeInner) → inner_at m.types base ≡ o → option_and_then (λ it. pointed_part at it None) o ≡ Some p → HasElements (inner.Pointer base at) p

@@ -43,7 +43,9 @@ AppendsItsText m info flags answer content now =
     OnOk answer (now ≡ content ++ written_text m info flags)
 
 -- Two calls that answer `Ok` append one text, if module, info and flags are the same, whatever the
--- writers did before and whatever their sinks hold. So a cache may keep it by these three.
+-- writers did before and whatever their sinks hold. So a cache may keep it by these three. What is
+-- asked of a call, that it appends its text, is a clause of the contract of `write`; the contracts
+-- of `write_string` and `write_checked` say of which text theirs is in their own words.
 abbrev pub TextsAreEqual : Type 0
 TextsAreEqual =
     (m : Module) (info : ModuleInfo) (flags : WriterFlags) (one other : Result Unit Error)

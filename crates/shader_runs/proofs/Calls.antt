@@ -6,7 +6,7 @@ use Rattle.std.proofs.Math.Nat.{min-le_right}
 use Rattle.std.proofs.lemmas.List.{length-append, length-take, length-take-le}
 use Rattle.std.proofs.lemmas.Option.{slice_get_within, none-some, same_Some}
 use Rattle.std.proofs.lemmas.Bool.{eqb-false, ne_eqb}
-use Rattle.std.specs.Prelude.{IsTrue}
+use Rattle.std.specs.Prelude.{IsTrue, ◌||◌}
 use Rattle.shader_runs.specs.Value.{Bytes, same_bytes, PartTypes, ValueType, has_types, Value}
 use Rattle.shader_runs.specs.World.{Event, Entry, entries, World, Meaning, Environment, bind}
 use Rattle.shader_runs.specs.World.{Settings}
@@ -27,7 +27,7 @@ use Rattle.shader_runs.specs.TextRun.{MeansNothing}
 use Rattle.shader_runs.specs.TextRun.{value_of, with_parameters, with_variables, with_globals}
 use Rattle.shader_runs.specs.TextRun.{no_names, respond_by_use, word_use, put_first, first_followed}
 use Rattle.shader_runs.specs.TextRun.{first_then, first_of_each, entered_by, follow_all}
-use Rattle.shader_runs.specs.TextRun.{follow_body, follow_call}
+use Rattle.shader_runs.specs.TextRun.{follow_body, follow_call, names_function, is_operation}
 use Rattle.shader_runs.specs.Scope.{ModuleNames, Naming, usable, usable_if, named_after}
 use Rattle.shader_runs.specs.Scope.{named_after_all, named_by, named_by_all, named_by_cases}
 use Rattle.shader_runs.specs.Scope.{at_start, before_local, first_values_fit, fits_all}
@@ -48,7 +48,7 @@ use Rattle.shader_runs.specs.Premises.{ModuleNamesAreDistinct}
 use Rattle.shader_runs.specs.Constants.{environment_of, module_scope}
 use Rattle.shader_runs.proofs.Alike.{Answers, same_answer, mistyped_answer, alike_answers}
 use Rattle.shader_runs.proofs.Update.{and_left, and_right, same_bytes_equal, same_bytes_apart}
-use Rattle.shader_runs.proofs.Update.{has_types_length}
+use Rattle.shader_runs.proofs.Update.{has_types_length, same_bytes_self}
 use Rattle.shader_runs.proofs.Relation.{Returns, global_as, IsHere, NoName, fixed_denoted, Related}
 use Rattle.shader_runs.proofs.Evaluation.{words, Respond, Responds}
 use Rattle.shader_runs.proofs.Form.{Facts, globals_length, value_here}
@@ -224,6 +224,7 @@ module _ (p : Module) (f : Naming) (i : ℕ) where
 pub record UsesFit (p : Module) (n : ModuleNames) (uses : Bytes → WordUse) : Type 0 where
   pub requests : (w : Bytes) → ((g : ℕ) → g < length p.functions → n.function g ≢ w) → IsTrue (n.vocabulary.is_request w) → uses w ≡ AsksForEvent
   pub operators : (w : Bytes) → ((g : ℕ) → g < length p.functions → n.function g ≢ w) → n.vocabulary.is_request w ≡ false → IsTrue (n.vocabulary.is_operator w) → uses w ≡ Operates
+  pub functions : (g : ℕ) → g < length p.functions → is_operation (uses (n.function g)) ≡ false
 
 module _ (p : Module) (n : ModuleNames) (uses : Bytes → WordUse) (uses_fit : UsesFit p n uses) (env : Environment) (environment : EnvironmentFits p env) (w : World) (m : Meaning) (bound : ℕ) where
   abbrev call_of : List Naming → Naming → List Value → List Event → Call
@@ -234,7 +235,7 @@ module _ (p : Module) (n : ModuleNames) (uses : Bytes → WordUse) (uses_fit : U
   outer_of n = module_names_in_scope p n env
 
   abbrev responses : List Naming → Respond
-  responses fs = follow_call env.parts (outer_of n) w m uses bound (form_functions fs)
+  responses fs = (λ word. is_operation (uses word), follow_call env.parts (outer_of n) w m uses bound (form_functions fs))
 
   abbrev parameter_names : ModuleNames → Naming → List Value → Scope
   parameter_names n f vs =
@@ -258,13 +259,13 @@ module _ (p : Module) (n : ModuleNames) (uses : Bytes → WordUse) (uses_fit : U
   -- a word that is no function's name comes to its use
   by_use : (fs : List Naming) → AllFit p n fs → (word : Bytes) →
       ((g : ℕ) → g < length fs → n.function g ≢ word) → (vs : List Value) (t : List Event) →
-      responses fs word vs t ≡ respond_by_use (uses word) w m word vs t
+      (responses fs).1 word vs t ≡ respond_by_use (uses word) w m word vs t
   by_use [] fits word other vs t = refl
   by_use (f ∷ fs) fits word other vs t =
       let own_name = f.names.outer.function f.names.earlier in
       let is_name : own_name ≡ n.function (length fs) = ap (λ n. n.function f.names.earlier) fits.0.outer ∙ ap n.function (fits.0.earlier ∙ length-functions_of fs) in
       let apart : same_bytes word own_name ≡ false = same_bytes_apart word own_name (λ e. other (length fs) (omega arith) (sym (e ∙ is_name))) in
-      ap (λ b. cond b (text_call fs f vs t) (responses fs word vs t)) apart
+      ap (λ b. cond b (text_call fs f vs t) ((responses fs).1 word vs t)) apart
       ∙ by_use fs fits.1 word (λ g lt. other g (omega arith)) vs t
 
   abbrev Alike_calls : List Naming → Type 0
@@ -273,7 +274,7 @@ module _ (p : Module) (n : ModuleNames) (uses : Bytes → WordUse) (uses_fit : U
       (vs : List Value) → IsTrue (has_types env.parts callee.argument_types vs) →
       (t : List Event) →
       Answers (Returns env.parts callee) (run_call env w m bound (functions_of fs) g vs t)
-      (responses fs (n.function g) vs t)
+      ((responses fs).1 (n.function g) vs t)
 
   module _ (fs : List Naming) (within : length fs ≤ length p.functions) (fits : AllFit p n fs)
       (earlier : Alike_calls fs) (f : Naming) (fit : Starting p n (functions_of fs) f)
@@ -285,10 +286,13 @@ module _ (p : Module) (n : ModuleNames) (uses : Bytes → WordUse) (uses_fit : U
     reaches_use : (word : Bytes) →
         ((g : ℕ) → g < length p.functions → f.names.outer.function g ≢ word) → (use_of : WordUse) →
         uses word ≡ use_of → (vs : List Value) (t : List Event) →
-        responses fs word vs t ≡ respond_by_use use_of w m word vs t
+        (responses fs).1 word vs t ≡ respond_by_use use_of w m word vs t
     reaches_use word other use_of e vs t =
         by_use fs fits word (λ g lt. no_function word other g (omega (arith, within))) vs t
         ∙ ap (λ u. respond_by_use u w m word vs t) e
+
+    earlier_number : (g : ℕ) → g < length (functions_of fs) → g < length p.functions
+    earlier_number g lt = let count = length-functions_of fs in omega (arith, lt, count, within)
 
     responds : Responds p (call_of fs f vs t) f.names (responses fs)
     responds =
@@ -297,8 +301,10 @@ module _ (p : Module) (n : ModuleNames) (uses : Bytes → WordUse) (uses_fit : U
           operators = λ word a. reaches_use word a.2.0 Operates (uses_fit.operators word (no_function word a.2.0) (ap (λ n. n.vocabulary.is_request word) (sym fit.outer) ∙ a.0) (ap (λ n. n.vocabulary.is_operator word) (sym fit.outer) ∙ a.1));
           calls = λ g callee e vs h t. subst
               (λ n'. Answers (Returns env.parts callee)
-              (run_call env w m bound (functions_of fs) g vs t) (responses fs (n'.function g) vs t))
+              (run_call env w m bound (functions_of fs) g vs t) ((responses fs).1 (n'.function g) vs t))
               (sym fit.outer) (earlier g callee e vs h t);
+          asking = λ word a. ap is_operation (uses_fit.requests word (no_function word a.1.0) (ap (λ n. n.vocabulary.is_request word) (sym fit.outer) ∙ a.0));
+          calling = λ g callee e. ap (λ n'. is_operation (uses (n'.function g))) fit.outer ∙ uses_fit.functions g (earlier_number g (numbered_within (functions_of fs) g callee e));
         }
 
     argument_same : (i k : ℕ) → FixedKey (ArgumentName i) ≡ FixedKey (ArgumentName k) → i ≡ k
@@ -586,7 +592,7 @@ module _ (p : Module) (n : ModuleNames) (uses : Bytes → WordUse) (uses_fit : U
       let test = same_test (n.function g) own_name g (length (functions_of fs)) (λ e. one g (length fs) lt (omega arith) (e ∙ is_name) ∙ sym place) (λ e. ap n.function (e ∙ place) ∙ sym is_name) in
       pick_alike (Returns env.parts callee) (same_bytes (n.function g) own_name)
       (nat_eq g (length (functions_of fs))) (program_call fs f vs t) (text_call fs f vs t)
-      (run_call env w m bound (functions_of fs) g vs t) (responses fs (n.function g) vs t) test
+      (run_call env w m bound (functions_of fs) g vs t) ((responses fs).1 (n.function g) vs t) test
       (λ q. let same : f.function ≡ callee =
       same_Some f.function callee
       (ap (λ b. cond b (Some f.function) (function_numbered (functions_of fs) g)) (sym q) ∙ e)
@@ -606,9 +612,29 @@ answers_same : {A : Type 0} (R : A → Type 0) (q q' : ReachedOrHalted A) → Ke
 answers_same R q q' k (same_answer h) = refl
 answers_same R q q' k mistyped_answer = absurd k
 
-pub uses_fit : (p : Module) (n : ModuleNames) (functions : List TextFunction) → length functions ≤ length p.functions → AreNamed n functions → UsesFit p n (word_use functions n.vocabulary)
-uses_fit p n functions within are =
+-- a function's name is one in the text
+name_among : (n : ModuleNames) (fs : List TextFunction) → AreNamed n fs → (g : ℕ) → g < length fs → names_function fs (n.function g) ≡ true
+name_among n [] named g lt = absurd (omega (arith, lt))
+name_among n (f ∷ fs) named g lt = by (nat_eq g (length fs)) refl (name_among n fs named.1 g)
+  where
+    in_rest : (b : Bool) → names_function fs (n.function g) ≡ true → b || names_function fs (n.function g) ≡ true
+    in_rest true is = refl
+    in_rest false is = is
+
+    by : (b : Bool) → nat_eq g (length fs) ≡ b → (g < length fs → names_function fs (n.function g) ≡ true) →
+        names_function (f ∷ fs) (n.function g) ≡ true
+    by true e later =
+        let own : n.function g ≡ f.name = ap n.function (eqb-true g (length fs) e) ∙ sym named.0 in
+        ap (λ b. b || names_function fs (n.function g)) (ap (same_bytes (n.function g)) (sym own) ∙ same_bytes_self (n.function g))
+    by false e later =
+        let apart = eqb-false g (length fs) e in
+        in_rest (same_bytes (n.function g) f.name) (later (omega (arith, lt, apart)))
+
+pub uses_fit : (p : Module) (n : ModuleNames) (functions : List TextFunction) → length functions ≡ length p.functions → AreNamed n functions → UsesFit p n (word_use functions n.vocabulary)
+uses_fit p n functions counted are =
     record {
+      functions = λ g lt. ap (λ b. is_operation (cond b NamesFunction (cond (n.vocabulary.is_request (n.function g)) AsksForEvent (unasked (n.function g)))))
+          (name_among n functions are g (omega (arith, counted, lt)));
       requests = λ word other q. named word other ∙ ap (λ b. cond b AsksForEvent (unasked word)) q;
       operators = λ word other q r.
           named word other ∙ ap₂ (λ a b. cond a AsksForEvent (cond b Operates MeansNothing)) q r;
@@ -621,7 +647,7 @@ uses_fit p n functions within are =
     named : (word : Bytes) → ((g : ℕ) → g < length p.functions → n.function g ≢ word) →
         word_use functions n.vocabulary word ≡ cond (n.vocabulary.is_request word) AsksForEvent (unasked word)
     named word other =
-        ap (λ b. cond b NamesFunction (cond (n.vocabulary.is_request word) AsksForEvent (unasked word))) (no_name_among p n functions within are word other)
+        ap (λ b. cond b NamesFunction (cond (n.vocabulary.is_request word) AsksForEvent (unasked word))) (no_name_among p n functions (omega (arith, counted)) are word other)
 
 -- ---- the first functions of a module
 skipped : {A : Type 0} (b : Bool) → b ≡ false → (x y : A) → cond b x y ≡ y
@@ -726,7 +752,7 @@ environment_alike p n later fs fits env environment m typed g lt f e vs h w turn
     alike =
         answers_same (Returns env.parts f) (run_call env w m turns (functions_of fs) g vs t) _
         (subst KeepsTypes run_first keeps)
-        (calls_alike p n uses (uses_fit p n (later ++ form_functions fs) whole fits.items.named) env
+        (calls_alike p n uses (uses_fit p n (later ++ form_functions fs) fits.items.counted fits.items.named) env
         environment w m turns fs within fits.all all one g f there vs
         (subst (λ parts. IsTrue (has_types parts f.argument_types vs)) (sym environment.parts) h) t)
 

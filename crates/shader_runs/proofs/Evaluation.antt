@@ -18,7 +18,7 @@ use Rattle.shader_runs.specs.ProgramRun.{index_value_by, part_value_by}
 use Rattle.shader_runs.specs.Text.{Index, PartOf, LogicalOf}
 use Rattle.shader_runs.specs.TextRun.{part_reached, index_reached, index_into, part_picked}
 use Rattle.shader_runs.specs.TextRun.{undecided_reached, logical_reached, Denotation, IsValue}
-use Rattle.shader_runs.specs.TextRun.{IsPlace}
+use Rattle.shader_runs.specs.TextRun.{IsPlace, place_picked}
 use Rattle.shader_runs.specs.TextRun.{Words, Scope, read_value, word_answer, as_value, dereference}
 use Rattle.shader_runs.specs.TextRun.{address_reached, put_before, followed_by, evaluate}
 use Rattle.shader_runs.specs.TextRun.{evaluate_all, value_of, AsksForEvent, Operates}
@@ -36,20 +36,23 @@ use Rattle.std.proofs.lemmas.Option.{none-some, same_Some}
 abbrev pub naming : Call → Names → Naming
 naming c n = record { function = c.function; names = n }
 
+-- which words are operators, and what a word does
 abbrev pub Respond : Type 0
-Respond = Bytes → List Value → List Event → ReachedOrHalted (Option Value)
+Respond = (Bytes → Bool) × (Bytes → List Value → List Event → ReachedOrHalted (Option Value))
 
 abbrev pub words : Call → Respond → Words
-words c d = record { parts = c.environment.parts; world = c.world; meaning = c.meaning; respond = d }
+words c d = record { parts = c.environment.parts; world = c.world; meaning = c.meaning; operates = d.0; respond = d.1 }
 
 -- what the text makes of a word: a callee's run, or what the table says
 pub record Responds (p : Module) (c : Call) (n : Names) (d : Respond) : Type 0 where
-  pub requests : (w : Bytes) → AsksBy p (naming c n) w → (vs : List Value) (t : List Event) → d w vs t ≡ respond_by_use AsksForEvent c.world c.meaning w vs t
-  pub operators : (w : Bytes) → OperatesBy p (naming c n) w → (vs : List Value) (t : List Event) → d w vs t ≡ respond_by_use Operates c.world c.meaning w vs t
+  pub requests : (w : Bytes) → AsksBy p (naming c n) w → (vs : List Value) (t : List Event) → d.1 w vs t ≡ respond_by_use AsksForEvent c.world c.meaning w vs t
+  pub operators : (w : Bytes) → OperatesBy p (naming c n) w → (vs : List Value) (t : List Event) → d.1 w vs t ≡ respond_by_use Operates c.world c.meaning w vs t
   pub calls : (g : ℕ) (callee : Function) → function_numbered c.callees g ≡ Some callee →
       (vs : List Value) → IsTrue (has_types c.environment.parts callee.argument_types vs) →
       (t : List Event) → Answers (Returns c.environment.parts callee) (c.calls g vs t)
-      (d (n.outer.function g) vs t)
+      (d.1 (n.outer.function g) vs t)
+  pub asking : (w : Bytes) → AsksBy p (naming c n) w → d.0 w ≡ false
+  pub calling : (g : ℕ) (callee : Function) → function_numbered c.callees g ≡ Some callee → d.0 (n.outer.function g) ≡ false
 
 abbrev pub denoted : Option Value → List Event → ReachedOrHalted Denotation
 denoted o t = reach (as_denoted o) t
@@ -105,12 +108,12 @@ value_forms_give c d names kept operand (x ∷ xs) m t =
 
 pub operator_responds : (p : Module) (c : Call) (n : Names) (d : Respond) → Responds p c n d →
     (w : Bytes) → OperatesBy p (naming c n) w → (vs : List Value) (t : List Event) →
-    d w vs t ≡ Gives (Some (c.meaning (Spelled w) vs)) t
+    d.1 w vs t ≡ Gives (Some (c.meaning (Spelled w) vs)) t
 operator_responds p c n d r w f vs t = r.operators w f vs t
 
 pub request_responds : (p : Module) (c : Call) (n : Names) (d : Respond) → Responds p c n d →
     (w : Bytes) → AsksBy p (naming c n) w → (vs : List Value) (t : List Event) →
-    d w vs t ≡ Gives (Some (c.world t (Ask w vs))) (Ask w vs ∷ t)
+    d.1 w vs t ≡ Gives (Some (c.world t (Ask w vs))) (Ask w vs ∷ t)
 request_responds p c n d r w f vs t = r.requests w f vs t
 
 operated : (p : Module) (c : Call) (n : Names) (d : Respond) → Responds p c n d →
@@ -191,12 +194,12 @@ index_value parts m x y v n e p rest t q r =
     let same = same_Some (m IndexWord (x ∷ y ∷ [])) v (sym (index_value_is parts m x y n) ∙ e) in
     ap (λ p. index_into parts m p rest) q ∙ ap (λ o. unless o t (index_reached m x (rest t))) n ∙ ap (index_reached m x) r ∙ ap (λ v. Gives (IsValue v) t) same
 
-pub part_picked_value : (parts : PartTypes) (m : Meaning) (x : Selector) (b v : Value) → place_in b ≡ None →
+pub part_picked_value : (parts : PartTypes) (w : World) (m : Meaning) (x : Selector) (b v : Value) → place_in b ≡ None →
     part_value parts m x b ≡ Some v → (p : ReachedOrHalted Denotation) (t : List Event) →
-    p ≡ Gives (IsValue b) t → part_picked parts m x p ≡ Gives (IsValue v) t
-part_picked_value parts m x b v n e p t q =
+    p ≡ Gives (IsValue b) t → part_picked parts w m x p ≡ Gives (IsValue v) t
+part_picked_value parts w m x b v n e p t q =
     let same = same_Some (m (PartWord x) (b ∷ [])) v (sym (part_value_is parts m x b n) ∙ e) in
-    ap (part_picked parts m x) q ∙ ap (λ o. unless o t (Gives (IsValue (m (PartWord x) (b ∷ []))) t)) n ∙ ap (λ v. Gives (IsValue v) t) same
+    ap (part_picked parts w m x) q ∙ ap (λ o. unless o t (Gives (IsValue (m (PartWord x) (b ∷ []))) t)) n ∙ ap (λ v. Gives (IsValue v) t) same
 
 -- the two sides of `&&` and `||`
 pub logical_reached_value : (m : Meaning) (j : ShortCircuit) (l r : Value)
@@ -262,16 +265,16 @@ module _ (c : Call) (d : Respond) (names : Scope) where
       part p q (Some place) s e = (
         place,
         sym e,
-        λ t. ap (part_picked c.environment.parts c.meaning x)
+        λ t. ap (part_picked c.environment.parts c.world c.meaning x)
             (place_form_gives c d names b (Some y) mb t ∙ ap (λ v. placed (Some v) t) q)
-            ∙ ap (λ o. reach (option_map IsPlace o) t) s,
+            ∙ ap (place_picked c.environment.parts c.world c.meaning x p t) s,
       )
 
   part_value_means : (x : Selector) (b : Plain) (y v : Value) → Means c d names b (Some y) →
       place_in y ≡ None → part_value c.environment.parts c.meaning x y ≡ Some v →
       Means c d names (AsValue (PartOf x (value_form b))) (Some v)
   part_value_means x b y v mb h e t =
-      part_picked_value c.environment.parts c.meaning x y v h e (evaluate (words c d) (value_form b) names t) t (value_form_denotes c d names b (Some y) mb t)
+      part_picked_value c.environment.parts c.world c.meaning x y v h e (evaluate (words c d) (value_form b) names t) t (value_form_denotes c d names b (Some y) mb t)
 
   pub part_means : (k : ValueType) (x : Selector) (b : Plain) (y v : Value) →
       Means c d names b (Some y) → IsTrue (has_type c.environment.parts k y) →

@@ -18,6 +18,7 @@ use Rattle.shader_runs.specs.ProgramRun.{ask_each, same_label, label_if, run, ru
 use Rattle.shader_runs.specs.Text.{Tree, Line, Let, Braces, IfElse, SwitchOn, LoopOf, Lines, last}
 use Rattle.shader_runs.specs.Text.{before, Groups}
 use Rattle.shader_runs.specs.TextRun.{Scope, perform_outcome, value_of, with_value, has_continue}
+use Rattle.shader_runs.specs.TextRun.{AsksForEvent, respond_by_use}
 use Rattle.shader_runs.specs.TextRun.{among, group_has, follow, follow_all, follow_in_loop}
 use Rattle.shader_runs.specs.TextRun.{follow_groups}
 use Rattle.shader_runs.specs.Scope.{usable, Handles, Names, bound_name, after_one, named_after}
@@ -282,8 +283,8 @@ module _ (p : Module) (c : Call) (n : Names) (d : Respond) (facts : Facts p c n 
       (sym (same_state kept kept1 t t1 e), λ tail q names2 t2 h. subst (λ e. Text tail q names e names2 t2) (sym (same_events kept kept1 t t1 e)) h)
   asks_all (w ∷ ws) s names kept kept1 t t1 r m e =
       let rest = asks_all ws s names kept kept1 (Ask w [] ∷ t) t1 r m.1 e in
-      let asked = ap (λ o. unless o t (d w [] t)) (free p c n d facts s names kept r w m.0.1.1) ∙ request_responds p c n d facts.responds w m.0 [] t in
-      (rest.0, λ tail q names2 t2 h. goes_behind_line (ap (λ q. perform_outcome names q) asked) (rest.1 tail q names2 t2 h))
+      let asked = ap (λ o. unless o t (d.1 w [] t)) (free p c n d facts s names kept r w m.0.1.1) ∙ request_responds p c n d facts.responds w m.0 [] t in
+      (rest.0, λ tail q names2 t2 h. goes_behind_line (ap (λ q. perform_outcome (d.0 w) names q) asked ∙ ap (λ b. perform_outcome b names (respond_by_use AsksForEvent c.world c.meaning w [] t)) (facts.responds.asking w m.0)) (rest.1 tail q names2 t2 h))
 
   -- the text's run gets behind each statement that the module's run gets behind
   goes_on : (st : Statement) (k : ℕ) (s : Handles) (names : Scope) (kept kept1 : KeptValues)

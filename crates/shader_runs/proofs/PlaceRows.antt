@@ -11,7 +11,10 @@ place_rows_hold =
         letter_past_vector = refl;
         number_past_vector = refl;
         number_of_array = refl;
+        number_past_array = refl;
+        number_of_unsized = refl;
         letter_of_array = refl;
+        letters_of_vector = refl;
         member_of_struct = refl;
         other_member_of_struct = refl;
         number_of_struct = refl;
@@ -27,6 +30,11 @@ place_rows_hold =
         number_of_array = refl;
         member_of_struct = refl;
         letter_past_vector = refl;
+        letters_of_vector = refl;
+        letters_past_vector = refl;
+        letters_of_array = refl;
+        number_past_array = refl;
+        number_of_unsized = refl;
         letter_of_array = refl;
         number_of_struct = refl;
         letter_of_number = refl;
@@ -34,6 +42,7 @@ place_rows_hold =
         index_of_struct = refl;
         member_in_module = refl;
         none_in_module = refl;
+        none_past_end_in_module = refl;
       };
       places = record { fits = refl; text = refl; module_run = refl; text_run = refl; typed = refl };
     }

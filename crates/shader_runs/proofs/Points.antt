@@ -90,11 +90,12 @@ points_agree p n later f fs fits s settings m typed vs h w turns before_entry t 
         let more = count_behind later (f ∷ fs) in
         let within : length fs ≤ length p.functions = omega (arith, more, count) in
         let uses = word_use (form_functions every) n.vocabulary in
-        let known = uses_fit p n (form_functions every) (omega (arith, items.counted)) items.named in
+        let known = uses_fit p n (form_functions every) items.counted items.named in
         let fit = fit_behind p n later (f ∷ fs) fits.all in
         let all = typed_behind env.parts p m later (f ∷ fs) (subst (λ l. AllTypedIn env.parts p m l) (sym fits.functions) typed.functions) in
         let earlier = calls_alike p n uses known env environment w m turns fs within fit.1 all.1 one in
-        let d = (words_of p.parts (module_names_in_scope p n env) n every w m turns fs).respond in
+        let l = words_of p.parts (module_names_in_scope p n env) n every w m turns fs in
+        let d : Respond = (l.operates, l.respond) in
         let first = starting p n (functions_of fs) f fit.0 in
         let facts = facts p n uses known env environment w m turns fs within fit.1 earlier f first all.0 vs before_entry h in
         let start = starts p n uses known env environment w m turns fs within fit.1 earlier f first all.0 vs before_entry (has_types_length env.parts f.function.argument_types vs h) in

@@ -197,5 +197,6 @@ rows_hold =
         written = record { fits = refl; text = refl; module_run = refl; text_run = refl };
         line = refl;
         value = refl;
+        operator = refl;
       };
     }

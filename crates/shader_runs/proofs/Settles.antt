@@ -7,8 +7,9 @@ use Rattle.std.proofs.Math.Nat.{eq-or-lt_of_le}
 use Rattle.std.specs.Prelude.{option_and_then}
 use Rattle.shader_runs.specs.Value.{Bytes, same_bytes, PartTypes, Place, Selector, Value}
 use Rattle.shader_runs.specs.Value.{ShortCircuit, truth_in, integer_in, place_in, place_at, place_to}
-use Rattle.shader_runs.specs.World.{Event, Entry, Write, entries, World, Meaning, bind}
-use Rattle.shader_runs.specs.Outcome.{OutOfTurns, Outcome, Done, Continued, Broke, Returned}
+use Rattle.shader_runs.specs.Value.{place_type, takes_several}
+use Rattle.shader_runs.specs.World.{Event, Entry, Read, Write, entries, World, Meaning, bind}
+use Rattle.shader_runs.specs.Outcome.{Stuck, OutOfTurns, Outcome, Done, Continued, Broke, Returned}
 use Rattle.shader_runs.specs.Outcome.{Stopped, ReachedOrHalted, Gives, Halts, answer, Next}
 use Rattle.shader_runs.specs.Outcome.{and_then}
 use Rattle.shader_runs.specs.Outcome.{and_continue, within, turn, and_again, turns, after_switch}
@@ -28,7 +29,7 @@ use Rattle.shader_runs.specs.TextRun.{index_into, part_picked, undecided_reached
 use Rattle.shader_runs.specs.TextRun.{evaluate, evaluate_all, value_of, with_value, with_place}
 use Rattle.shader_runs.specs.TextRun.{perform_outcome, has_continue, break_line, return_line, among}
 use Rattle.shader_runs.specs.TextRun.{group_has, follow, follow_all, follow_in_loop, follow_groups}
-use Rattle.shader_runs.specs.TextRun.{with_parameters}
+use Rattle.shader_runs.specs.TextRun.{with_parameters, place_picked, is_operation}
 use Rattle.shader_runs.specs.TextRun.{with_variables, put_first, first_followed, first_of_each}
 use Rattle.shader_runs.specs.TextRun.{entered_by, follow_body, follow_call, WordUse, NamesFunction}
 use Rattle.shader_runs.specs.TextRun.{AsksForEvent, Operates, MeansNothing, respond_by_use}
@@ -325,15 +326,15 @@ module _ (k : ℕ) where
       go (Returned v e) = same here
       go (Stopped x e) = same here
 
-  module _ (parts : PartTypes) (w : World) (m : Meaning) (r r' : Bytes → List Value → List Event →
+  module _ (parts : PartTypes) (w : World) (m : Meaning) (operates : Bytes → Bool) (r r' : Bytes → List Value → List Event →
       ReachedOrHalted (Option Value))
       (responds : (word : Bytes) (vs : List Value) (t : List Event) →
       SettlesReached t (r word vs t) (r' word vs t)) where
     abbrev l : Words
-    l = record { parts = parts; world = w; meaning = m; respond = r }
+    l = record { parts = parts; world = w; meaning = m; operates = operates; respond = r }
 
     abbrev l' : Words
-    l' = record { parts = parts; world = w; meaning = m; respond = r' }
+    l' = record { parts = parts; world = w; meaning = m; operates = operates; respond = r' }
 
     word_settles : (word : Bytes) (names : Scope) {t : List Event}
         {q q' : ReachedOrHalted (List Value)} → SettlesReached t q q' →
@@ -358,8 +359,16 @@ module _ (k : ℕ) where
     addressed_next (Gives (IsValue v) e) = same here
     addressed_next (Halts x e) = same here
 
-    picked_next : (x : Selector) (q : ReachedOrHalted Denotation) → SettlesReached (reached_events q) (part_picked parts m x q) (part_picked parts m x q)
-    picked_next x (Gives (IsPlace p) e) = reach_settles (option_map IsPlace (place_to parts p x)) e
+    picked_next : (x : Selector) (q : ReachedOrHalted Denotation) → SettlesReached (reached_events q) (part_picked parts w m x q) (part_picked parts w m x q)
+    picked_next x (Gives (IsPlace p) e) = by (place_to parts p x)
+      where
+        several : (b : Bool) (read : ReachedOrHalted Denotation) → SettlesReached e read read → SettlesReached e (cond b read (Halts Stuck e)) (cond b read (Halts Stuck e))
+        several true read h = h
+        several false read h = same here
+
+        by : (o : Option Place) → SettlesReached e (place_picked parts w m x p e o) (place_picked parts w m x p e o)
+        by (Some q) = same here
+        by None = several (takes_several (parts (place_type parts p)) x) _ (widen (later here) (unless_settles (place_in (w e (Read p))) (Read p ∷ e) (same here)))
     picked_next x (Gives (IsValue v) e) = unless_settles (place_in v) e (same here)
     picked_next x (Halts y e) = same here
 
@@ -375,7 +384,7 @@ module _ (k : ℕ) where
       tree_settles (Index a i) names t =
           indexed_settles parts m (λ e. read_value w (evaluate l i names e)) (λ e. read_value w (evaluate l' i names e)) (λ e. valued_settles w (tree_settles i names e)) (tree_settles a names t)
       tree_settles (PartOf x a) names t =
-          onward (part_picked parts m x) (part_picked parts m x) (λ e. refl) (picked_next x) (tree_settles a names t)
+          onward (part_picked parts w m x) (part_picked parts w m x) (λ e. refl) (picked_next x) (tree_settles a names t)
       tree_settles (LogicalOf j a b) names t =
           logical_settles m j (λ e. read_value w (evaluate l b names e))
           (λ e. read_value w (evaluate l' b names e))
@@ -390,9 +399,10 @@ module _ (k : ℕ) where
     value_settles : (a : Tree) (names : Scope) (t : List Event) → SettlesReached t (value_of l a names t) (value_of l' a names t)
     value_settles a names t = valued_settles w (tree_settles a names t)
 
-    performed_next : (names : Scope) (q : ReachedOrHalted (Option Value)) → SettlesOutcome (reached_events q) (perform_outcome names q) (perform_outcome names q)
-    performed_next names (Gives v e) = same here
-    performed_next names (Halts x e) = same here
+    performed_next : (b : Bool) (names : Scope) (q : ReachedOrHalted (Option Value)) → SettlesOutcome (reached_events q) (perform_outcome b names q) (perform_outcome b names q)
+    performed_next true names (Gives v e) = same here
+    performed_next false names (Gives v e) = same here
+    performed_next b names (Halts x e) = same here
 
     break_settles : (o : Option Tree) → SettlesNext (break_line l o) (break_line l' o)
     break_settles None names t = same here
@@ -465,7 +475,7 @@ module _ (k : ℕ) where
         line_settles (ReturnLine o) names t = return_settles o names t
         line_settles DiscardLine names t = same (later here)
         line_settles (Perform word es) names t =
-            onward (perform_outcome names) (perform_outcome names) (λ e. refl) (performed_next names) (word_settles word names (trees_settle es names t))
+            onward (perform_outcome (operates word) names) (perform_outcome (operates word) names) (λ e. refl) (performed_next (operates word) names) (word_settles word names (trees_settle es names t))
 
         lines_settle : (ls : Lines) → SettlesNext (follow_all l k ls) (follow_all l' n ls)
         lines_settle last names t = same here
@@ -553,7 +563,7 @@ module _ (k : ℕ) where
       let callee = call_settles parts outer w m uses n less fs in
       cond_settles (same_bytes word f.name)
       _ _ _ _ (called_settles (nat_eq (length vs) (length f.parameters)) t
-      _ _ (body_settles parts w m (follow_call parts outer w m uses k fs) (follow_call parts outer w m uses n fs)
+      _ _ (body_settles parts w m (λ word. is_operation (uses word)) (follow_call parts outer w m uses k fs) (follow_call parts outer w m uses n fs)
       callee n less (length fs) f vs (with_parameters f.parameters vs outer) t))
       (callee word vs t)
 

@@ -23,6 +23,7 @@ use Rattle.shader_runs.specs.ProgramRun.{has_label, label_if, run, run_all, run_
 use Rattle.shader_runs.specs.Text.{Lines}
 use Rattle.shader_runs.specs.TextRun.{IsValue, Scope, read_value, as_value, word_reached}
 use Rattle.shader_runs.specs.TextRun.{perform_outcome, evaluate_all, value_of, with_value}
+use Rattle.shader_runs.specs.TextRun.{AsksForEvent, respond_by_use}
 use Rattle.shader_runs.specs.TextRun.{break_line, return_line, among, group_has, follow_all}
 use Rattle.shader_runs.specs.TextRun.{follow_in_loop, follow_groups}
 use Rattle.shader_runs.specs.Scope.{usable_all, is_present, Bound, Handles, Names, usable}
@@ -331,10 +332,13 @@ module _ (p : Module) (c : Call) (n : Names) (d : Respond) (facts : Facts p c n 
   asks_alike s s2 names kept r held2 f tail (w ∷ ws) m next t =
       let rest = Follow (perform_each ws tail) in
       subst (λ q. Same c n s kept s2 held2 (and_then (ask_each ws kept (Ask w [] ∷ t)) f)
-      (and_then (perform_outcome names q) rest))
-      (sym (ap (λ o. unless o t (d w [] t)) (free p c n d facts s names kept r w m.0.1.1)
+      (and_then (perform_outcome (d.0 w) names q) rest))
+      (sym (ap (λ o. unless o t (d.1 w [] t)) (free p c n d facts s names kept r w m.0.1.1)
       ∙ request_responds p c n d facts.responds w m.0 [] t))
-      (asks_alike s s2 names kept r held2 f tail ws m.1 next (Ask w [] ∷ t))
+      (subst (λ b. Same c n s kept s2 held2 (and_then (ask_each ws kept (Ask w [] ∷ t)) f)
+      (and_then (perform_outcome b names (respond_by_use AsksForEvent c.world c.meaning w [] t)) rest))
+      (sym (facts.responds.asking w m.0))
+      (asks_alike s s2 names kept r held2 f tail ws m.1 next (Ask w [] ∷ t)))
 
   barrier_row : (k : ℕ) (bits : BarrierBits) (s : Handles) → Row k (Barrier bits) s
   barrier_row k bits s names kept t held2 s2 f tail r m next =
@@ -347,17 +351,26 @@ module _ (p : Module) (c : Call) (n : Names) (d : Respond) (facts : Facts p c n 
   action_responds : (a : Action) (xs : List ℕ) (result : Option ℕ) →
       ActionFits p c.callees (naming c n) a xs result →
       (vs : List Value) → IsTrue (has_types c.environment.parts (handle_types c.function xs) vs) →
-      (t : List Event) → Answers (ActionReturns c a) (action_answer c a vs t) (d (word_of n a) vs t)
-  action_responds (Asked w) xs result m vs h t = as_answer (action_answer c (Asked w) vs t) (d w vs t) (request_responds p c n d facts.responds w m vs t) tt
+      (t : List Event) → Answers (ActionReturns c a) (action_answer c a vs t) (d.1 (word_of n a) vs t)
+  action_responds (Asked w) xs result m vs h t = as_answer (action_answer c (Asked w) vs t) (d.1 w vs t) (request_responds p c n d facts.responds w m vs t) tt
   action_responds (Called g) xs result m vs h t = go (function_numbered c.callees g) refl m.2
     where
-      go : (o : Option Function) → function_numbered c.callees g ≡ o → CallFits c.function o xs result → Answers (ReturnsOf c.environment.parts o) (c.calls g vs t) (d (n.outer.function g) vs t)
+      go : (o : Option Function) → function_numbered c.callees g ≡ o → CallFits c.function o xs result → Answers (ReturnsOf c.environment.parts o) (c.calls g vs t) (d.1 (n.outer.function g) vs t)
       go None e w = absurd w
       go (Some callee) e w = facts.responds.calls g callee e vs (subst (λ ts. IsTrue (has_types c.environment.parts ts vs)) w.0 h) t
 
   not_hidden : (a : Action) (xs : List ℕ) (result : Option ℕ) → ActionFits p c.callees (naming c n) a xs result → IsNoName p (naming c n) (word_of n a)
   not_hidden (Asked w) xs result m = m.1.1
   not_hidden (Called g) xs result m = m.1
+
+  -- and it is no operator
+  action_is_line : (a : Action) (xs : List ℕ) (result : Option ℕ) → ActionFits p c.callees (naming c n) a xs result → d.0 (word_of n a) ≡ false
+  action_is_line (Asked w) xs result m = facts.responds.asking w m
+  action_is_line (Called g) xs result m = go (function_numbered c.callees g) refl m.2
+    where
+      go : (o : Option Function) → function_numbered c.callees g ≡ o → CallFits c.function o xs result → d.0 (n.outer.function g) ≡ false
+      go None e w = absurd w
+      go (Some callee) e w = facts.responds.calling g callee e
 
   responded_written : (s : Handles) (names : Scope) (kept : KeptValues) → Related c n s names kept →
       (a : Action) (xs : List ℕ) (result : Option ℕ) →
@@ -372,14 +385,14 @@ module _ (p : Module) (c : Call) (n : Names) (d : Respond) (facts : Facts p c n 
       subst (λ q. Answers (ActionReturns c a) (action_answer c a vs t)
       (word_reached (words c d) (word_of n a) names t q)) (sym there)
       (subst (λ o. Answers (ActionReturns c a) (action_answer c a vs t)
-      (unless o t (d (word_of n a) vs t)))
+      (unless o t (d.1 (word_of n a) vs t)))
       (sym (free p c n d facts s names kept r (word_of n a) (not_hidden a xs result m)))
       (action_responds a xs result m vs h t))
 
   performed_same : (s : Handles) (names : Scope) (kept : KeptValues) (a : Action)
       (q : ReachedOrHalted (Option Value)) → Related c n s names kept →
       SameLine c n s kept false (with_result c.environment.parts c.function a None kept q)
-      (perform_outcome names q)
+      (perform_outcome false names q)
   performed_same s names kept a (Gives v t) r = done (r, agree_refl s kept)
   performed_same s names kept a (Halts x t) r = stopped
 
@@ -387,7 +400,7 @@ module _ (p : Module) (c : Call) (n : Names) (d : Respond) (facts : Facts p c n 
       (q q' : ReachedOrHalted (Option Value)) → Answers (ActionReturns c a) q q' →
       Related c n s names kept →
       SameLine c n s kept false (with_result c.environment.parts c.function a None kept q)
-      (perform_outcome names q')
+      (perform_outcome false names q')
   performed_alike s names kept a q q' (same_answer h) r = performed_same s names kept a q r
   performed_alike s names kept a q q' mistyped_answer r = mistyped
 
@@ -398,9 +411,11 @@ module _ (p : Module) (c : Call) (n : Names) (d : Respond) (facts : Facts p c n 
       row c n s names kept r false held2 s2 _ _ f (Follow tail)
       (subst (λ os. SameLine c n s kept false
       (or_stuck os t (λ vs. with_result c.environment.parts c.function a None kept
-      (action_answer c a vs t))) (perform_outcome names q')) (sym v.1)
+      (action_answer c a vs t))) (perform_outcome (d.0 (word_of n a)) names q')) (sym v.1)
+      (subst (λ b. SameLine c n s kept false (with_result c.environment.parts c.function a None kept (action_answer c a v.0 t)) (perform_outcome b names q'))
+      (sym (action_is_line a xs None m.1))
       (performed_alike s names kept a (action_answer c a v.0 t) q'
-      (responded_written s names kept r a xs None m.1 m.0 v.0 v.1 v.2 t) r)) next
+      (responded_written s names kept r a xs None m.1 m.0 v.0 v.1 v.2 t) r))) next
 
   abbrev bound_to : Scope → Bytes → Next Scope → ReachedOrHalted (Option Value) → Outcome Scope
   bound_to names x g q =

@@ -110,7 +110,13 @@ scope_after l text s (suc n) = scope_with (initialiser_value l (scope_after l te
 -- what words do in the initialisers of a text
 abbrev pub initialiser_words : TextModule → PartTypes → World → Meaning → Vocabulary → Words
 initialiser_words text parts w m vocabulary =
-    record { parts = parts; world = w; meaning = m; respond = operate text m vocabulary }
+    record {
+      parts = parts;
+      world = w;
+      meaning = m;
+      operates = vocabulary.is_operator;
+      respond = operate text m vocabulary;
+    }
 
 -- the names of a text: as many rounds as it has named constants
 abbrev pub module_scope :
@@ -135,8 +141,8 @@ abbrev pub module_initialiser_value :
     Module → Settings → Meaning → ConstantTree → Option Value
 module_initialiser_value p s m e = constant_value (environment_of p s m) m e
 
--- the run of a function of the text, by its name. What types are made of is told to it, and told
--- alike to the module's run: a text's structs are declared with the members of the module's
+-- the run of a function of the text, by its name. What types are made of is told to it. That its
+-- structs are declared with the members that a module has is not asked here, but by an interface
 abbrev pub follow_module :
     TextModule → PartTypes → Settings → World → Meaning → Vocabulary → (turns : ℕ) →
     (name : Bytes) → List Value → List Event → ReachedOrHalted (Option Value)

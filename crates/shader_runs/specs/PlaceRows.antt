@@ -6,7 +6,7 @@ use Rattle.std.specs.Prelude.{IsTrue, codes}
 use Rattle.shader_runs.specs.Value.{Bytes, same_bytes, NoParts, Elements, Components, Members}
 use Rattle.shader_runs.specs.Value.{PartTypes, Selector, MemberNamed, ElementAt, Step, At, Field}
 use Rattle.shader_runs.specs.Value.{step_to, step_at, place_type, Place, Rooted, GlobalRoot, Part}
-use Rattle.shader_runs.specs.Value.{PointerType, Value, Pointer}
+use Rattle.shader_runs.specs.Value.{PointerType, Value, Pointer, PartWord}
 use Rattle.shader_runs.specs.World.{Read, Write, Settings}
 use Rattle.shader_runs.specs.Outcome.{ReachedOrHalted, Gives}
 use Rattle.shader_runs.specs.Program.{Fixed, NamedConstant, AtPlace, Module, Constant, Argument}
@@ -24,8 +24,8 @@ use Rattle.shader_runs.specs.Rows.{x_name, entered_with, stuck_behind_entry}
 
 -- ---- what types are made of
 
--- pointers to a number, to a vector of two numbers,
--- to an array, and to a struct with a member `x`
+-- pointers to a number, to a vector of two numbers, to an array of four
+-- and one of any number, and to a struct with a member `x`
 abbrev pub private_i32 : Bytes
 private_i32 = codes "ptr<private, i32>"
 
@@ -35,6 +35,9 @@ private_vector = codes "ptr<private, vec2<i32>>"
 abbrev pub private_array : Bytes
 private_array = codes "ptr<private, array<i32, 4>>"
 
+abbrev pub private_unsized : Bytes
+private_unsized = codes "ptr<private, array<i32>>"
+
 abbrev pub private_struct : Bytes
 private_struct = codes "ptr<private, Cell>"
 
@@ -42,23 +45,33 @@ private_struct = codes "ptr<private, Cell>"
 abbrev pub row_parts : PartTypes
 row_parts whole =
     cond (same_bytes whole private_vector) (Components 2 private_i32)
-    (cond (same_bytes whole private_array) (Elements private_i32)
-    (cond (same_bytes whole private_struct) (Members ((x_name, private_i32) ∷ [])) NoParts))
+    (cond (same_bytes whole private_array) (Elements (Some 4) private_i32)
+    (cond (same_bytes whole private_unsized) (Elements None private_i32)
+    (cond (same_bytes whole private_struct) (Members ((x_name, private_i32) ∷ [])) NoParts)))
 
 -- ---- which steps lead into them
 
--- `.x`, `.w`, `[0]` and `[2]`
+-- `.x`, `.w`, `.yx`, `.xw`, `[0]`, `[2]` and `[4]`
 abbrev pub dot_x : Selector
 dot_x = MemberNamed x_name
 
 abbrev pub dot_w : Selector
 dot_w = MemberNamed (codes "w")
 
+abbrev pub dot_yx : Selector
+dot_yx = MemberNamed (codes "yx")
+
+abbrev pub dot_xw : Selector
+dot_xw = MemberNamed (codes "xw")
+
 abbrev pub at_0 : Selector
 at_0 = ElementAt 0
 
 abbrev pub at_2 : Selector
 at_2 = ElementAt 2
+
+abbrev pub at_4 : Selector
+at_4 = ElementAt 4
 
 -- the step that a selector names in what such a pointer points to
 abbrev pub step_into : (whole : Bytes) → Selector → Option Step
@@ -76,7 +89,10 @@ pub record StepsAreDistinguished : Type 0 where
   pub letter_past_vector : step_into private_vector dot_w ≡ None
   pub number_past_vector : step_into private_vector at_2 ≡ None
   pub number_of_array : step_into private_array at_2 ≡ Some (At (pos 2))
+  pub number_past_array : step_into private_array at_4 ≡ None
+  pub number_of_unsized : step_into private_unsized at_4 ≡ Some (At (pos 4))
   pub letter_of_array : step_into private_array dot_x ≡ None
+  pub letters_of_vector : step_into private_vector dot_yx ≡ None
   pub member_of_struct : step_into private_struct dot_x ≡ Some (Field x_name)
   pub other_member_of_struct : step_into private_struct dot_w ≡ None
   pub number_of_struct : step_into private_struct at_0 ≡ None
@@ -123,19 +139,30 @@ abbrev pub reads_part : (whole : Bytes) → Step → ReachedOrHalted (Option Val
 reads_part whole step =
     Gives (Some (number 7)) (Read (Part (v_place whole) step) ∷ entered_with [] [])
 
+-- what the meaning has for several components, after this vector was read
+abbrev pub reads_several : (whole : Bytes) → ReachedOrHalted (Option Value)
+reads_several whole =
+    Gives (Some (row_meaning (PartWord dot_yx) (number 7 ∷ [])))
+    (Read (v_place whole) ∷ entered_with [] [])
+
 -- what a module has for a part of `v`
 abbrev pub part_in_module : (whole : Bytes) → Selector → Option Value
 part_in_module whole x =
     combined_value row_parts row_meaning (Some (AccessIndex x 0)) (Pointer (v_place whole) ∷ [])
 
--- a text reads a part that is there, and is stuck where there is none. A module has no value there,
--- and is stuck where one is wanted
+-- a text reads a part that is there, reads a vector of which it takes several components, and is
+-- stuck where there is none. A module has no value there, and is stuck where one is wanted
 pub record PartsAreReached : Type 0 where
   pub letter_of_vector : follow_part private_vector dot_x ≡ reads_part private_vector (At (pos 0))
   pub number_of_vector : follow_part private_vector at_0 ≡ reads_part private_vector (At (pos 0))
   pub number_of_array : follow_part private_array at_2 ≡ reads_part private_array (At (pos 2))
   pub member_of_struct : follow_part private_struct dot_x ≡ reads_part private_struct (Field x_name)
   pub letter_past_vector : follow_part private_vector dot_w ≡ stuck_behind_entry []
+  pub letters_of_vector : follow_part private_vector dot_yx ≡ reads_several private_vector
+  pub letters_past_vector : follow_part private_vector dot_xw ≡ stuck_behind_entry []
+  pub letters_of_array : follow_part private_array dot_yx ≡ stuck_behind_entry []
+  pub number_past_array : follow_part private_array at_4 ≡ stuck_behind_entry []
+  pub number_of_unsized : follow_part private_unsized at_4 ≡ reads_part private_unsized (At (pos 4))
   pub letter_of_array : follow_part private_array dot_x ≡ stuck_behind_entry []
   pub number_of_struct : follow_part private_struct at_0 ≡ stuck_behind_entry []
   pub letter_of_number : follow_part private_i32 dot_x ≡ stuck_behind_entry []
@@ -145,6 +172,7 @@ pub record PartsAreReached : Type 0 where
       part_in_module private_struct dot_x
       ≡ Some (Pointer (Part (v_place private_struct) (Field x_name)))
   pub none_in_module : part_in_module private_array dot_x ≡ None
+  pub none_past_end_in_module : part_in_module private_array at_4 ≡ None
 
 -- ---- a module with a named constant and a variable
 

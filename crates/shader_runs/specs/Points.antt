@@ -13,7 +13,7 @@ use Rattle.shader_runs.specs.Program.{Statement, Emit, If, Switch, Loop, Stateme
 use Rattle.shader_runs.specs.Program.{Cases, no_case, case, Function, from, Module}
 use Rattle.shader_runs.specs.ProgramRun.{Call, KeptValues, used_value, constants_kept, run_call}
 use Rattle.shader_runs.specs.TextRun.{IsValue, Scope, Words, value_of, with_parameters}
-use Rattle.shader_runs.specs.TextRun.{with_variables, word_use, follow_call}
+use Rattle.shader_runs.specs.TextRun.{with_variables, word_use, is_operation, follow_call}
 use Rattle.shader_runs.specs.Scope.{Bound, Handles, ModuleNames, Naming, usable, named_by}
 use Rattle.shader_runs.specs.Scope.{named_by_all, after, after_emit, after_all, at_start}
 use Rattle.shader_runs.specs.Scope.{named_after_all}
@@ -63,6 +63,7 @@ words_of parts outer n all w m turns fs =
       parts = parts;
       world = w;
       meaning = m;
+      operates = λ word. is_operation (uses word);
       respond = follow_call parts outer w m uses turns (form_functions fs);
     }
 

@@ -649,7 +649,7 @@ pub record AreDistinguished : Type 0 where
       Follows (select_text (codes "a") (codes "b")) select_values (
       Gives (Some (number 2)) (entered_with select_values []))
 
--- ---- words that are no function's name, no request and no operator
+-- ---- words that are no function's name and no request
 
 -- returns 1
 abbrev pub one_function : Function
@@ -666,14 +666,19 @@ unknown_call = call_of (codes "frobnicate") []
 abbrev pub unknown_line : Line
 unknown_line = perform (codes "frobnicate") []
 
+-- a line that performs an operator
+abbrev pub operator_line : Line
+operator_line = perform (codes "select") (digits 1 ∷ digits 2 ∷ [])
+
 -- the module and its own text return 1. Behind a line that calls an unknown word, or one that wants
--- a value of it, a text is stuck
+-- a value of it, a text is stuck. So it is behind a line that performs an operator
 pub record UnknownWordsAreStuck : Type 0 where
   pub written :
       IsShownAlone (only (codes "f") [] [] one_function) (one_text []) []
       (Gives (Some (number 1)) (entered_with [] []))
   pub line : Follows (one_text (unknown_line ∷ [])) [] (stuck_behind_entry [])
   pub value : Follows (one_text (let_own 0 unknown_call ∷ [])) [] (stuck_behind_entry [])
+  pub operator : Follows (one_text (operator_line ∷ [])) [] (stuck_behind_entry [])
 
 -- ---- the rows together
 

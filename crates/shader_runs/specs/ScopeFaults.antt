@@ -40,7 +40,8 @@ pub data UsesAt (f : Function) (at : Point) : Statement → Point → ℕ → Ty
   operand : {act : Action} {xs : List ℕ} {result : Option ℕ} {h : ℕ} (k : ℕ) →
       slice_get xs k ≡ Some h → UsesAt f at (Act act xs result) at h
 
--- a statement that stands at the first point gives this, at the second point
+-- a statement that stands at the first point gives this, at the second point. An Emit gives each
+-- handle that it names, also a read that it does not bring into scope
 pub data GivesAt (f : Function) (at : Point) : Statement → Point → IntroducedHandle → Type 0 where
   emitted : {first count : ℕ} (i : ℕ) → i < count →
       GivesAt f at (Emit first count) (after_some f first i at) (Emitted (first + i))

@@ -11,7 +11,8 @@
 use Rattle.std.specs.Prelude.{ℕ, suc, Bool, true, false, cond, nat_eq, List, [], ◌∷◌, length}
 use Rattle.std.specs.Prelude.{option_map, option_and_then, Option, Some, None, ◌||◌}
 use Rattle.shader_runs.specs.Value.{Bytes, same_bytes, PartTypes, Place, Rooted, GlobalRoot}
-use Rattle.shader_runs.specs.Value.{LocalRoot, integer_in, place_in, place_at, place_to, Selector}
+use Rattle.shader_runs.specs.Value.{LocalRoot, integer_in, place_in, place_at, place_to, place_type}
+use Rattle.shader_runs.specs.Value.{Selector, takes_several}
 use Rattle.shader_runs.specs.Value.{Value, Pointer}
 use Rattle.shader_runs.specs.Value.{Spelled, PartWord, IndexWord, ShortCircuit}
 use Rattle.shader_runs.specs.World.{Event, Entry, Ask, Read, Write, Discard, entries, World}
@@ -40,12 +41,13 @@ pub data Denotation : Type 0 where
 abbrev pub Scope : Type 0
 Scope = Bytes → Option Denotation
 
--- the parts of places, and what a word with operands does: a function's name, a word that asks for
--- an event, or an operator
+-- the parts of places; which words are operators; and what a word with operands does: a
+-- function's name, a word that asks for an event, or an operator
 pub record Words : Type 0 where
   pub parts : PartTypes
   pub world : World
   pub meaning : Meaning
+  pub operates : Bytes → Bool
   pub respond : Bytes → List Value → List Event → ReachedOrHalted (Option Value)
 
 -- a reference where a value is wanted is read
@@ -112,13 +114,29 @@ index_into parts m (Halts x t) rest = Halts x t
 index_into parts m (Gives (IsPlace p) t) rest = part_reached parts p (rest t)
 index_into parts m (Gives (IsValue v) t) rest = unless (place_in v) t (index_reached m v (rest t))
 
--- a member or an element, if the place has it; a pointer has none
-abbrev pub part_picked : PartTypes → Meaning → Selector → ReachedOrHalted Denotation →
+-- a member, an element or several components of a value; a pointer has none
+abbrev pub value_picked : Meaning → Selector → Value → List Event → ReachedOrHalted Denotation
+value_picked m x v t = unless (place_in v) t (Gives (IsValue (m (PartWord x) (v ∷ []))) t)
+
+-- several components are no part of a vector's place: the vector is read
+abbrev pub components_picked :
+    PartTypes → World → Meaning → Selector → Place → List Event → ReachedOrHalted Denotation
+components_picked parts w m x p t =
+    cond (takes_several (parts (place_type parts p)) x)
+    (value_picked m x (w t (Read p)) (Read p ∷ t)) (Halts Stuck t)
+
+-- a part of a place, if the place has it
+abbrev pub place_picked : PartTypes → World → Meaning → Selector → Place → List Event →
+    Option Place → ReachedOrHalted Denotation
+place_picked parts w m x p t (Some q) = Gives (IsPlace q) t
+place_picked parts w m x p t None = components_picked parts w m x p t
+
+-- what a selector picks out of a place or a value
+abbrev pub part_picked : PartTypes → World → Meaning → Selector → ReachedOrHalted Denotation →
     ReachedOrHalted Denotation
-part_picked parts m x (Halts y t) = Halts y t
-part_picked parts m x (Gives (IsPlace p) t) = reach (option_map IsPlace (place_to parts p x)) t
-part_picked parts m x (Gives (IsValue v) t) =
-    unless (place_in v) t (Gives (IsValue (m (PartWord x) (v ∷ []))) t)
+part_picked parts w m x (Halts y t) = Halts y t
+part_picked parts w m x (Gives (IsPlace p) t) = place_picked parts w m x p t (place_to parts p x)
+part_picked parts w m x (Gives (IsValue v) t) = value_picked m x v t
 
 -- the right side was evaluated
 abbrev pub undecided_reached : Meaning → ShortCircuit → Value → ReachedOrHalted Value →
@@ -145,7 +163,7 @@ abbrev mutual
   evaluate l (Index e i) names t =
       index_into l.parts l.meaning (evaluate l e names t)
       (λ t1. read_value l.world (evaluate l i names t1))
-  evaluate l (PartOf x e) names t = part_picked l.parts l.meaning x (evaluate l e names t)
+  evaluate l (PartOf x e) names t = part_picked l.parts l.world l.meaning x (evaluate l e names t)
   evaluate l (LogicalOf j a b) names t =
       logical_reached l.meaning j (read_value l.world (evaluate l a names t))
       (λ t1. read_value l.world (evaluate l b names t1))
@@ -172,10 +190,12 @@ with_place (Halts x t) go = Stopped x t
 with_place (Gives (IsValue v) t) go = Stopped Stuck t
 with_place (Gives (IsPlace p) t) go = go p t
 
--- a call whose result is not wanted
-abbrev pub perform_outcome : Scope → ReachedOrHalted (Option Value) → Outcome Scope
-perform_outcome names (Halts x t) = Stopped x t
-perform_outcome names (Gives v t) = Done names t
+-- a call whose result is not wanted. What an operator gives is wanted: it is no line by itself
+abbrev pub perform_outcome :
+    (operates : Bool) → Scope → ReachedOrHalted (Option Value) → Outcome Scope
+perform_outcome operates names (Halts x t) = Stopped x t
+perform_outcome true names (Gives v t) = Stopped Stuck t
+perform_outcome false names (Gives v t) = Done names t
 
 abbrev mutual
   -- a `continue` of the loop in whose body the line stands
@@ -245,7 +265,7 @@ abbrev mutual
   follow l n (ReturnLine e) names t = return_line l e names t
   follow l n DiscardLine names t = Stopped Discarded (Discard ∷ t)
   follow l n (Perform w es) names t =
-      perform_outcome names (word_reached l w names t (evaluate_all l es names t))
+      perform_outcome (l.operates w) names (word_reached l w names t (evaluate_all l es names t))
 
   -- lines in their order
   pub follow_all : Words → ℕ → Lines → Next Scope
@@ -304,6 +324,11 @@ pub data WordUse : Type 0 where
   AsksForEvent : WordUse
   Operates : WordUse
   MeansNothing : WordUse
+
+-- it is an operator
+abbrev pub is_operation : WordUse → Bool
+is_operation Operates = true
+is_operation _ = false
 
 -- what a word does that is the name of no function which stands before.
 -- A function behind can't be called, nor a word that means nothing
@@ -377,6 +402,7 @@ follow_call parts outer w m uses n (f ∷ fs) word vs t =
       parts = parts;
       world = w;
       meaning = m;
+      operates = λ word. is_operation (uses word);
       respond = follow_call parts outer w m uses n fs;
     } in
     let scope = with_parameters f.parameters vs outer in

@@ -1,7 +1,8 @@
 -- When a module's operators are typed consistently.
 --
 -- Throughout, p is a module, f a function, h a handle, e a constant tree, w a word, xs are
--- operands, k is a type, x and y are signatures, i is an index and z an integer.
+-- operands, k is a type, x and y are signatures, x is a selector too, b a base, i an index, z an
+-- integer and whole the spelling of a pointer; parts are those of all places, own those of one.
 use Rattle.std.specs.Prelude.{◌≡◌, ℕ, ℤ, List, [], ◌∷◌, ◌++◌, Option, Some, None, slice_get}
 use Rattle.shader_runs.specs.Value.{Parts, PartTypes, Step, Selector, MemberNamed, part_pointer}
 use Rattle.shader_runs.specs.Value.{step_to, step_at, ValueType, BooleanType, IntegerType}
@@ -65,8 +66,8 @@ pub data IsSpelled (p : Module) (x : Signature) : Type 0 where
 
 -- there is such a step, and this is the type of a pointer to the part that it leads to
 abbrev pub IsPart : Parts → Option Step → ValueType → Type 0
-IsPart whole None k = ⊥
-IsPart whole (Some step) k = k ≡ PointerType (part_pointer whole step)
+IsPart own None k = ⊥
+IsPart own (Some step) k = k ≡ PointerType (part_pointer own step)
 
 -- an integer's index through a pointer gives a pointer to
 -- the part, which is of one type whatever the index is

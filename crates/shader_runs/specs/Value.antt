@@ -1,11 +1,12 @@
 -- Spelled words, places and values with their types.
 --
 -- Throughout, v is a value (vs are several) and t a type (ts are
--- several), b a truth value, z an integer, p a place and i an index;
+-- several), b a truth value, z an integer, p a place, i an index, and a and b are letters;
 -- m, n, x, y and a, b in a test of equality are what it compares.
 use Rattle.std.specs.Prelude.{ℕ, ℤ, pos, negsuc, Bool, true, false, cond, nat_eq, nat_lt, List, []}
 use Rattle.std.specs.Prelude.{◌∷◌, Option, Some, None, option_map, option_and_then, unwrap_or}
-use Rattle.std.specs.Prelude.{◌&&◌, get_or, codes}
+use Rattle.std.specs.Prelude.{◌&&◌, get_or, codes, length}
+use Rattle.std.specs.Option.{option_map_or}
 
 -- the bytes of a name or of a spelled word
 abbrev pub Bytes : Type 0
@@ -46,12 +47,12 @@ pub data Place : Type 0 where
   Rooted : Root → Place
   Part : Place → Step → Place
 
--- what a place is made of, with the spelling of a pointer to each part: of nothing
--- that a step leads to; of elements or columns, by their numbers; of a vector's
--- components, by their numbers or letters; or of a struct's members, by their words
+-- what a place is made of, with the spelling of a pointer to each part: of nothing that a step
+-- leads to; of elements or columns, by their numbers, and how many where it is known; of a
+-- vector's components, by their numbers or letters; or of a struct's members, by their words
 pub data Parts : Type 0 where
   NoParts : Parts
-  Elements : (pointer : Bytes) → Parts
+  Elements : (count : Option ℕ) → (pointer : Bytes) → Parts
   Components : (count : ℕ) → (pointer : Bytes) → Parts
   Members : (words_and_pointers : List (Bytes × Bytes)) → Parts
 
@@ -62,13 +63,14 @@ PartTypes = Bytes → Parts
 -- the spelling of a pointer to the first member with this word
 abbrev pub member_pointer : List (Bytes × Bytes) → Bytes → Option Bytes
 member_pointer [] word = None
-member_pointer (m ∷ ms) word = cond (same_bytes word m.0) (Some m.1) (member_pointer ms word)
+member_pointer (member ∷ members) word =
+    cond (same_bytes word member.0) (Some member.1) (member_pointer members word)
 
--- the spelling of a pointer to the part that a step leads to
+-- the spelling of a pointer to the part that a step leads to, and no bytes where it leads nowhere
 abbrev pub part_pointer : Parts → Step → Bytes
-part_pointer (Elements pointer) (At z) = pointer
+part_pointer (Elements count pointer) (At z) = pointer
 part_pointer (Components count pointer) (At z) = pointer
-part_pointer (Members ms) (Field word) = unwrap_or (member_pointer ms word) []
+part_pointer (Members members) (Field word) = unwrap_or (member_pointer members word) []
 part_pointer _ _ = []
 
 -- the number of the component with this letter
@@ -83,20 +85,38 @@ component_number word =
 abbrev pub step_to_component : (count : ℕ) → ℕ → Option Step
 step_to_component count i = cond (nat_lt i count) (Some (At (pos i))) None
 
+-- the step to an element: where it is known how many there are, it is one of them
+abbrev pub step_to_element : (count : Option ℕ) → ℕ → Option Step
+step_to_element (Some count) i = step_to_component count i
+step_to_element None i = Some (At (pos i))
+
 -- the step that a constant index, a letter or a member's word names, if there is one.
 -- `.x` and `[0]` of a vector are one step, so are `.y` and `[1]`, and so on
 abbrev pub step_to : Parts → Selector → Option Step
-step_to (Elements pointer) (ElementAt i) = Some (At (pos i))
+step_to (Elements count pointer) (ElementAt i) = step_to_element count i
 step_to (Components count pointer) (ElementAt i) = step_to_component count i
 step_to (Components count pointer) (MemberNamed word) =
     option_and_then (step_to_component count) (component_number word)
-step_to (Members ms) (MemberNamed word) =
-    option_map (λ pointer. Field word) (member_pointer ms word)
+step_to (Members members) (MemberNamed word) =
+    option_map (λ pointer. Field word) (member_pointer members word)
 step_to _ _ = None
+
+-- each of these letters names a component of a vector with so many
+abbrev pub are_components : (count : ℕ) → Bytes → Bool
+are_components count [] = true
+are_components count (letter ∷ letters) =
+    option_map_or (λ i. nat_lt i count) (component_number (letter ∷ [])) false
+    && are_components count letters
+
+-- the selector takes several components of a vector, two to four
+abbrev pub takes_several : Parts → Selector → Bool
+takes_several (Components count pointer) (MemberNamed (a ∷ b ∷ letters)) =
+    nat_lt (length letters) 3 && are_components count (a ∷ b ∷ letters)
+takes_several _ _ = false
 
 -- the step to which a computed index leads. An index past the end is not judged here
 abbrev pub step_at : Parts → ℤ → Option Step
-step_at (Elements pointer) z = Some (At z)
+step_at (Elements count pointer) z = Some (At z)
 step_at (Components count pointer) z = Some (At z)
 step_at _ z = None
 

@@ -28,8 +28,8 @@ request_words =
     codes "textureAtomicMin" ∷ codes "textureAtomicMax" ∷ codes "textureAtomicExchange" ∷
     codes "dpdx" ∷ codes "dpdxCoarse" ∷ codes "dpdxFine" ∷ codes "dpdy" ∷ codes "dpdyCoarse" ∷
     codes "dpdyFine" ∷ codes "fwidth" ∷ codes "fwidthCoarse" ∷ codes "fwidthFine" ∷
-    codes "workgroupUniformLoad" ∷ codes "subgroupBallot" ∷ codes "subgroupAll" ∷
-    codes "subgroupAny" ∷ codes "subgroupAdd" ∷ codes "subgroupMul" ∷
+    codes "workgroupUniformLoad" ∷ codes "subgroupElect" ∷ codes "subgroupBallot" ∷
+    codes "subgroupAll" ∷ codes "subgroupAny" ∷ codes "subgroupAdd" ∷ codes "subgroupMul" ∷
     codes "subgroupMax" ∷ codes "subgroupMin" ∷ codes "subgroupAnd" ∷ codes "subgroupOr" ∷
     codes "subgroupXor" ∷
     codes "subgroupExclusiveAdd" ∷ codes "subgroupExclusiveMul" ∷ codes "subgroupInclusiveAdd" ∷
