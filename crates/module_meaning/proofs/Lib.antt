@@ -12,6 +12,7 @@ pub mod FunctionNumbers
 pub mod InterfaceExamples
 mod LayoutExamples
 mod RangeExamples
+pub mod DeclarationForms
 pub mod Layouts
 pub mod Lists
 pub mod ModuleShapeExamples

@@ -96,6 +96,13 @@ pub record HeadHasForm (m : Module) (number : ℕ) : Type 0 where
   pub stage : (p : EntryPoint) → entry_point_numbered m number ≡ Some p →
       IsTrue (stage_has_form p p.stage)
 
+-- The items that a function may name have forms, as far as its runs and what its identifiers stand
+-- for hang on them: the types of variables, and each initialiser.
+pub record ItemsHaveForms (m : Module) : Type 0 where
+  pub variables : (i : ℕ) (v : GlobalVariable) → slice_get m.global_variables i ≡ Some v →
+      IsTrue (is_spellable m (Handle v.ty))
+  pub initialisers : (handle : ℕ) → IsInitialiser m handle → IsTrue (global_is_written m handle)
+
 -- All that the module declares has a form, and no fault stands against a struct that is concerned: a
 -- member that can't be left where it is, or an array of another stride than WGSL gives it.
 pub record DeclarationsHaveForms (m : Module) : Type 0 where

@@ -12,7 +12,7 @@ use Rattle.naga_ir.specs.declared.module.Module.{Module}
 use Rattle.naga_names.specs.declared.key.NameKey.TheVariants as key
 use Rattle.naga_words.specs.Spelling.{is_struct}
 use Rattle.module_meaning.specs.Accepted.{is_accepted}
-use Rattle.module_meaning.specs.DeclarationForms.{DeclarationsHaveForms, OfOverride, OfVariable}
+use Rattle.module_meaning.specs.DeclarationForms.{ItemsHaveForms, OfOverride, OfVariable}
 use Rattle.module_meaning.specs.DeclaredItems.{initialiser_meant, module_initialiser_targets}
 use Rattle.module_meaning.specs.DeclaredItems.{module_stage_targets, resolution_items}
 use Rattle.module_meaning.specs.Names.{LabelNames, module_names}
@@ -59,7 +59,7 @@ plain_names_no_item w plain =
     ∙ (free_parts (type_layout (Named w)) free).no_item
 
 module _ (m : Module) (info : ModuleInfo) (explicit : Bool) (labels : LabelNames)
-    (accepted : IsTrue (is_accepted m info)) (declarations : DeclarationsHaveForms m) where
+    (accepted : IsTrue (is_accepted m info)) (items : ItemsHaveForms m) where
   abbrev program : Program
   program = program_under labels m info explicit
 
@@ -72,7 +72,7 @@ module _ (m : Module) (info : ModuleInfo) (explicit : Bool) (labels : LabelNames
       ≡ map Some (initialiser_meant m info o)
   one_resolves None is = refl
   one_resolves (Some h) is =
-      initialiser_found m info explicit labels accepted declarations h (is h refl)
+      initialiser_found m info explicit labels accepted items h (is h refl)
 
   -- those of declarations in their order, each made of an item by a form that has its initialiser
   each_resolves : {X Y : Type 0} (form : ℕ × X → Y) (value : Y → Option Expression)
@@ -93,10 +93,10 @@ module _ (m : Module) (info : ModuleInfo) (explicit : Bool) (labels : LabelNames
   initialisers_resolve =
       let overrides = each_resolves (override_form (module_names m) (type_names m) m)
       (λ o. o.value) (λ o. o.init) (λ k o. refl) 0 m.overrides
-      (λ i o at h init. declarations.initialisers h (OfOverride i o h at init)) in
+      (λ i o at h init. items.initialisers h (OfOverride i o h at init)) in
       let variables = each_resolves (variable_form (module_names m) (type_names m) m)
       (λ v. v.value) (λ v. v.init) (λ k v. refl) 0 m.global_variables
-      (λ i v at h init. declarations.initialisers h (OfVariable i v h at init)) in
+      (λ i v at h init. items.initialisers h (OfVariable i v h at init)) in
       (λ i. overrides i ++ variables i)
       ∙ sym (map-append (map Some) (map (λ o. initialiser_meant m info o.init) m.overrides)
       (map (λ v. initialiser_meant m info v.init) m.global_variables))
@@ -105,7 +105,7 @@ module _ (m : Module) (info : ModuleInfo) (explicit : Bool) (labels : LabelNames
   pub stages_resolve : stage_targets program ≡ map (map Some) (module_stage_targets m)
   stages_resolve =
       stages_named (module_names m) names (length m.global_variables)
-      (variable_found m info explicit labels accepted declarations) explicit labels m info
+      (variable_found m info explicit labels accepted items) explicit labels m info
       (length m.functions) m.entry_points.items info.entry_points.items
       (entry_points_counted m info accepted) (stage_variables_within m info accepted)
 
@@ -133,7 +133,7 @@ module _ (m : Module) (info : ModuleInfo) (explicit : Bool) (labels : LabelNames
         ap (λ k. option_or (option_map StructItem k) (option_map ValueItem (names w)))
         (ap (struct_named program.structs) name ∙ override_not_found m info explicit labels o lt)
         ∙ ap (option_map ValueItem)
-        (override_found m info explicit labels accepted declarations o lt);
+        (override_found m info explicit labels accepted items o lt);
   }
 
   pub types_resolve : TypesResolve m program

@@ -1,4 +1,4 @@
--- The first functions of a module, whatever stands after them.
+-- The first functions of a module, and one that calls these alone, whatever else stands in the module.
 --
 -- Throughout, count says how many they are, f is a function with the number g, of whose expressions es
 -- is known, and named tells the names of the labels that front ends gave.
@@ -8,26 +8,26 @@ use Rattle.std.specs.Prelude.{IfSome, IsTrue, reverse, slice_get, zip}
 use mathlib.Core.List.{reverse_aux}
 use Rattle.std.proofs.lemmas.List.{length-append, length-map, length-reverse, length-take-le, map-append}
 use Rattle.std.proofs.lemmas.List.{reverse-append, take-append-drop}
-use Rattle.std.proofs.lemmas.Option.{slice_get-map}
+use Rattle.std.proofs.lemmas.Option.{slice_get-map, slice_get_within}
 use Rattle.std.specs.Option.{option_map}
 use Rattle.indexmap.proofs.ReorderLemmas.{map-reverse}
 use Rattle.naga_ir.specs.declared.module.Function as ir_function
 use Rattle.naga_ir.specs.declared.module.Module.{Module}
 use Rattle.naga_info.specs.declared.info.ExpressionInfo.{ExpressionInfo}
 use Rattle.naga_info.specs.declared.info.ModuleInfo.{ModuleInfo}
-use Rattle.shader_runs.specs.Correct.{FirstFit, ItemsFit}
+use Rattle.shader_runs.specs.Correct.{ItemsFit, OneFits}
 use Rattle.shader_runs.specs.Form.{form_function, form_functions, functions_of}
-use Rattle.shader_runs.specs.Premises.{AllFit, FunctionFits}
+use Rattle.shader_runs.specs.Premises.{AllFit, AreRegular, FunctionFits}
 use Rattle.shader_runs.specs.Program as shapes
 use Rattle.shader_runs.specs.Scope.{ModuleNames, Naming}
 use Rattle.shader_runs.specs.ScopeRules.{ScopeHolds}
 use Rattle.shader_runs.specs.Text.{TextFunction}
-use Rattle.shader_runs.proofs.Calls.{first_numbered}
-use Rattle.shader_runs.proofs.Names.{length-functions_of}
+use Rattle.shader_runs.proofs.OneRun.{first_numbered}
+use Rattle.shader_runs.proofs.Names.{length-form_functions, length-functions_of}
 use Rattle.shader_runs.proofs.ScopeRules.{scope_check_is_the_rules}
 use Rattle.text_meaning.specs.Abstraction.{function_read, program_read}
 use Rattle.module_meaning.specs.Accepted.{is_accepted}
-use Rattle.module_meaning.specs.DeclarationForms.{DeclarationsHaveForms}
+use Rattle.module_meaning.specs.DeclarationForms.{ItemsHaveForms}
 use Rattle.module_meaning.specs.FunctionNumbers.{all_functions, all_infos}
 use Rattle.module_meaning.specs.FunctionShapes.{function_shape}
 use Rattle.module_meaning.specs.ModuleShapes.{module_shape}
@@ -36,20 +36,23 @@ use Rattle.module_meaning.specs.Namings.{function_naming, namings_from, outer_na
 use Rattle.module_meaning.specs.Premises.{ScopeHoldsIn, ScopesHoldBefore}
 use Rattle.module_meaning.specs.Written.{WrittenHaveForms, WrittenHaveFormsAt, WrittenHaveFormsBefore}
 use Rattle.module_meaning.proofs.SideBySide.{zip_parts}
-use Rattle.naga_form.specs.Functions.{functions_under}
+use Rattle.naga_form.specs.Functions.{function_form, functions_under}
 use Rattle.naga_form.proofs.Abstraction.{function_reads}
 use Rattle.naga_form.proofs.AcceptedFunctions.{accepted_at, functions_known, of_number}
 use Rattle.naga_form.proofs.AcceptedGroups.{declarations_are, types_are_fit}
 use Rattle.naga_form.proofs.DistinguishedItems.{types_are_distinguished}
-use Rattle.naga_form.proofs.FunctionsFit.{Tells, all_distinguished, function_fits, one_more}
-use Rattle.naga_form.proofs.FunctionsFit.{shape_numbered, worded_at}
+use Rattle.naga_form.proofs.FunctionsFit.{IsLeft, Tells, all_distinguished, function_fits, one_more}
+use Rattle.naga_form.proofs.FunctionsFit.{regular_at, shape_numbered, worded_at}
 use Rattle.naga_form.proofs.ModuleFits.{constants_typed, counts}
 use Rattle.naga_form.proofs.NamedFits.{is_free}
 use Rattle.naga_form.proofs.Ordered.{ordered}
 use Rattle.naga_form.proofs.Runs.{form_functions-map}
 use Rattle.naga_form.proofs.ScopeRules.{functions_of-map, functions_of_namings}
+use Rattle.naga_form.proofs.Splits.{first_of_more, parted_at, reverse_around, turned_at}
+use Rattle.naga_form.proofs.Splits.{turned_first}
 use Rattle.naga_form.proofs.TextItems.{are_forms, forms, items_fit, program}
 use Rattle.naga_form.proofs.WritableModules.{no_case_falls}
+use Rattle.naga_form.proofs.WrittenFunctions.{form_at}
 
 module _ (m : Module) (info : ModuleInfo) (accepted : IsTrue (is_accepted m info)) where
   abbrev p : shapes.Module
@@ -98,6 +101,29 @@ module _ (m : Module) (info : ModuleInfo) (accepted : IsTrue (is_accepted m info
 
   module _ (explicit : Bool) (named : LabelNames) (are : AreLabelNames m named) where
     -- ---- one function, behind those before it
+    left_at : (g : ℕ) (f : ir_function.Function) (es : List ExpressionInfo) →
+        slice_get known g ≡ Some (f, es) → WrittenHaveFormsAt explicit m info g →
+        ScopeHoldsIn m info g → (callees : List shapes.Function) → length callees ≡ g →
+        IsLeft p n callees (function_naming (module_names m) (named g) m info g f es)
+    left_at g f es at have scope callees number =
+        let both = zip_parts (all_functions m) (all_infos info) g (f, es) at in
+        let own = function_naming (module_names m) (named g) m info g f es in
+        let is = accepted_at m info accepted g f es at in
+        let checked =
+        (scope_check_is_the_rules own (ordered m info is.callees f es is.ranges)).1
+        (scope_at g f es at scope) in
+        let free = is_free m info (types_are_fit m info accepted) p (counts m info accepted) g f both.0 (named g)
+        (are g f both.0) es callees number checked in
+        record {
+          outer = free.outer;
+          earlier = free.earlier;
+          words = free.words;
+          worded = worded_at m info accepted false g f es at own.names (omega arith) free.free
+              (have f es both.0 both.1).statements;
+          distinct = free.distinct;
+          scope = free.scope;
+        }
+
     pub function_fits_at : (g : ℕ) (f : ir_function.Function) (es : List ExpressionInfo) →
         slice_get known g ≡ Some (f, es) → WrittenHaveFormsAt explicit m info g →
         ScopeHoldsIn m info g → (callees : List shapes.Function) → length callees ≡ g →
@@ -106,23 +132,10 @@ module _ (m : Module) (info : ModuleInfo) (accepted : IsTrue (is_accepted m info
     function_fits_at g f es at have scope callees number tells =
         let both = zip_parts (all_functions m) (all_infos info) g (f, es) at in
         let own = function_naming (module_names m) (named g) m info g f es in
-        let is = accepted_at m info accepted g f es at in
-        let statements = (have f es both.0 both.1).statements in
-        let checked =
-        (scope_check_is_the_rules own (ordered m info is.callees f es is.ranges)).1
-        (scope_at g f es at scope) in
-        let free = is_free m info (types_are_fit m info accepted) p (counts m info accepted) g f both.0 (named g)
-        (are g f both.0) es callees number checked in
         function_fits m info accepted (types_are_distinguished m) g f es at
-        (constants_typed m info accepted g f es at) (no_case_falls f.body statements) n own.names callees number tells
-        (record {
-          outer = free.outer;
-          earlier = free.earlier;
-          words = free.words;
-          worded = worded_at m info accepted false g f es at own.names (omega arith) free.free statements;
-          distinct = free.distinct;
-          scope = free.scope;
-        })
+        (constants_typed m info accepted g f es at)
+        (no_case_falls f.body (have f es both.0 both.1).statements) n own.names callees number tells
+        (left_at g f es at have scope callees number)
 
     -- ---- the first ones
     module _ (count : ℕ) (forms_before : WrittenHaveFormsBefore explicit m info count)
@@ -203,36 +216,126 @@ module _ (m : Module) (info : ModuleInfo) (accepted : IsTrue (is_accepted m info
           (λ i f es lt here known. have (suc i) f es (omega (arith, lt)) here known)
           (λ i f es here known. sizes (suc i) f es here known) i
 
-      -- the texts of the others
-      abbrev pub texts : List TextFunction
+      -- the texts of all
+      abbrev texts : List TextFunction
       texts = map function_read (forms m info explicit named)
 
-      abbrev pub later : List TextFunction
-      later = reverse (drop count texts)
-
-      pub texts_split : (program_read (program m info explicit named)).functions ≡ later ++ form_functions first_namings
-      texts_split =
+      first_texts : reverse (take count texts) ≡ form_functions first_namings
+      first_texts =
           let listed = namings_from named (module_names m) m 0 (map shape_of (take count known)) in
           let first = first_read 0 count (all_functions m) (all_infos info)
           (λ i f es lt here known. forms_before i lt f es here known)
           (λ i f es here known. (of_number m info accepted i f es here known).size) in
-          ap (λ fs. reverse (map function_read fs)) (are_forms m info explicit named accepted)
-          ∙ (ap reverse (sym (take-append-drop count texts))
-          ∙ (reverse-append (take count texts) (drop count texts)
-          ∙ ap (λ fs. later ++ fs)
-          (ap reverse first
-          ∙ sym (form_functions-map (reverse listed) ∙ map-reverse form_function listed))))
+          ap reverse first
+          ∙ sym (form_functions-map (reverse listed) ∙ map-reverse form_function listed)
 
-      -- what the laws ask of them
-      pub first_fits : DeclarationsHaveForms m → FirstFit p n later first_namings
-      first_fits declarations = record {
-        items = subst (λ fs. ItemsFit p n fs) texts_split (items_fit m info explicit named accepted declarations);
-        others = others count;
-        functions = ap (λ fs. others count ++ fs) shapes_first ∙ shapes_parted count;
-        all = first_all_fit;
-      }
+      -- ---- one that calls these alone
+      module _ (g : ℕ) (f : ir_function.Function) (es : List ExpressionInfo)
+          (at : slice_get known g ≡ Some (f, es)) (have : WrittenHaveFormsAt explicit m info g)
+          (scope : ScopeHoldsIn m info g) (few : count ≤ g)
+          (enough : (accepted_at m info accepted g f es at).callees ≤ count) where
+        abbrev own : Naming
+        own = function_naming (module_names m) (named g) m info g f es
 
-      -- they are as many
-      pub first_counted : count ≤ length p.functions → length first_namings ≡ count
-      first_counted within =
-          sym (length-functions_of first_namings) ∙ (ap length shapes_first ∙ first_shapes_counted count within)
+        -- its shape, those of the functions between and of the later ones
+        abbrev uncalled : List shapes.Function
+        uncalled = reverse (map shape_of (drop count (take g known)))
+
+        abbrev later_shapes : List shapes.Function
+        later_shapes = reverse (map shape_of (drop (suc g) known))
+
+        within : g < length p.functions
+        within =
+            let all : length p.functions ≡ length known = length-reverse (map shape_of known) ∙ length-map known shape_of in
+            let lt = slice_get_within known g (f, es) at in
+            omega (arith, all, lt)
+
+        before_own : uncalled ++ first_shapes count ≡ first_shapes g
+        before_own =
+            sym (reverse-append (map shape_of (take count known)) (map shape_of (drop count (take g known))))
+            ∙ ap reverse
+            (sym (map-append shape_of (take count known) (drop count (take g known)))
+            ∙ ap (map shape_of)
+            (ap (λ ks. ks ++ drop count (take g known)) (sym (first_of_more count g known few))
+            ∙ take-append-drop count (take g known)))
+
+        before_counted : length (first_shapes g) ≡ g
+        before_counted = first_shapes_counted g (omega (arith, within))
+
+        shapes_around : later_shapes ++ (own.function ∷ first_shapes g) ≡ p.functions
+        shapes_around =
+            sym
+            (ap (λ ks. reverse (map shape_of ks)) (sym (parted_at known g (f, es) at))
+            ∙ (ap reverse (map-append shape_of (take g known) ((f, es) ∷ drop (suc g) known))
+            ∙ reverse_around (map shape_of (take g known)) own.function (map shape_of (drop (suc g) known))))
+
+        -- its text, those between and the later ones
+        abbrev pub between : List TextFunction
+        between = reverse (drop count (take g texts))
+
+        abbrev pub later : List TextFunction
+        later = reverse (drop (suc g) texts)
+
+        own_text : slice_get texts g ≡ Some (form_function own)
+        own_text =
+            let both = zip_parts (all_functions m) (all_infos info) g (f, es) at in
+            let first : 0 + g ≡ g = omega arith in
+            slice_get-map function_read (forms m info explicit named) g
+            ∙ (ap (option_map function_read)
+            (form_at explicit named (module_names m) m info 0 (all_functions m) (all_infos info) g f es both.0 both.1)
+            ∙ (ap (λ h. Some (function_read (function_form explicit (module_names m) (named h) m info h f es))) first
+            ∙ ap Some
+            (function_reads explicit (named g) m info g f es (declarations_are m info accepted).size
+            (have f es both.0 both.1) (of_number m info accepted g f es both.0 both.1).size)))
+
+        before_text : reverse (take g texts) ≡ between ++ form_functions first_namings
+        before_text = turned_first texts count g few ∙ ap (λ fs. between ++ fs) first_texts
+
+        pub texts_around : (program_read (program m info explicit named)).functions
+            ≡ later ++ (form_function own ∷ (between ++ form_functions first_namings))
+        texts_around =
+            ap (λ fs. reverse (map function_read fs)) (are_forms m info explicit named accepted)
+            ∙ (turned_at texts g (form_function own) own_text
+            ∙ ap (λ fs. later ++ (form_function own ∷ fs)) before_text)
+
+        -- as many stand between
+        counted : length uncalled ≡ length between
+        counted =
+            let shapes = length-append uncalled (first_shapes count) in
+            let all = ap length before_own ∙ before_counted in
+            let first = first_shapes_counted count (omega (arith, few, within)) in
+            let told = ap length before_text in
+            let joined = length-append between (form_functions first_namings) in
+            let spelled = length-form_functions first_namings in
+            let named_ones = sym (length-functions_of first_namings) ∙ (ap length shapes_first ∙ first) in
+            let there = slice_get_within texts g (form_function own) own_text in
+            let taken = length-reverse (take g texts) ∙ length-take-le g texts (omega (arith, there)) in
+            omega (arith, shapes, all, first, told, joined, spelled, named_ones, taken)
+
+        -- what the law asks of them
+        pub one_fits : ItemsHaveForms m → OneFits p n later own between first_namings
+        one_fits items =
+            let is = accepted_at m info accepted g f es at in
+            let both = zip_parts (all_functions m) (all_infos info) g (f, es) at in
+            let statements = (have f es both.0 both.1).statements in
+            let first = first_shapes_counted count (omega (arith, few, within)) in
+            let callees : first_shapes count ≡ functions_of first_namings = sym shapes_first in
+            let before : first_shapes g ≡ uncalled ++ functions_of first_namings =
+            sym before_own ∙ ap (λ fs. uncalled ++ fs) callees in
+            let fits =
+            function_fits_at g f es at have scope (first_shapes g) before_counted (first_shapes_tell g) in
+            record {
+              items = subst (λ fs. ItemsFit p n fs) texts_around (items_fit m info explicit named accepted items);
+              others = later_shapes;
+              uncalled = uncalled;
+              functions = ap (λ fs. later_shapes ++ (own.function ∷ fs)) (sym before) ∙ shapes_around;
+              counted = counted;
+              own = subst (λ fs. FunctionFits p n fs own) before fits;
+              calls =
+                  subst (λ fs. AreRegular p fs own own.function.body) callees
+                  (regular_at m info accepted (types_are_distinguished m) g f es at
+                  (no_case_falls f.body statements) own.names (first_shapes count)
+                  (omega (arith, enough, first)) (first_shapes_tell count) (omega arith)
+                  (left_at g f es at have scope (first_shapes g) before_counted).worded);
+              all = first_all_fit;
+            }

@@ -152,19 +152,20 @@ module _ (m : Module) (info : ModuleInfo) (accepted : IsTrue (is_accepted m info
 
   -- its statements are regular
   pub regular_at : TypesAreDistinguished m → (k : ℕ) (f : Function) (es : List ExpressionInfo) →
-      slice_get (functions_known m info) k ≡ Some (f, es) → only_empty_fall f.body ≡ true →
-      (names : Names) (callees : List shapes.Function) → length callees ≡ k →
-      Tells shape_numbered callees → names.earlier ≡ length callees →
+      (at : slice_get (functions_known m info) k ≡ Some (f, es)) → only_empty_fall f.body ≡ true →
+      (names : Names) (callees : List shapes.Function) →
+      (accepted_at m info accepted k f es at).callees ≤ length callees →
+      Tells shape_numbered callees → k ≤ names.earlier →
       let own = named (function_shape m info f es) names in
       AreWorded p own own.function.body → AreRegular p callees own own.function.body
-  regular_at distinguished k f es at only names callees number tells earlier words =
+  regular_at distinguished k f es at only names callees enough tells earlier words =
       let is = accepted_at m info accepted k f es at in
       let group = group_at m info accepted k f es at in
       let before = is.before in
       regular m info f es (types_are_counted m info accepted distinguished) group names is.callees
       callees
-      (stand_behind is.callees callees (omega (arith, before, number)) tells)
-      (omega (arith, before, number, earlier)) (ranges_are m is.callees f is.ranges).1
+      (stand_behind is.callees callees enough tells)
+      (omega (arith, before, earlier)) (ranges_are m is.callees f is.ranges).1
       (soundness_is m f es is.sound).1 only words
 
   -- all that is asked of it
@@ -177,6 +178,8 @@ module _ (m : Module) (info : ModuleInfo) (accepted : IsTrue (is_accepted m info
   function_fits distinguished k f es at constants only n names callees number tells left =
       let is = accepted_at m info accepted k f es at in
       let group = group_at m info accepted k f es at in
+      let before = is.before in
+      let earlier = left.earlier in
       record {
         outer = left.outer;
         earlier = left.earlier;
@@ -184,7 +187,8 @@ module _ (m : Module) (info : ModuleInfo) (accepted : IsTrue (is_accepted m info
         words = left.words;
         leaves = leaves m info f es (types_are_counted m info accepted distinguished) group
             constants;
-        regular = regular_at distinguished k f es at only names callees number tells left.earlier left.worded;
+        regular = regular_at distinguished k f es at only names callees (omega (arith, before, number)) tells
+            (omega (arith, number, earlier)) left.worded;
         distinct = left.distinct;
         scope = left.scope;
       }

@@ -49,7 +49,7 @@ use Rattle.shader_runs.specs.Scope.{ModuleNames, Naming, at_start}
 use Rattle.shader_runs.specs.Text.{TextFunction, TextModule}
 use Rattle.shader_runs.specs.Value.{Value}
 use Rattle.shader_runs.specs.World.{Meaning, Settings, World}
-use Rattle.shader_runs.proofs.Calls.{initialisers_are_alike}
+use Rattle.shader_runs.proofs.OneRun.{initialisers_are_alike}
 use Rattle.text_meaning.specs.Abstraction.{expression_read, program_read}
 use Rattle.text_meaning.specs.Attributes.{stage_read}
 use Rattle.text_meaning.specs.Interface.{access_read, constant_interface_read}
@@ -59,6 +59,7 @@ use Rattle.text_meaning.specs.Interface.{override_interface_read, parameter_read
 use Rattle.text_meaning.specs.Interface.{space_read, struct_interface_read}
 use Rattle.module_meaning.specs.Accepted.{is_accepted}
 use Rattle.module_meaning.specs.DeclarationForms.{DeclarationsHaveForms, IsInitialiser}
+use Rattle.module_meaning.proofs.DeclarationForms.{items_have_forms}
 use Rattle.module_meaning.specs.DeclarationForms.{IsMemberBinding, IsPassed, binding_has_form}
 use Rattle.module_meaning.specs.DeclarationForms.{stage_has_form}
 use Rattle.module_meaning.specs.Enables.{needed_enables}
@@ -486,7 +487,8 @@ module _ (m : Module) (info : ModuleInfo) (explicit : Bool) (labels : LabelNames
       global_expression_value m info settings meaning h
   values_alike settings fit meaning typed world h initial =
       let own = (declarations_are m info accepted).size in
-      let read = initialisers_read m info own declarations h initial in
+      let items = items_have_forms m declarations in
+      let read = initialisers_read m info own items h initial in
       ap
       (λ (vocabulary : Vocabulary).
       text_initialiser_value program_told program_of_shapes.parts settings world meaning vocabulary
@@ -496,15 +498,15 @@ module _ (m : Module) (info : ModuleInfo) (explicit : Bool) (labels : LabelNames
       (λ (text : TextModule).
       text_initialiser_value text program_of_shapes.parts settings world meaning outer.vocabulary
       (expression_read (global_form m (type_names m) h)))
-      (reads_items m info explicit labels accepted declarations)
+      (reads_items m info explicit labels accepted items)
       ∙ (ap
       (text_initialiser_value (form_module_with program_of_shapes outer text_functions)
       program_of_shapes.parts settings world meaning outer.vocabulary) read.2
       ∙ (initialisers_are_alike program_of_shapes outer text_functions
-      (items_fit m info explicit labels accepted declarations) settings fit meaning typed world read.0
-      (global_words m info accepted declarations h read.0 read.1)
+      (items_fit m info explicit labels accepted items) settings fit meaning typed world read.0
+      (global_words m info accepted h read.0 read.1)
       (global_in_range m info accepted h read.0
-      (written_within m h (declarations.initialisers h initial)) read.1)
+      (written_within m h (items.initialisers h initial)) read.1)
       ∙ sym (ap (option_and_then (module_initialiser_value program_of_shapes settings meaning))
       read.1))))
 

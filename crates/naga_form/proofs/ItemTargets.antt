@@ -11,7 +11,7 @@ use Rattle.naga_info.specs.declared.info.ModuleInfo.{ModuleInfo}
 use Rattle.naga_ir.specs.declared.module.Module.{Module}
 use Rattle.naga_names.proofs.Refusal.{element}
 use Rattle.module_meaning.specs.Accepted.{is_accepted}
-use Rattle.module_meaning.specs.DeclarationForms.{DeclarationsHaveForms}
+use Rattle.module_meaning.specs.DeclarationForms.{ItemsHaveForms}
 use Rattle.module_meaning.specs.ExpressionContexts.{expression_context, global_tree}
 use Rattle.module_meaning.specs.ExpressionContexts.{override_number}
 use Rattle.module_meaning.specs.ModuleShapes.{module_shape, variable_shape}
@@ -43,7 +43,7 @@ use Rattle.naga_form.specs.ConstantForms.{global_form}
 use Rattle.naga_form.specs.Declarations.{program_under}
 
 module _ (m : Module) (info : ModuleInfo) (explicit : Bool) (named : LabelNames)
-    (accepted : IsTrue (is_accepted m info)) (declarations : DeclarationsHaveForms m) where
+    (accepted : IsTrue (is_accepted m info)) (items : ItemsHaveForms m) where
   abbrev p : shapes.Module
   p = module_shape m info
 
@@ -57,10 +57,10 @@ module _ (m : Module) (info : ModuleInfo) (explicit : Bool) (named : LabelNames)
   fs = (program_read program).functions
 
   program_reads : program_read program ≡ form_module_with p n fs
-  program_reads = reads_items m info explicit named accepted declarations
+  program_reads = reads_items m info explicit named accepted items
 
   fits : ItemsFit p n fs
-  fits = items_fit m info explicit named accepted declarations
+  fits = items_fit m info explicit named accepted items
 
   -- what each name stands for
   abbrev names : Lookup
@@ -98,5 +98,5 @@ module _ (m : Module) (info : ModuleInfo) (explicit : Bool) (named : LabelNames)
       globals_are m info accepted (types_are_distinguished m) h read.0 read.1 in
       ap (tree_targets names) read.2
       ∙ (ap (λ t. tree_targets (text_names t) (constant_form n read.0)) program_reads
-      ∙ (tree_resolves p n fs fits read.0 tree.range (global_words m info accepted declarations h read.0 read.1)
+      ∙ (tree_resolves p n fs fits read.0 tree.range (global_words m info accepted h read.0 read.1)
       ∙ ap (λ o. map Some (option_map_or constant_targets o [])) (sym read.1)))

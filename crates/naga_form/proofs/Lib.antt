@@ -23,6 +23,7 @@ pub mod ConstantsFit
 pub mod DeclaredPrograms
 pub mod Facts
 pub mod FirstFunctions
+pub mod Splits
 pub mod Fits
 pub mod FittingStatements
 pub mod FixedNames

@@ -18,6 +18,7 @@ use Rattle.module_meaning.specs.Meanings.{HasTypedWorld, IsNeverStuck}
 use Rattle.module_meaning.specs.ModuleShapes.{module_shape}
 use Rattle.module_meaning.specs.Names.{AreLabelNames, function_name, LabelNames, module_names}
 use Rattle.module_meaning.specs.DeclarationForms.{DeclarationsHaveForms}
+use Rattle.module_meaning.proofs.DeclarationForms.{items_have_forms}
 use Rattle.module_meaning.specs.Premises.{ScopesHold}
 use Rattle.module_meaning.specs.Namings.{namings_under, outer_names}
 use Rattle.module_meaning.specs.Written.{AllWrittenHaveForms}
@@ -37,12 +38,12 @@ module _ (m : Module) (info : ModuleInfo) (explicit : Bool) (accepted : IsTrue (
   pub has_world : HasTypedWorld m info
   has_world =
       every.has_world m info accepted (types_are_distinguished m)
-      (are_written_out m declarations) (only_empty m info accepted explicit have) scopes
+      (are_written_out m (items_have_forms m declarations)) (only_empty m info accepted explicit have) scopes
 
   pub gives_results : ResultsAreReturnedIn (module_shape m info)
   gives_results =
       every.gives_results m info accepted (types_are_distinguished m)
-      (are_written_out m declarations) (only_empty m info accepted explicit have) scopes
+      (are_written_out m (items_have_forms m declarations)) (only_empty m info accepted explicit have) scopes
 
   -- under whatever names labels may have
   pub never_stuck : (named : LabelNames) → AreLabelNames m named →
@@ -63,6 +64,6 @@ module _ (m : Module) (info : ModuleInfo) (explicit : Bool) (accepted : IsTrue (
       (function_name m (module_names m) g) arguments past)))
       (sym (reads_as_shapes_under m info explicit named accepted declarations have))
       (runs_are_not_stuck shape outer (namings_under named (module_names m) m info)
-      (module_fits_under m info accepted declarations explicit have named are
+      (module_fits_under m info accepted (items_have_forms m declarations) explicit have named are
       ((scopes_are_checked_under m info accepted named).1 scopes)) (all_well_formed m info accepted)
       settings fit meaning typed g f found arguments typed_arguments world turns past))

@@ -8,7 +8,7 @@ use Rattle.std.proofs.lemmas.List.{length-reverse}
 use Rattle.std.proofs.lemmas.Bool.{and_from}
 use Rattle.naga_ir.specs.declared.module.Function as ir_function
 use Rattle.naga_ir.specs.declared.module.Module.{Module}
-use Rattle.module_meaning.specs.DeclarationForms.{DeclarationsHaveForms}
+use Rattle.module_meaning.specs.DeclarationForms.{ItemsHaveForms}
 use Rattle.module_meaning.specs.ModuleShapes.{module_shape}
 use Rattle.naga_info.specs.declared.info.ExpressionInfo.{ExpressionInfo}
 use Rattle.naga_info.specs.declared.info.ModuleInfo.{ModuleInfo}
@@ -148,16 +148,16 @@ module _ (m : Module) (info : ModuleInfo) (accepted : IsTrue (is_accepted m info
       global_tree m info h ≡ Some e → ConstantInRange p e
   global_in_range h e lt = global_tree_in_range m info accepted (types_are_distinguished m) h e
 
-  module _ (declarations : DeclarationsHaveForms m) where
-    -- and its words are those of operators
-    pub global_words : (h : ℕ) (e : ConstantTree) → global_tree m info h ≡ Some e →
-        EachWord (OperatesOutside p names) e
-    global_words = global_words_outside m info (types_are_fit m info accepted) p counts
+  -- and its words are those of operators
+  pub global_words : (h : ℕ) (e : ConstantTree) → global_tree m info h ≡ Some e →
+      EachWord (OperatesOutside p names) e
+  global_words = global_words_outside m info (types_are_fit m info accepted) p counts
 
+  module _ (items : ItemsHaveForms m) where
     -- what is asked of its named constants
     pub constants : ConstantsFit p names
     constants =
-        constants_fit m info accepted (types_are_distinguished m) (are_written_out m declarations)
+        constants_fit m info accepted (types_are_distinguished m) (are_written_out m items)
         names
         (λ i e at.
         let found = initialiser_of m info accepted (types_are_distinguished m) i e at in

@@ -4,14 +4,18 @@
 -- Throughout, f is a function with the number g, of whose expressions es is known, fs are functions from
 -- the number g on, ess says what is known of each, i is the place of one among them, and named tells the
 -- names of the labels that front ends gave.
-use Rattle.std.proofs.Common.{[], ◌≡◌, ℕ, zero, suc, ◌+◌, ◌<◌, ◌∙◌, Bool, List, ◌∷◌}
-use Rattle.std.proofs.Common.{Some, ap, arith, length, map, refl, subst, sym}
-use Rattle.std.specs.Prelude.{IfSome, IsTrue, slice_get}
+use Rattle.std.proofs.Common.{[], ◌≡◌, ℕ, zero, suc, ◌+◌, ◌<◌, ◌≤◌, ◌∙◌, Bool, List, ◌∷◌, false, true}
+use Rattle.std.proofs.Common.{Some, ap, arith, length, ltb-false, map, refl, subst, sym}
+use Rattle.std.specs.Prelude.{◌-◌, IfSome, IsTrue, if◌then◌else◌, nat_lt, slice_get}
 use Rattle.naga_ir.specs.declared.module.Function as ir_function
 use Rattle.naga_ir.specs.declared.module.Module.{Module}
 use Rattle.naga_info.specs.declared.info.ExpressionInfo.{ExpressionInfo}
 use Rattle.naga_info.specs.declared.info.ModuleInfo.{ModuleInfo}
 use Rattle.naga_names.specs.Keys.{NameMap}
+use Rattle.naga_info.proofs.Options.{map_some}
+use Rattle.naga_back.specs.declared.context.FunctionType.TheVariants as item
+use Rattle.shader_runs.specs.Program as shapes
+use Rattle.shader_runs.specs.Value.{has_types}
 use Rattle.shader_runs.specs.World.{Vocabulary}
 use Rattle.shader_runs.specs.Bindings.{bound_names, lines_lets}
 use Rattle.shader_runs.specs.Constants.{follow_module}
@@ -20,16 +24,17 @@ use Rattle.shader_runs.specs.Resolution.{function_targets, text_function_targets
 use Rattle.shader_runs.specs.Scope.{Naming}
 use Rattle.shader_runs.specs.Text.{TextModule}
 use Rattle.shader_runs.proofs.Bindings.{function_binds_as_meant}
-use Rattle.shader_runs.proofs.Calls.{first_run_alike, numbered_within}
+use Rattle.shader_runs.proofs.Calls.{numbered_within}
+use Rattle.shader_runs.proofs.OneRun.{one_runs_alike}
 use Rattle.shader_runs.proofs.Resolution.{function_resolves_as_meant}
 use Rattle.text_meaning.specs.Abstraction.{function_read, functions_of, program_read, statements_read}
 use Rattle.text_meaning.specs.Resolution.{hides_no_type}
 use Rattle.wgsl_text.specs.Functions.{Function}
 use Rattle.module_meaning.specs.Accepted.{is_accepted}
 use Rattle.module_meaning.specs.Bindings.{BindsAt}
-use Rattle.module_meaning.specs.DeclarationForms.{DeclarationsHaveForms}
+use Rattle.module_meaning.specs.DeclarationForms.{ItemsHaveForms}
 use Rattle.module_meaning.specs.Faithful.{RunsAt}
-use Rattle.module_meaning.specs.FunctionNumbers.{all_functions, all_infos}
+use Rattle.module_meaning.specs.FunctionNumbers.{all_functions, all_infos, callee_count, function_type}
 use Rattle.module_meaning.specs.FunctionShapes.{function_shapes}
 use Rattle.module_meaning.specs.ModuleShapes.{module_shape}
 use Rattle.module_meaning.specs.Names.{AreLabelNames, LabelNames, function_name, module_names}
@@ -45,9 +50,10 @@ use Rattle.naga_form.proofs.AcceptedFunctions.{accepted_at, functions_known, of_
 use Rattle.naga_form.proofs.AcceptedGroups.{declarations_are}
 use Rattle.naga_form.proofs.Bindings.{annotations_are}
 use Rattle.naga_form.proofs.DeclaredItems.{items_resolve}
-use Rattle.naga_form.proofs.FirstFunctions.{first_counted, first_fits, first_namings, first_shapes}
+use Rattle.naga_form.proofs.FirstFunctions.{between, first_namings, first_shapes}
 use Rattle.naga_form.proofs.FirstFunctions.{first_shapes_counted, first_shapes_tell, function_fits_at}
-use Rattle.naga_form.proofs.FirstFunctions.{later, texts_split}
+use Rattle.naga_form.proofs.FirstFunctions.{later, one_fits, texts_around}
+use Rattle.naga_form.proofs.FunctionsFit.{all_distinguished}
 use Rattle.std.proofs.lemmas.List.{length-reverse}
 use Rattle.std.proofs.lemmas.Option.{slice_get_within, slice_get-map}
 use Rattle.std.specs.Option.{option_map}
@@ -127,7 +133,7 @@ module _ (m : Module) (info : ModuleInfo) (explicit : Bool) (named : LabelNames)
         annotations = ap (λ l. slice_get l g) (annotations_are m info explicit named accepted);
       }
 
-  module _ (are : AreLabelNames m named) (declarations : DeclarationsHaveForms m) where
+  module _ (are : AreLabelNames m named) (items : ItemsHaveForms m) where
     -- ---- resolution
     one_resolves : (g : ℕ) → WrittenHaveFormsAt explicit m info g → ScopeHoldsIn m info g →
         (f : ir_function.Function) (es : List ExpressionInfo) → slice_get (all_functions m) g ≡ Some f →
@@ -146,9 +152,9 @@ module _ (m : Module) (info : ModuleInfo) (explicit : Bool) (named : LabelNames)
         let is = accepted_at m info accepted g f es there in
         let text = program_read (program_under named m info explicit) in
         ap (text_function_targets (text_names text)) (read_at g have f es at known)
-        ∙ (ap (λ t. text_function_targets (text_names t) (form_function (function_naming (module_names m) (named g) m info g f es))) (reads_items m info explicit named accepted declarations)
+        ∙ (ap (λ t. text_function_targets (text_names t) (form_function (function_naming (module_names m) (named g) m info g f es))) (reads_items m info explicit named accepted items)
         ∙ function_resolves_as_meant (module_shape m info) (outer_names (module_names m) m) text.functions
-        (items_fit m info explicit named accepted declarations) callees (omega (arith, counted, within))
+        (items_fit m info explicit named accepted items) callees (omega (arith, counted, within))
         (function_naming (module_names m) (named g) m info g f es)
         (function_fits_at m info accepted explicit named are g f es there have scope callees counted (first_shapes_tell m info accepted g))
         (leaves_are_own m info is.callees f is.ranges es))
@@ -185,18 +191,31 @@ module _ (m : Module) (info : ModuleInfo) (explicit : Bool) (named : LabelNames)
     resolves_at g have scope =
         record {
           body = body_resolves g have scope;
-          items = items_resolve m info explicit named accepted declarations;
+          items = items_resolve m info explicit named accepted items;
           not_hidden = hides_none_at g have;
         }
 
     -- ---- runs
-    pub runs_at : (g : ℕ) → WrittenHaveFormsBefore explicit m info (suc g) →
-        ScopesHoldBefore m info (suc g) → RunsAt m info (program_under named m info explicit) g
-    runs_at g have scopes settings fit meaning typed f found arguments typed_arguments world turns past keeps =
-        let texts = later m info accepted explicit named are (suc g) have scopes in
-        let first = first_namings m info accepted explicit named are (suc g) have scopes in
+    -- where this is asked of those that it calls too
+    pub runs_at : (g count : ℕ) → ((k : ℕ) → k ≤ g → k ≤ length m.functions → k ≤ count) → count ≤ g →
+        WrittenHaveFormsAt explicit m info g → ScopeHoldsIn m info g →
+        WrittenHaveFormsBefore explicit m info count → ScopesHoldBefore m info count →
+        RunsAt m info (program_under named m info explicit) g
+    runs_at g count all few own_forms own_scope have scopes settings fit meaning typed f found arguments
+        typed_arguments world turns past keeps =
+        let shape_of : (ir_function.Function × List ExpressionInfo) → shapes.Function =
+        λ k. function_shape m info k.0 k.1 in
         let within = numbered_within (module_shape m info).functions g f found in
-        let counted = first_counted m info accepted explicit named are (suc g) have scopes (omega (arith, within)) in
+        let own =
+        map_some shape_of (slice_get (functions_known m info) g) f
+        (sym (slice_get-map shape_of (functions_known m info) g)
+        ∙ (sym (all_distinguished m info accepted g within) ∙ found)) in
+        let is = accepted_at m info accepted g own.0.0 own.0.1 own.1 in
+        let enough = all is.callees is.before is.there in
+        let first = first_namings m info accepted explicit named are count have scopes in
+        let between = between m info accepted explicit named are count have scopes g own.0.0 own.0.1 own.1 own_forms own_scope few enough in
+        let later = later m info accepted explicit named are count have scopes g own.0.0 own.0.1 own.1 own_forms own_scope few enough in
+        let naming = function_naming (module_names m) (named g) m info g own.0.0 own.0.1 in
         let shape = module_shape m info in
         let outer = outer_names (module_names m) m in
         ap
@@ -204,8 +223,26 @@ module _ (m : Module) (info : ModuleInfo) (explicit : Bool) (named : LabelNames)
         (one_vocabulary m info explicit named)
         ∙ (ap
         (λ (text : TextModule). follow_module text shape.parts settings world meaning outer.vocabulary turns (function_name m (module_names m) g) arguments past)
-        (reads_items m info explicit named accepted declarations
-        ∙ ap (form_module_with (p m info explicit named) (n m info explicit named)) (texts_split m info accepted explicit named are (suc g) have scopes))
-        ∙ first_run_alike shape outer texts first
-        (first_fits m info accepted explicit named are (suc g) have scopes declarations) settings fit meaning typed g (omega (arith, counted)) f
-        found arguments typed_arguments world turns past keeps)
+        (reads_items m info explicit named accepted items
+        ∙ ap (form_module_with (p m info explicit named) (n m info explicit named))
+        (texts_around m info accepted explicit named are count have scopes g own.0.0 own.0.1 own.1 own_forms own_scope few enough))
+        ∙ one_runs_alike shape outer later naming between first
+        (one_fits m info accepted explicit named are count have scopes g own.0.0 own.0.1 own.1 own_forms own_scope few enough items)
+        settings fit meaning typed arguments
+        (subst (λ f. IsTrue (has_types shape.parts f.argument_types arguments)) (sym own.2) typed_arguments)
+        world turns past keeps)
+
+    -- by its number
+    pub numbered_runs_at : (g : ℕ) → WrittenHaveFormsAt explicit m info g → ScopeHoldsIn m info g →
+        WrittenHaveFormsBefore explicit m info (callee_count m (function_type m g)) →
+        ScopesHoldBefore m info (callee_count m (function_type m g)) →
+        RunsAt m info (program_under named m info explicit) g
+    numbered_runs_at g own_forms own_scope = by (nat_lt g (length m.functions)) refl
+      where
+        by : (b : Bool) → nat_lt g (length m.functions) ≡ b →
+            let count = callee_count m (if b then item.Function g else item.EntryPoint (g - length m.functions)) in
+            WrittenHaveFormsBefore explicit m info count → ScopesHoldBefore m info count →
+            RunsAt m info (program_under named m info explicit) g
+        by true is = runs_at g g (λ k le there. le) (omega arith) own_forms own_scope
+        by false is =
+            runs_at g (length m.functions) (λ k le there. there) (ltb-false g (length m.functions) is) own_forms own_scope

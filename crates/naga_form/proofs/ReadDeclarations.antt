@@ -34,8 +34,7 @@ use Rattle.shader_runs.specs.Scope.{ModuleNames}
 use Rattle.shader_runs.specs.Value.{Truth}
 use Rattle.text_meaning.specs.Abstraction.{constant_read, expression_read, global_pointer_read}
 use Rattle.text_meaning.specs.Abstraction.{module_variable_read}
-use Rattle.module_meaning.specs.DeclarationForms.{DeclarationsHaveForms, IsDeclaredType}
-use Rattle.module_meaning.specs.DeclarationForms.{IsInitialiser}
+use Rattle.module_meaning.specs.DeclarationForms.{IsInitialiser, ItemsHaveForms}
 use Rattle.module_meaning.specs.ExpressionContexts.{global_tree, named_count, override_number}
 use Rattle.module_meaning.specs.ExpressionTypes.{variable_type}
 use Rattle.module_meaning.specs.InfoSizes.{is_handle_space}
@@ -136,12 +135,12 @@ module _ (m : Module) where
         pointer = variable_read m v (spelled 0 v refl) i;
       } ∷ rest i
 
-  pub variables_read : DeclarationsHaveForms m →
+  pub variables_read : ItemsHaveForms m →
       map module_variable_read (map (variable_form names t m) (enumerate_from 0 m.global_variables))
       ≡ globals_from outer.global 0 (map (variable_shape m) m.global_variables)
-  variables_read declarations =
+  variables_read items =
       variables_read_from 0 m.global_variables
-      (λ i v at. declarations.types v.ty (IsDeclaredType.OfVariable i v at))
+      items.variables
 
   -- ---- overrides
   overrides_read_from : (k : ℕ) (os : List Override) →
@@ -171,11 +170,11 @@ module _ (m : Module) where
 
     -- ---- constants
     module _ (size : length m.global_expressions ≡ length info.const_expression_types.items)
-        (declarations : DeclarationsHaveForms m) where
+        (items : ItemsHaveForms m) where
       -- an initialiser is read as its tree
       pub initialisers_read : (h : ℕ) → IsInitialiser m h →
           IsReadAs outer (global_tree m info h) (global_form m t h)
-      initialisers_read h is = written_is_read m info size h (declarations.initialisers h is)
+      initialisers_read h is = written_is_read m info size h (items.initialisers h is)
 
       abbrev all : List ℕ
       all = named_handles 0 m.constants

@@ -35,6 +35,7 @@ use Rattle.module_meaning.specs.ModuleShapes.{module_shape}
 use Rattle.module_meaning.specs.OperatorTable.{Operator, BinarySign, AtomicLoad}
 use Rattle.module_meaning.specs.ExpressionContexts.{declared, types_known}
 use Rattle.module_meaning.specs.DeclarationForms.{DeclarationsHaveForms}
+use Rattle.module_meaning.proofs.DeclarationForms.{items_have_forms}
 use Rattle.naga_form.specs.Declarations.{program_under, written_program}
 use Rattle.module_meaning.specs.Premises.{ScopesHold}
 use Rattle.module_meaning.specs.Resolution.{BodiesResolve, ResolvesAs, ResolvesUnder}
@@ -114,7 +115,7 @@ bodies_resolve m info explicit named are accepted declarations have scope =
     let names = module_names m in
     ap text_targets (reads_as_shapes_under m info explicit named accepted declarations have)
     ∙ resolves_as_meant (module_shape m info) (outer_names names m) (namings_under named names m info)
-    (module_fits_under m info accepted declarations explicit have named are
+    (module_fits_under m info accepted (items_have_forms m declarations) explicit have named are
     ((scopes_are_checked_under m info accepted named).1 scope))
     (leaves_stand m info named accepted 0 (all_functions m) (all_infos info)
     (from_start (all_functions m)) [] tt)
@@ -136,7 +137,7 @@ pub resolves_under : (m : Module) (info : ModuleInfo) (explicit : Bool) (named :
     ResolvesUnder named m info (program_under named m info explicit)
 resolves_under m info explicit named are accepted declarations have scope = record {
   bodies = bodies_resolve m info explicit named are accepted declarations have scope;
-  items = items_resolve m info explicit named accepted declarations;
+  items = items_resolve m info explicit named accepted (items_have_forms m declarations);
   not_hidden = not_hidden m info explicit named are accepted declarations have;
 }
 

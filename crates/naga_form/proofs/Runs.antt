@@ -14,10 +14,11 @@ use Rattle.shader_runs.specs.World.{Vocabulary}
 use Rattle.shader_runs.specs.Text.{TextModule}
 use Rattle.shader_runs.specs.Constants.{follow_module}
 use Rattle.shader_runs.specs.Form.{form_function, form_functions, form_module}
-use Rattle.shader_runs.proofs.Calls.{runs_alike}
+use Rattle.shader_runs.proofs.OneRun.{runs_alike}
 use Rattle.text_meaning.specs.Abstraction.{function_read, functions_of, program_read}
 use Rattle.module_meaning.specs.Accepted.{is_accepted}
 use Rattle.module_meaning.specs.DeclarationForms.{DeclarationsHaveForms}
+use Rattle.module_meaning.proofs.DeclarationForms.{items_have_forms}
 use Rattle.module_meaning.specs.Faithful.{RunsAs}
 use Rattle.module_meaning.specs.FunctionNumbers.{all_functions, all_infos}
 use Rattle.module_meaning.specs.FunctionShapes.{function_shapes}
@@ -81,9 +82,9 @@ reads_as_shapes_under m info explicit named accepted declarations have =
     ∙ functions_read explicit named m info own 0 (all_functions m) (all_infos info) have
     (λ i f es here known. (of_number m info accepted i f es here known).size) in
     λ i. record {
-      constants = constants_read m info own declarations i;
+      constants = constants_read m info own (items_have_forms m declarations) i;
       overrides = overrides_read m info i;
-      globals = variables_read m declarations i;
+      globals = variables_read m (items_have_forms m declarations) i;
       functions =
           (ap reverse each
           ∙ sym (form_functions-map (reverse listed) ∙ map-reverse form_function listed)) i;
@@ -117,7 +118,7 @@ runs_as_under m info explicit named are accepted declarations have scope g setti
     (function_name m (module_names m) g) arguments past)
     (reads_as_shapes_under m info explicit named accepted declarations have)
     ∙ runs_alike shape outer (namings_under named (module_names m) m info)
-    (module_fits_under m info accepted declarations explicit have named are
+    (module_fits_under m info accepted (items_have_forms m declarations) explicit have named are
     ((scopes_are_checked_under m info accepted named).1 scope)) settings fit meaning typed g f found
     arguments typed_arguments world turns past keeps)
 

@@ -21,7 +21,7 @@ use Rattle.text_meaning.specs.Abstraction.{function_read, functions_of, program_
 use Rattle.wgsl_text.specs.Declarations.{Program}
 use Rattle.wgsl_text.specs.Functions.{Function}
 use Rattle.module_meaning.specs.Accepted.{is_accepted}
-use Rattle.module_meaning.specs.DeclarationForms.{DeclarationsHaveForms}
+use Rattle.module_meaning.specs.DeclarationForms.{ItemsHaveForms}
 use Rattle.module_meaning.specs.FunctionNumbers.{all_functions, all_infos}
 use Rattle.module_meaning.specs.FunctionShapes.{function_shapes}
 use Rattle.module_meaning.specs.ModuleShapes.{module_shape}
@@ -74,12 +74,12 @@ module _ (m : Module) (info : ModuleInfo) (explicit : Bool) (named : LabelNames)
     pub are_forms : functions_of program ≡ forms
     are_forms = all_functions_under m info explicit named (functions_counted m info accepted)
 
-    module _ (declarations : DeclarationsHaveForms m) where
+    module _ (items : ItemsHaveForms m) where
       pub items_fit : ItemsFit p n (program_read program).functions
       items_fit =
           subst (λ fs. ItemsFit p n (reverse (map function_read fs))) (sym are_forms) (record {
             distinct = functions_tell m info accepted;
-            constants = constants m info accepted declarations;
+            constants = constants m info accepted items;
             named = forms_named 0 (all_functions m) (all_infos info) [] refl tt;
             counted = length-reverse (map function_read forms)
                 ∙ (length-map forms function_read
@@ -92,8 +92,8 @@ module _ (m : Module) (info : ModuleInfo) (explicit : Bool) (named : LabelNames)
       reads_items =
           let own = (declarations_are m info accepted).size in
           λ i. record {
-            constants = constants_read m info own declarations i;
+            constants = constants_read m info own items i;
             overrides = overrides_read m info i;
-            globals = variables_read m declarations i;
+            globals = variables_read m items i;
             functions = (program_read program).functions;
           }

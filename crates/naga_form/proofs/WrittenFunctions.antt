@@ -1,12 +1,13 @@
 -- The functions of what is written for a module: those of its functions and entry points, by their
 -- numbers.
 --
--- Throughout, fs and gs are functions from the number g on, ps are entry points, j is the index of one,
--- ess says what is known of each, and named tells the names of the labels that front ends gave.
+-- Throughout, fs and gs are functions from the number g on, f is the i-th of them, ps are entry points,
+-- j is the index of one, ess says what is known of each, and named tells the names of the labels that front ends gave.
 use Rattle.std.proofs.Common.{◌≡◌, ℕ, suc, ◌+◌, ◌-◌, ◌≤◌, Bool, List, [], ◌∷◌, ◌++◌, refl, sym, ap}
-use Rattle.std.proofs.Common.{◌∙◌, length, arith, map, add-zero, None}
+use Rattle.std.proofs.Common.{◌∙◌, length, arith, map, add-zero, None, Some, zero}
 use Rattle.std.specs.Prelude.{if◌then◌else◌, slice_get}
 use Rattle.std.proofs.lemmas.Bool.{le-ltb}
+use Rattle.std.proofs.lemmas.Option.{same_Some}
 use Rattle.naga_ir.specs.declared.module.EntryPoint as ir_entry_point
 use Rattle.naga_ir.specs.declared.module.Function as ir_function
 use Rattle.naga_ir.specs.declared.module.Module.{Module}
@@ -49,6 +50,22 @@ module _ (explicit : Bool) (named : LabelNames) (names : NameMap) (m : Module) (
   entry_functions_form g (p ∷ ps) (es ∷ ess) =
       ap (λ fs. function_form explicit names (named g) m info g p.function es ∷ fs)
       (entry_functions_form (g + 1) ps ess)
+
+  -- one of them
+  pub form_at : (g : ℕ) (fs : List ir_function.Function) (ess : List (List ExpressionInfo)) (i : ℕ)
+      (f : ir_function.Function) (es : List ExpressionInfo) → slice_get fs i ≡ Some f →
+      slice_get ess i ≡ Some es →
+      slice_get (forms g fs ess) i ≡
+      Some (function_form explicit names (named (g + i)) m info (g + i) f es)
+  form_at g [] ess i f es at known = absurd cc
+  form_at g (x ∷ fs) [] i f es at known = absurd cc
+  form_at g (x ∷ fs) (ks ∷ ess) zero f es at known =
+      let here : g ≡ g + 0 = omega arith in
+      λ j. Some (function_form explicit names (named (here j)) m info (here j) (same_Some x f at j) (same_Some ks es known j))
+  form_at g (x ∷ fs) (ks ∷ ess) (suc i) f es at known =
+      let next : (g + 1) + i ≡ g + suc i = omega arith in
+      form_at (g + 1) fs ess i f es at known
+      ∙ ap (λ h. Some (function_form explicit names (named h) m info h f es)) next
 
 -- all of what is written
 pub all_functions_under : (m : Module) (info : ModuleInfo) (explicit : Bool) (named : LabelNames) →

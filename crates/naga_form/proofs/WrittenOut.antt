@@ -36,7 +36,7 @@ use Rattle.module_meaning.specs.Ranges.{resolution_fits, is_below, function_in_r
 use Rattle.module_meaning.specs.Ranges.{entry_point_in_range}
 use Rattle.module_meaning.specs.Soundness.{module_is_sound}
 use Rattle.module_meaning.specs.ExpressionContexts.{constant_over, declared_over, global_tree, global_tree_within, global_types_known, written_constant}
-use Rattle.module_meaning.specs.DeclarationForms.{DeclarationsHaveForms, IsInitialiser}
+use Rattle.module_meaning.specs.DeclarationForms.{ItemsHaveForms, IsInitialiser}
 use Rattle.module_meaning.specs.Undeclared.{is_spellable}
 use Rattle.module_meaning.specs.ExpressionForms.{global_is_written_over, global_is_written_within}
 use Rattle.module_meaning.proofs.Lists.{all_pass, list_all_at}
@@ -100,13 +100,13 @@ module _ (m : Module) where
       by (Some e) is each = over each e is
 
   -- so the initialiser of each constant with a name is
-  pub are_written_out : DeclarationsHaveForms m → AreWrittenOut m
-  are_written_out declarations =
+  pub are_written_out : ItemsHaveForms m → AreWrittenOut m
+  are_written_out items =
       all_pass (λ c. is_none c.name || is_written_out m.global_expressions c.init) m.constants
       (λ i c at. by c.init c.name
       (λ named.
       form_is_out (suc c.init) c.init
-      (declarations.initialisers c.init (IsInitialiser.OfConstant i c at named))))
+      (items.initialisers c.init (IsInitialiser.OfConstant i c at named))))
     where
       by : {X : Type 0} (init : ℕ) (name : Option X) →
           (is_some name ≡ true → is_written_out m.global_expressions init ≡ true) →

@@ -2,7 +2,7 @@
 --
 -- Throughout, m is a module, t a type's tree, r a type of an expression, and n are the names that
 -- types are spelled with.
-use Rattle.std.specs.Prelude.{◌≡◌, ◌↔◌, ℕ, suc, ◌++◌, ◌∷◌, List, Some, None, IsTrue, true, Bool, length}
+use Rattle.std.specs.Prelude.{◌≡◌, ◌↔◌, ℕ, ◌++◌, ◌∷◌, List, Some, None, IsTrue, true, Bool, length}
 use Rattle.std.specs.List.{list_all}
 use Rattle.std.specs.Option.{option_map}
 use Rattle.naga_ir.specs.declared.expression.Literal.{Literal}
@@ -37,7 +37,9 @@ use Rattle.module_meaning.specs.Accepted.{is_accepted}
 use Rattle.module_meaning.specs.AlikeTypes.{are_alike}
 use Rattle.module_meaning.specs.Bindings.{BindsAt, BindsUnder}
 use Rattle.module_meaning.specs.DeclarationForms.{DeclarationsHaveForms, IsInitialiser}
+use Rattle.module_meaning.specs.DeclarationForms.{ItemsHaveForms}
 use Rattle.module_meaning.specs.Faithful.{HasInterfaceOf, RunsAs, RunsAt}
+use Rattle.module_meaning.specs.FunctionNumbers.{callee_count, function_type}
 use Rattle.module_meaning.specs.Written.{AllWrittenHaveForms, WrittenHaveForms}
 use Rattle.module_meaning.specs.Written.{WrittenHaveFormsAt, WrittenHaveFormsBefore}
 use Rattle.module_meaning.specs.InfoSizes.{type_is_fit, resolution_is_fit}
@@ -170,11 +172,12 @@ OneBinds =
     IsTrue (is_accepted m info) → (number : ℕ) → WrittenHaveFormsAt explicit m info number →
     BindsAt named m info explicit (program_under named m info explicit) number
 
--- what holds of one function where all that the module declares has a form too
+-- what holds of one function where the items that it may name have forms, whatever the module
+-- declares beside
 abbrev pub OfOne : (LabelNames → (explicit : Bool) → Module → ModuleInfo → ℕ → Type 0) → Type 0
 OfOne Holds =
     (m : Module) (info : ModuleInfo) (explicit : Bool) (named : LabelNames) →
-    IsTrue (is_accepted m info) → AreLabelNames m named → DeclarationsHaveForms m →
+    IsTrue (is_accepted m info) → AreLabelNames m named → ItemsHaveForms m →
     (number : ℕ) → Holds named explicit m info number
 
 -- its identifiers and words, and the module's, stand for what they were written for, where the rules
@@ -184,10 +187,12 @@ OneResolves = OfOne (λ named explicit m info number.
     WrittenHaveFormsAt explicit m info number → ScopeHoldsIn m info number →
     ResolvesAt named m info (program_under named m info explicit) number)
 
--- it does what the module does, where this is asked of it and of those before it, which it may call
+-- it does what the module does, where this is asked of it and of those that it may call
 abbrev pub OneRuns : Type 0
 OneRuns = OfOne (λ named explicit m info number.
-    WrittenHaveFormsBefore explicit m info (suc number) → ScopesHoldBefore m info (suc number) →
+    let callees = callee_count m (function_type m number) in
+    WrittenHaveFormsAt explicit m info number → ScopeHoldsIn m info number →
+    WrittenHaveFormsBefore explicit m info callees → ScopesHoldBefore m info callees →
     RunsAt m info (program_under named m info explicit) number)
 
 -- the check of scope decides the rules

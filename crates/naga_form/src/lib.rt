@@ -59,7 +59,8 @@ pub fn initialisers_have_values()
 {}
 
 /// Each of its identifiers and words stands for what it was written for, where the rules of scope
-/// hold in the module. Of one function it is so, whatever stands in the others.
+/// hold in the module. Of one function it is so where the items that it may name have forms,
+/// whatever stands in the other functions and in what they take and give.
 pub fn resolves_as_meant()
     ensures whole { ResolvesAsMeant }
     ensures one { OneResolves }
@@ -86,7 +87,7 @@ pub fn is_read_as_its_shapes()
 {}
 
 /// It does what the module does, where the rules of scope hold in the module. Of one function it is
-/// so, whatever stands in those after it.
+/// so where the items that it may name have forms, whatever stands in those that it can't call.
 pub fn runs_as_the_module()
     ensures whole { RunsAsTheModule }
     ensures one { OneRuns }

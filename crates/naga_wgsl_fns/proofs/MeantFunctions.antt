@@ -1,10 +1,9 @@
 -- The program in which a function stands that is written by itself.
 --
--- Throughout, fs are functions from the number g on, ps are entry points, ess says what is known of
--- each, i is the place of one among them, and named tells the names of the labels that front ends gave.
+-- Throughout, ps are entry points from the number g on, ess says what is known of each, i is the place
+-- of one among them, and named tells the names of the labels that front ends gave.
 use Rattle.std.proofs.Common.{◌≡◌, ℕ, zero, suc, ◌+◌, ◌∙◌, Bool, List, [], ◌∷◌, ◌++◌, Some, ap, arith}
-use Rattle.std.proofs.Common.{◌<◌, false, length, nat_eq, refl, slice_get, subst, sym, true, unwrap_or}
-use Rattle.std.proofs.lemmas.Bool.{eqb-false, eqb-true}
+use Rattle.std.proofs.Common.{◌<◌, ◌≤◌, length, slice_get, subst, sym, unwrap_or}
 use Rattle.std.specs.Prelude.{IsTrue}
 use Rattle.std.proofs.lemmas.Option.{same_Some, slice_get_within}
 use Rattle.naga_info.specs.declared.info.ExpressionInfo.{ExpressionInfo}
@@ -16,8 +15,8 @@ use Rattle.naga_names.specs.Keys.{NameMap}
 use Rattle.module_meaning.specs.Accepted.{is_accepted}
 use Rattle.module_meaning.specs.Names.{AreLabelNames, LabelNames, item_labels, module_names}
 use Rattle.naga_form.specs.Declarations.{entry_point_under, entry_points_under, program_under}
-use Rattle.naga_form.specs.Functions.{function_form, functions_under}
-use Rattle.module_meaning.specs.FunctionNumbers.{all_functions, function_number}
+use Rattle.naga_form.specs.Functions.{function_form}
+use Rattle.module_meaning.specs.FunctionNumbers.{all_functions, callee_count, function_number}
 use Rattle.module_meaning.proofs.FunctionNumbers.{function_among, info_among}
 use Rattle.naga_form.proofs.AcceptedFunctions.{entry_info_among, entry_points_counted}
 use Rattle.naga_form.proofs.AcceptedFunctions.{functions_counted}
@@ -26,7 +25,9 @@ use Rattle.naga_wgsl_fns.specs.Functions.{known_of}
 use Rattle.naga_form.proofs.ExpressionNames.{names_behind_are}
 use Rattle.naga_form.proofs.Interface.{has_interface_under}
 use Rattle.naga_form.proofs.OneFunction.{binds_at, resolves_at, runs_at}
+use Rattle.naga_form.proofs.WrittenFunctions.{form_at}
 use Rattle.naga_back.specs.declared.context.FunctionType.{FunctionType}
+use Rattle.naga_back.specs.declared.context.FunctionType.TheVariants as item
 use Rattle.naga_back.specs.declared.flags.WriterFlags.{WriterFlags}
 use Rattle.naga_wgsl_fns.specs.FunctionText.{annotates_types}
 use Rattle.naga_wgsl_fns.specs.Items.{IsMeant, IsToldByAnswers, StandsIn, names_behind}
@@ -34,22 +35,6 @@ use Rattle.naga_wgsl_fns.specs.Items.{program_behind}
 use Rattle.naga_wgsl_fns.specs.Refusals.{IsWritableAt}
 
 module _ (named : LabelNames) (explicit : Bool) (names : NameMap) (m : Module) (info : ModuleInfo) where
-  -- one of the functions
-  function_at : (g : ℕ) (fs : List ir_function.Function) (ess : List (List ExpressionInfo)) (i : ℕ)
-      (f : ir_function.Function) (es : List ExpressionInfo) → slice_get fs i ≡ Some f →
-      slice_get ess i ≡ Some es →
-      slice_get (functions_under named explicit names m info g fs ess) i ≡
-      Some (function_form explicit names (named (g + i)) m info (g + i) f es)
-  function_at g [] ess i f es at known = absurd cc
-  function_at g (x ∷ fs) [] i f es at known = absurd cc
-  function_at g (x ∷ fs) (ks ∷ ess) zero f es at known =
-      let here : g ≡ g + 0 = omega arith in
-      λ j. Some (function_form explicit names (named (here j)) m info (here j) (same_Some x f at j) (same_Some ks es known j))
-  function_at g (x ∷ fs) (ks ∷ ess) (suc i) f es at known =
-      let next : (g + 1) + i ≡ g + suc i = omega arith in
-      function_at (g + 1) fs ess i f es at known
-      ∙ ap (λ h. Some (function_form explicit names (named h) m info h f es)) next
-
   -- one of the entry points
   point_at : (g : ℕ) (ps : List ir_entry_point.EntryPoint) (ess : List (List ExpressionInfo)) (i : ℕ)
       (p : ir_entry_point.EntryPoint) (es : List ExpressionInfo) → slice_get ps i ≡ Some p →
@@ -73,7 +58,7 @@ module _ (named : LabelNames) (explicit : Bool) (m : Module) (info : ModuleInfo)
       Some (function_form explicit (module_names m) (named h) m info h f es)
   function_in_program h f es at known =
       let first : 0 + h ≡ h = omega arith in
-      function_at named explicit (module_names m) m info 0 m.functions info.functions.items h f es at known
+      form_at explicit named (module_names m) m info 0 m.functions info.functions.items h f es at known
       ∙ ap (λ k. Some (function_form explicit (module_names m) (named k) m info k f es)) first
 
   pub point_in_program : (j : ℕ) (p : ir_entry_point.EntryPoint) (es : List ExpressionInfo) →
@@ -115,13 +100,15 @@ module _ (named : LabelNames) (explicit : Bool) (m : Module) (info : ModuleInfo)
       ∙ ap (λ es. Some (entry_point_under named explicit (module_names m) m info (length m.functions + j) p es))
       alike
 
--- what holds before a number and of it
-up_to : {P : ℕ → Type 0} (number : ℕ) → ((g : ℕ) → g < number → P g) → P number → (g : ℕ) → g < suc number → P g
-up_to {P} number before own g lt = by (nat_eq g number) refl
-  where
-    by : (b : Bool) → nat_eq g number ≡ b → P g
-    by true same = subst P (sym (eqb-true g number same)) own
-    by false other = before g (let apart = eqb-false g number other in omega (arith, lt, apart))
+-- what it may call stands before it, and is none of the entry points
+callees_before : (m : Module) (ty : FunctionType) → callee_count m ty ≤ function_number m ty
+callees_before m (item.Function handle) = omega arith
+callees_before m (item.EntryPoint index) = omega arith
+
+all_callees : (m : Module) (ty : FunctionType) (k : ℕ) → k ≤ function_number m ty →
+    k ≤ length m.functions → k ≤ callee_count m ty
+all_callees m (item.Function handle) k before there = before
+all_callees m (item.EntryPoint index) k before there = there
 
 -- behind the labels of the items and any others
 pub is_meant : (flags : WriterFlags) (m : Module) (info : ModuleInfo) → IsTrue (is_accepted m info) →
@@ -139,15 +126,15 @@ is_meant flags m info accepted ty earlier later is writable content now stands =
     record {
       stands = stands;
       bindings = binds_at m info explicit named accepted number writable.formed;
-      resolution = λ declarations.
-          resolves_at m info explicit named accepted are declarations number writable.formed writable.in_scope;
-      runs = λ declarations have scopes.
-          runs_at m info explicit named accepted are declarations number
-          (up_to number have writable.formed) (up_to number scopes writable.in_scope);
+      resolution = λ items.
+          resolves_at m info explicit named accepted are items number writable.formed writable.in_scope;
+      runs = λ items have scopes.
+          runs_at m info explicit named accepted are items number (callee_count m ty) (all_callees m ty)
+          (callees_before m ty) writable.formed writable.in_scope have scopes;
       interface = λ declarations have. has_interface_under m info explicit named accepted declarations have;
     }
 
--- what the answers of calls tell of functions before one
+-- what the answers of calls tell of functions before a number
 pub told_by_answers : IsToldByAnswers
 told_by_answers explicit m info number were =
     (λ g lt. (were g lt).1.plan.formed, λ g lt. (were g lt).1.plan.in_scope)

@@ -9,8 +9,9 @@ use Rattle.naga_info.specs.declared.info.ModuleInfo.{ModuleInfo}
 use Rattle.naga_names.specs.Naming.{HasNamed, Names}
 use Rattle.module_meaning.specs.Bindings.{BindsAt}
 use Rattle.module_meaning.specs.DeclarationForms.{DeclarationsHaveForms, HeadHasForm}
+use Rattle.module_meaning.specs.DeclarationForms.{ItemsHaveForms}
 use Rattle.module_meaning.specs.ExpressionLabels.{name_of_label}
-use Rattle.module_meaning.specs.FunctionNumbers.{function_number}
+use Rattle.module_meaning.specs.FunctionNumbers.{callee_count, function_number}
 use Rattle.module_meaning.specs.Faithful.{HasInterfaceOf, RunsAt}
 use Rattle.module_meaning.specs.Names.{LabelNames, item_labels, labels_named_in, named_apart}
 use Rattle.module_meaning.specs.Names.{wgsl_names}
@@ -113,8 +114,8 @@ StandsIn (item.EntryPoint index) content now program =
     (text : List ℕ) → now ≡ content ++ text → (point : EntryPoint) →
     ReadsEntryPoint (tokens text) point → slice_get program.entry_points index ≡ Some point
 
--- What was appended stands in the program that is written for the module. Nothing is asked of the
--- functions after it, which may have no text at all.
+-- What was appended stands in the program that is written for the module. But for the interface,
+-- nothing is asked of the functions that it can't call, which may have no text at all.
 pub record IsMeant (explicit : Bool) (m : Module) (info : ModuleInfo) (earlier : List (List ℕ))
     (ty : FunctionType) (content now : List ℕ) : Type 0 where
   pub stands : StandsIn ty content now
@@ -122,24 +123,26 @@ pub record IsMeant (explicit : Bool) (m : Module) (info : ModuleInfo) (earlier :
   -- The function has the module's `let`s.
   pub bindings : BindsAt (names_behind m earlier (function_number m ty)) m info explicit
       (program_behind explicit m info earlier (function_number m ty)) (function_number m ty)
-  -- Where all that the module declares has forms, each of its identifiers and words stands for what
-  -- the module means.
-  pub resolution : DeclarationsHaveForms m →
+  -- Where the items that a function may name have forms, each of its identifiers and words stands
+  -- for what the module means. Nothing is asked of what other functions take and give.
+  pub resolution : ItemsHaveForms m →
       ResolvesAt (names_behind m earlier (function_number m ty)) m info
       (program_behind explicit m info earlier (function_number m ty)) (function_number m ty)
-  -- Where what is written of each function before it has forms too, and the rules of scope hold
-  -- there, it does what the module does. Each answer without an error tells this of its function.
-  pub runs : DeclarationsHaveForms m →
-      WrittenHaveFormsBefore explicit m info (function_number m ty) →
-      ScopesHoldBefore m info (function_number m ty) →
+  -- Where what is written of each function that it may call has forms too, and the rules of scope
+  -- hold there, it does what the module does. Each answer without an error tells this of its
+  -- function.
+  pub runs : ItemsHaveForms m →
+      WrittenHaveFormsBefore explicit m info (callee_count m ty) →
+      ScopesHoldBefore m info (callee_count m ty) →
       RunsAt m info (program_behind explicit m info earlier (function_number m ty))
       (function_number m ty)
-  -- The interface of the program is the module's, where each function has forms.
+  -- The interface of the program is the module's, where all that the module declares and each
+  -- function has forms.
   pub interface : DeclarationsHaveForms m → AllWrittenHaveForms explicit m info →
       HasInterfaceOf m info (program_behind explicit m info earlier (function_number m ty))
 
--- What the meaning of a function's runs asks of those before it is what an answer without an error
--- tells of each: so it holds where they were written by themselves, under whatever names.
+-- What the meaning of a function's runs asks of those that it may call is what an answer without an
+-- error tells of each: so it holds where they were written by themselves, under whatever names.
 abbrev pub IsToldByAnswers : Type 0
 IsToldByAnswers =
     (explicit : Bool) (m : Module) (info : ModuleInfo) (number : ℕ) →
@@ -161,8 +164,8 @@ pub record FunctionWriting (m : Module) (info : ModuleInfo) (flags : WriterFlags
   pub text_ok : OnOk answer (now ≡ content ++ text_behind m info flags earlier (function_number m ty))
   pub reading : OnOk answer (AppendsOne ty content now)
   -- Where the earlier labels begin with those of the module's items, the text is meant so: its
-  -- `let`s, what its identifiers and words stand for, and its runs are the module's, whatever stands
-  -- after it.
+  -- `let`s, what its identifiers and words stand for, and its runs are the module's, whatever
+  -- stands in the functions that it can't call.
   pub meaning : OnOk answer ((later : List (List ℕ)) → earlier ≡ item_labels m ++ later →
       IsMeant (annotates_types flags) m info earlier ty content now)
   pub failures_ok : OnOk answer (after ≡ before)

@@ -1,15 +1,14 @@
 -- Calls, by the functions of a module in their order.
 use Rattle.std.proofs.Common.{◌≡◌, ◌≢◌, ℕ, suc, ◌+◌, ◌<◌, ◌≤◌, min, Bool, true, false, cond, nat_eq}
-use Rattle.std.proofs.Common.{List, [], ◌∷◌, ◌++◌, take, length, Option, Some, None, slice_get, refl, sym}
-use Rattle.std.proofs.Common.{ap, ap₂, ◌∙◌, subst, add-zero, zero-add, arith, eqb-true, map, option_map}
+use Rattle.std.proofs.Common.{List, [], ◌∷◌, take, length, Option, Some, None, slice_get, refl, sym}
+use Rattle.std.proofs.Common.{ap, ◌∙◌, subst, add-zero, zero-add, arith, eqb-true, map, option_map}
 use Rattle.std.proofs.Math.Nat.{min-le_right}
-use Rattle.std.proofs.lemmas.List.{length-append, length-take, length-take-le}
+use Rattle.std.proofs.lemmas.List.{length-take, length-take-le}
 use Rattle.std.proofs.lemmas.Option.{slice_get_within, none-some, same_Some}
-use Rattle.std.proofs.lemmas.Bool.{eqb-false, ne_eqb}
-use Rattle.std.specs.Prelude.{IsTrue, ◌||◌}
+use Rattle.std.proofs.lemmas.Bool.{eqb-false}
+use Rattle.std.specs.Prelude.{IsTrue}
 use Rattle.shader_runs.specs.Value.{Bytes, same_bytes, PartTypes, ValueType, has_types, Value}
 use Rattle.shader_runs.specs.World.{Event, Entry, entries, World, Meaning, Environment, bind}
-use Rattle.shader_runs.specs.World.{Settings}
 use Rattle.shader_runs.specs.Outcome.{Stuck, ReachedOrHalted, Gives, Halts, answer, reach}
 use Rattle.shader_runs.specs.Program.{ConstantTree, Fixed, NamedConstant, Constructed}
 use Rattle.shader_runs.specs.Program.{ConstantTrees, no_constant, constant, Expression, Constant}
@@ -22,33 +21,27 @@ use Rattle.shader_runs.specs.ProgramRun.{used_value, with_first}
 use Rattle.shader_runs.specs.ProgramRun.{first_used, first_used_all, run_from_entry, run_all}
 use Rattle.shader_runs.specs.ProgramRun.{run_body}
 use Rattle.shader_runs.specs.ProgramRun.{run_call}
-use Rattle.shader_runs.specs.TextRun.{Scope, Words, WordUse, NamesFunction, AsksForEvent, Operates}
-use Rattle.shader_runs.specs.TextRun.{MeansNothing}
+use Rattle.shader_runs.specs.TextRun.{Scope, Words, WordUse, AsksForEvent, Operates}
 use Rattle.shader_runs.specs.TextRun.{value_of, with_parameters, with_variables, with_globals}
-use Rattle.shader_runs.specs.TextRun.{no_names, respond_by_use, word_use, put_first, first_followed}
+use Rattle.shader_runs.specs.TextRun.{no_names, respond_by_use, put_first, first_followed}
 use Rattle.shader_runs.specs.TextRun.{first_then, first_of_each, entered_by, follow_all}
-use Rattle.shader_runs.specs.TextRun.{follow_body, follow_call, names_function, is_operation}
+use Rattle.shader_runs.specs.TextRun.{follow_body, follow_call, is_operation}
 use Rattle.shader_runs.specs.Scope.{ModuleNames, Naming, usable, usable_if, named_after}
 use Rattle.shader_runs.specs.Scope.{named_after_all, named_by, named_by_all, named_by_cases}
-use Rattle.shader_runs.specs.Scope.{at_start, before_local, first_values_fit, fits_all}
+use Rattle.shader_runs.specs.Scope.{at_start, before_local, first_values_fit, fits_all, fits_function}
 use Rattle.shader_runs.specs.Form.{names_from, variables_from, globals_from, value_at, value_if}
-use Rattle.shader_runs.specs.Form.{form_all, form_function, form_functions, form_module_with}
+use Rattle.shader_runs.specs.Form.{form_all, form_function, form_functions}
 use Rattle.shader_runs.specs.Form.{functions_of}
-use Rattle.shader_runs.specs.Points.{call_of as a_call}
 use Rattle.shader_runs.specs.Premises.{FixedName, ArgumentName, LocalName, ConstantName, GlobalName}
 use Rattle.shader_runs.specs.Premises.{NameKey, FixedKey, NumberedKey, NamedKey, fixed_name}
 use Rattle.shader_runs.specs.Premises.{IsFixedName, IsName, StandsFree, ConstantWords}
 use Rattle.shader_runs.specs.Premises.{ConstantsWords, WordFits, AllBelow, LeafFits, AreDistinct}
-use Rattle.shader_runs.specs.Premises.{FunctionFits, AllFit, EnvironmentFits, IsTypedIn, AllTypedIn}
-use Rattle.shader_runs.specs.Premises.{SettingsFit, IsTyped}
-use Rattle.shader_runs.specs.Correct.{AreNamed, FirstFit, FirstRunAlike, InitialisersAreAlike}
-use Rattle.shader_runs.specs.Correct.{ItemsFit, KeepsTypes, RunsAlike}
+use Rattle.shader_runs.specs.Premises.{AreRegular, FunctionFits, AllFit, EnvironmentFits, IsTypedIn, AllTypedIn}
+use Rattle.shader_runs.specs.Correct.{AreNamed}
 use Rattle.shader_runs.specs.Text.{TextFunction}
-use Rattle.shader_runs.specs.Premises.{ModuleNamesAreDistinct}
-use Rattle.shader_runs.specs.Constants.{environment_of, module_scope}
-use Rattle.shader_runs.proofs.Alike.{Answers, same_answer, mistyped_answer, alike_answers}
+use Rattle.shader_runs.proofs.Alike.{Answers, same_answer, alike_answers}
 use Rattle.shader_runs.proofs.Update.{and_left, and_right, same_bytes_equal, same_bytes_apart}
-use Rattle.shader_runs.proofs.Update.{has_types_length, same_bytes_self}
+use Rattle.shader_runs.proofs.Update.{has_types_length}
 use Rattle.shader_runs.proofs.Relation.{Returns, global_as, IsHere, NoName, fixed_denoted, Related}
 use Rattle.shader_runs.proofs.Evaluation.{words, Respond, Responds}
 use Rattle.shader_runs.proofs.Form.{Facts, globals_length, value_here}
@@ -59,13 +52,15 @@ use Rattle.shader_runs.proofs.Start.{start_stands}
 use Rattle.shader_runs.proofs.Names.{parameter_other, parameter_at, variable_place, variable_other}
 use Rattle.shader_runs.proofs.Names.{variable_at, one_more_variable, take_one_more, globals_other}
 use Rattle.shader_runs.proofs.Names.{globals_at, held, length-names_from, length-functions_of}
-use Rattle.shader_runs.proofs.Names.{first_fit, length-form_functions, module_names_in_scope}
-use Rattle.shader_runs.proofs.Names.{no_name_among}
-use Rattle.shader_runs.proofs.Constants.{environment_fits, initialiser_is, scope_is}
+use Rattle.shader_runs.proofs.Names.{forms_named, length-form_functions}
+use Rattle.shader_runs.proofs.Names.{module_names_in_scope}
 
 pick_alike : {A : Type 0} (R : A → Type 0) (a b : Bool) (x x' y y' : ReachedOrHalted A) → a ≡ b → (b ≡ true → Answers R x x') → (b ≡ false → Answers R y y') → Answers R (cond b x y) (cond a x' y')
 pick_alike R a true x x' y y' e h k = subst (λ a. Answers R x (cond a x' y')) (sym e) (h refl)
 pick_alike R a false x x' y y' e h k = subst (λ a. Answers R y (cond a x' y')) (sym e) (k refl)
+
+pub skipped : {A : Type 0} (b : Bool) → b ≡ false → (x y : A) → cond b x y ≡ y
+skipped b e x y = ap (λ b. cond b x y) e
 
 called_alike : (R : Option Value → Type 0) (a b : Bool) (x x' : ReachedOrHalted (Option Value))
     (t : List Event) → a ≡ b → (b ≡ true → Answers R x x') →
@@ -117,20 +112,18 @@ entered_alike R g g' vs None t body body' e h = same_answer tt
 entered_alike R g g' vs (Some firsts) t body body' e h =
     subst (λ g'. Answers R (body (Entry g vs firsts ∷ t)) (body' (Entry g' vs firsts ∷ t))) (sym e) (h (Entry g vs firsts ∷ t))
 
--- what the start of a function's text asks of it, behind these functions
-pub record Starting (p : Module) (n : ModuleNames) (callees : List Function) (f : Naming) : Type 0 where
+-- what the start of a function's text asks of it
+pub record Starting (p : Module) (n : ModuleNames) (f : Naming) : Type 0 where
   pub outer : f.names.outer ≡ n
-  pub earlier : f.names.earlier ≡ length callees
   pub ordered : (h : ℕ) → AllBelow h (operands_of (expression_of f.function h))
   pub words : (h : ℕ) → WordFits p f (expression_of f.function h)
   pub leaves : (h : ℕ) → LeafFits p f.function (handle_type f.function h) (expression_of f.function h)
   pub distinct : AreDistinct p f
 
-pub starting : (p : Module) (n : ModuleNames) (callees : List Function) (f : Naming) → FunctionFits p n callees f → Starting p n callees f
+pub starting : (p : Module) (n : ModuleNames) (callees : List Function) (f : Naming) → FunctionFits p n callees f → Starting p n f
 starting p n callees f fit =
     record {
       outer = fit.outer;
-      earlier = fit.earlier;
       ordered = fit.ordered;
       words = fit.words;
       leaves = fit.leaves;
@@ -206,11 +199,10 @@ module _ (p : Module) (f : Naming) (i : ℕ) where
   leaf_before : (k : ValueType) (e : Option Expression) → LeafFits p f.function k e → LeafFits p (before f i).function k e
   leaf_before k e l = l
 
-  starting_before : (n : ModuleNames) (callees : List Function) → Starting p n callees f → Starting p n callees (before f i)
-  starting_before n callees s =
+  starting_before : (n : ModuleNames) → Starting p n f → Starting p n (before f i)
+  starting_before n s =
       record {
         outer = s.outer;
-        earlier = s.earlier;
         ordered = s.ordered;
         words = λ h. word_before (expression_of f.function h) (s.words h);
         leaves = λ h. leaf_before (handle_type f.function h) (expression_of f.function h) (s.leaves h);
@@ -227,15 +219,36 @@ pub record UsesFit (p : Module) (n : ModuleNames) (uses : Bytes → WordUse) : T
   pub functions : (g : ℕ) → g < length p.functions → is_operation (uses (n.function g)) ≡ false
 
 module _ (p : Module) (n : ModuleNames) (uses : Bytes → WordUse) (uses_fit : UsesFit p n uses) (env : Environment) (environment : EnvironmentFits p env) (w : World) (m : Meaning) (bound : ℕ) where
-  abbrev call_of : List Naming → Naming → List Value → List Event → Call
-  call_of fs f vs t = a_call env w m bound f fs vs t
+  -- what calls do by their numbers
+  abbrev pub ByNumber : Type 0
+  ByNumber = ℕ → List Value → List Event → ReachedOrHalted (Option Value)
+
+  -- a call of f, of which these are told as its callees
+  abbrev pub call_over : List Function → ByNumber → Naming → List Value → List Event → Call
+  call_over callees calls f vs t = record {
+    function = f.function;
+    callees = callees;
+    environment = env;
+    world = w;
+    meaning = m;
+    arguments = vs;
+    frame = entries t;
+    calls = calls;
+  }
 
   -- the names of the module
   abbrev outer_of : ModuleNames → Scope
   outer_of n = module_names_in_scope p n env
 
+  abbrev responses_in : List TextFunction → Respond
+  responses_in functions =
+      (λ word. is_operation (uses word), follow_call env.parts (outer_of n) w m uses bound functions)
+
   abbrev responses : List Naming → Respond
-  responses fs = (λ word. is_operation (uses word), follow_call env.parts (outer_of n) w m uses bound (form_functions fs))
+  responses fs = responses_in (form_functions fs)
+
+  abbrev run_numbered : List Function → ByNumber
+  run_numbered fs = run_call env w m bound fs
 
   abbrev parameter_names : ModuleNames → Naming → List Value → Scope
   parameter_names n f vs =
@@ -245,40 +258,67 @@ module _ (p : Module) (n : ModuleNames) (uses : Bytes → WordUse) (uses_fit : U
   first_names n f vs t =
       with_variables (variables_from f 0 f.function.first_values) (entries t) 0 (parameter_names n f vs)
 
-  abbrev text_call : List Naming → Naming → List Value → List Event → ReachedOrHalted (Option Value)
-  text_call fs f vs t =
+  -- a call of f where the text's other words respond so and stand at this place
+  abbrev pub text_call : Respond → (place : ℕ) → Naming → List Value → List Event → ReachedOrHalted (Option Value)
+  text_call d place f vs t =
       run_if_arguments_fit
       (nat_eq (length vs) (length (names_from f.names.argument 0 (argument_count f.function))))
-      (follow_body (words (call_of fs f vs t) (responses fs)) bound (length (form_functions fs))
+      (follow_body (record { parts = env.parts; world = w; meaning = m; operates = d.0; respond = d.1 }) bound place
       (form_function f) vs (parameter_names n f vs) t) t
 
-  abbrev program_call : List Naming → Naming → List Value → List Event → ReachedOrHalted (Option Value)
-  program_call fs f vs t =
-      run_if_arguments_fit (nat_eq (length vs) (argument_count f.function)) (run_body (call_of fs f vs t) bound (length (functions_of fs)) vs t) t
+  abbrev program_call : Call → (place : ℕ) → Naming → List Value → List Event → ReachedOrHalted (Option Value)
+  program_call c place f vs t =
+      run_if_arguments_fit (nat_eq (length vs) (argument_count f.function)) (run_body c bound place vs t) t
 
   -- a word that is no function's name comes to its use
-  by_use : (fs : List Naming) → AllFit p n fs → (word : Bytes) →
-      ((g : ℕ) → g < length fs → n.function g ≢ word) → (vs : List Value) (t : List Event) →
-      (responses fs).1 word vs t ≡ respond_by_use (uses word) w m word vs t
-  by_use [] fits word other vs t = refl
-  by_use (f ∷ fs) fits word other vs t =
-      let own_name = f.names.outer.function f.names.earlier in
-      let is_name : own_name ≡ n.function (length fs) = ap (λ n. n.function f.names.earlier) fits.0.outer ∙ ap n.function (fits.0.earlier ∙ length-functions_of fs) in
-      let apart : same_bytes word own_name ≡ false = same_bytes_apart word own_name (λ e. other (length fs) (omega arith) (sym (e ∙ is_name))) in
-      ap (λ b. cond b (text_call fs f vs t) ((responses fs).1 word vs t)) apart
-      ∙ by_use fs fits.1 word (λ g lt. other g (omega arith)) vs t
+  pub by_use : (functions : List TextFunction) → AreNamed n functions → (word : Bytes) →
+      ((g : ℕ) → g < length functions → n.function g ≢ word) → (vs : List Value) (t : List Event) →
+      (responses_in functions).1 word vs t ≡ respond_by_use (uses word) w m word vs t
+  by_use [] named word other vs t = refl
+  by_use (f ∷ functions) named word other vs t =
+      let apart : same_bytes word f.name ≡ false =
+      same_bytes_apart word f.name (λ e. other (length functions) (omega arith) (sym (e ∙ named.0))) in
+      skipped (same_bytes word f.name) apart _ ((responses_in functions).1 word vs t)
+      ∙ by_use functions named.1 word (λ g lt. other g (omega arith)) vs t
 
   abbrev Alike_calls : List Naming → Type 0
   Alike_calls fs =
       (g : ℕ) (callee : Function) → function_numbered (functions_of fs) g ≡ Some callee →
       (vs : List Value) → IsTrue (has_types env.parts callee.argument_types vs) →
       (t : List Event) →
-      Answers (Returns env.parts callee) (run_call env w m bound (functions_of fs) g vs t)
+      Answers (Returns env.parts callee) (run_numbered (functions_of fs) g vs t)
       ((responses fs).1 (n.function g) vs t)
 
-  module _ (fs : List Naming) (within : length fs ≤ length p.functions) (fits : AllFit p n fs)
-      (earlier : Alike_calls fs) (f : Naming) (fit : Starting p n (functions_of fs) f)
-      (typed : IsTypedIn env.parts p m f.function) (vs : List Value) (t : List Event) where
+  -- what the text makes of words is what calls of these callees do, and otherwise what words are for
+  pub record AreAlike (callees : List Function) (calls : ByNumber) (d : Respond) : Type 0 where
+    pub within : length callees ≤ length p.functions
+    pub operates : d.0 ≡ (λ word. is_operation (uses word))
+    pub others : (word : Bytes) → ((g : ℕ) → g < length p.functions → n.function g ≢ word) →
+        (vs : List Value) (t : List Event) → d.1 word vs t ≡ respond_by_use (uses word) w m word vs t
+    pub called : (g : ℕ) (callee : Function) → function_numbered callees g ≡ Some callee →
+        (vs : List Value) → IsTrue (has_types env.parts callee.argument_types vs) →
+        (t : List Event) → Answers (Returns env.parts callee) (calls g vs t) (d.1 (n.function g) vs t)
+
+  pub named_alike : (fs : List Naming) → length fs ≤ length p.functions → AllFit p n fs → Alike_calls fs →
+      AreAlike (functions_of fs) (run_numbered (functions_of fs)) (responses fs)
+  named_alike fs within fits earlier =
+      let counted = length-form_functions fs in
+      let numbered = length-functions_of fs in
+      record {
+        within = omega (arith, within, numbered);
+        operates = refl;
+        others = λ word other vs t.
+            by_use (form_functions fs) (forms_named p n fs fits) word
+            (λ g lt. other g (omega (arith, within, counted, lt))) vs t;
+        called = earlier;
+      }
+
+  module _ (callees : List Function) (calls : ByNumber) (d : Respond) (alike : AreAlike callees calls d)
+      (f : Naming) (fit : Starting p n f) (typed : IsTypedIn env.parts p m f.function)
+      (vs : List Value) (t : List Event) where
+    abbrev c : Call
+    c = call_over callees calls f vs t
+
     -- a name of another function
     no_function : (word : Bytes) → ((g : ℕ) → g < length p.functions → f.names.outer.function g ≢ word) → (g : ℕ) → g < length p.functions → n.function g ≢ word
     no_function word other g lt e = other g lt (ap (λ n. n.function g) fit.outer ∙ e)
@@ -286,25 +326,27 @@ module _ (p : Module) (n : ModuleNames) (uses : Bytes → WordUse) (uses_fit : U
     reaches_use : (word : Bytes) →
         ((g : ℕ) → g < length p.functions → f.names.outer.function g ≢ word) → (use_of : WordUse) →
         uses word ≡ use_of → (vs : List Value) (t : List Event) →
-        (responses fs).1 word vs t ≡ respond_by_use use_of w m word vs t
+        d.1 word vs t ≡ respond_by_use use_of w m word vs t
     reaches_use word other use_of e vs t =
-        by_use fs fits word (λ g lt. no_function word other g (omega (arith, within))) vs t
+        alike.others word (no_function word other) vs t
         ∙ ap (λ u. respond_by_use u w m word vs t) e
 
-    earlier_number : (g : ℕ) → g < length (functions_of fs) → g < length p.functions
-    earlier_number g lt = let count = length-functions_of fs in omega (arith, lt, count, within)
+    callee_number : (g : ℕ) → g < length callees → g < length p.functions
+    callee_number g lt = let within = alike.within in omega (arith, lt, within)
 
-    responds : Responds p (call_of fs f vs t) f.names (responses fs)
+    responds : Responds p c f.names d
     responds =
         record {
           requests = λ word a. reaches_use word a.1.0 AsksForEvent (uses_fit.requests word (no_function word a.1.0) (ap (λ n. n.vocabulary.is_request word) (sym fit.outer) ∙ a.0));
           operators = λ word a. reaches_use word a.2.0 Operates (uses_fit.operators word (no_function word a.2.0) (ap (λ n. n.vocabulary.is_request word) (sym fit.outer) ∙ a.0) (ap (λ n. n.vocabulary.is_operator word) (sym fit.outer) ∙ a.1));
           calls = λ g callee e vs h t. subst
               (λ n'. Answers (Returns env.parts callee)
-              (run_call env w m bound (functions_of fs) g vs t) ((responses fs).1 (n'.function g) vs t))
-              (sym fit.outer) (earlier g callee e vs h t);
-          asking = λ word a. ap is_operation (uses_fit.requests word (no_function word a.1.0) (ap (λ n. n.vocabulary.is_request word) (sym fit.outer) ∙ a.0));
-          calling = λ g callee e. ap (λ n'. is_operation (uses (n'.function g))) fit.outer ∙ uses_fit.functions g (earlier_number g (numbered_within (functions_of fs) g callee e));
+              (calls g vs t) (d.1 (n'.function g) vs t))
+              (sym fit.outer) (alike.called g callee e vs h t);
+          asking = λ word a. ap (λ o. o word) alike.operates
+              ∙ ap is_operation (uses_fit.requests word (no_function word a.1.0) (ap (λ n. n.vocabulary.is_request word) (sym fit.outer) ∙ a.0));
+          calling = λ g callee e. ap (λ n'. d.0 (n'.function g)) fit.outer
+              ∙ ap (λ o. o (n.function g)) alike.operates ∙ uses_fit.functions g (callee_number g (numbered_within callees g callee e));
         }
 
     argument_same : (i k : ℕ) → FixedKey (ArgumentName i) ≡ FixedKey (ArgumentName k) → i ≡ k
@@ -337,7 +379,7 @@ module _ (p : Module) (n : ModuleNames) (uses : Bytes → WordUse) (uses_fit : U
     constant_global : (i k : ℕ) → FixedKey (ConstantName i) ≡ FixedKey (GlobalName k) → ⊥
     constant_global i k e = cc
 
-    start_fixed : length vs ≡ argument_count f.function → (x : FixedName) → IsHere (call_of fs f vs t) x → first_names f.names.outer f vs t (fixed_name f.names x) ≡ fixed_denoted (call_of fs f vs t) x
+    start_fixed : length vs ≡ argument_count f.function → (x : FixedName) → IsHere c x → first_names f.names.outer f vs t (fixed_name f.names x) ≡ fixed_denoted c x
     start_fixed e (ArgumentName i) lt =
         let here : i ≡ i + 0 = omega arith in
         variable_other f (f.names.argument i) f.function.first_values 0 (entries t)
@@ -401,7 +443,7 @@ module _ (p : Module) (n : ModuleNames) (uses : Bytes → WordUse) (uses_fit : U
         (omega arith) q)) env.globals no_names environment.globals i lt'
         ∙ ap (λ k. global_as k (slice_get env.globals i)) back
 
-    start_words : (x : Bytes) → NoName (call_of fs f vs t) f.names x → first_names f.names.outer f vs t x ≡ None
+    start_words : (x : Bytes) → NoName c f.names x → first_names f.names.outer f vs t x ≡ None
     start_words x free =
         variable_other f x f.function.first_values 0 (entries t) (λ a le la q. free.fixed (LocalName a) (omega arith) q) (parameter_names f.names.outer f vs)
         ∙ parameter_other f.names.argument x (argument_count f.function) 0 (λ a le la q. free.fixed (ArgumentName a) (omega arith) q) vs _
@@ -416,19 +458,19 @@ module _ (p : Module) (n : ModuleNames) (uses : Bytes → WordUse) (uses_fit : U
         free.fixed (GlobalName a) (subst (λ k. a < k) (sym count) here) q)
         (map held env.globals) no_names
 
-    starts_own : length vs ≡ argument_count f.function → Related (call_of fs f vs t) f.names (at_start f.function) (first_names f.names.outer f vs t) (constants_kept f.function env m)
+    starts_own : length vs ≡ argument_count f.function → Related c f.names (at_start f.function) (first_names f.names.outer f vs t) (constants_kept f.function env m)
     starts_own e =
         record {
-          availability = start_stands p (call_of fs f vs t) environment fit.ordered fit.leaves typed (first_names f.names.outer f vs t);
+          availability = start_stands p c environment fit.ordered fit.leaves typed (first_names f.names.outer f vs t);
           fixed = start_fixed e;
           words = start_words;
         }
 
-    pub starts : length vs ≡ argument_count f.function → Related (call_of fs f vs t) f.names (at_start f.function) (first_names n f vs t) (constants_kept f.function env m)
+    pub starts : length vs ≡ argument_count f.function → Related c f.names (at_start f.function) (first_names n f vs t) (constants_kept f.function env m)
     starts e =
-        subst (λ n'. Related (call_of fs f vs t) f.names (at_start f.function) (first_names n' f vs t) (constants_kept f.function env m)) fit.outer (starts_own e)
+        subst (λ n'. Related c f.names (at_start f.function) (first_names n' f vs t) (constants_kept f.function env m)) fit.outer (starts_own e)
 
-    pub facts : IsTrue (has_types env.parts f.function.argument_types vs) → Facts p (call_of fs f vs t) f.names (responses fs)
+    pub facts : IsTrue (has_types env.parts f.function.argument_types vs) → Facts p c f.names d
     facts k =
         record {
           responds = responds;
@@ -444,17 +486,18 @@ module _ (p : Module) (n : ModuleNames) (uses : Bytes → WordUse) (uses_fit : U
     pub first_value_here : IsTrue (has_types env.parts f.function.argument_types vs) →
         length vs ≡ argument_count f.function →
         (h : ℕ) → IsTrue (usable f.function (at_start f.function) h) →
-        (t1 : List Event) → value_of (words (call_of fs f vs t) (responses fs))
+        (t1 : List Event) → value_of (words c d)
         (value_at f (at_start f.function) h) (first_names n f vs t) t1 ≡ reach
-        (used_value (call_of fs f vs t) (constants_kept f.function env m) h) t1
+        (used_value c (constants_kept f.function env m) h) t1
     first_value_here k e h u t1 =
-        value_here p (call_of fs f vs t) f.names (responses fs) (facts k) (at_start f.function) (first_names n f vs t) (constants_kept f.function env m) (starts e) h u t1
+        value_here p c f.names d (facts k) (at_start f.function) (first_names n f vs t) (constants_kept f.function env m) (starts e) h u t1
 
-  module _ (fs : List Naming) (within : length fs ≤ length p.functions) (fits : AllFit p n fs)
-      (earlier : Alike_calls fs) (f : Naming) (fit : FunctionFits p n (functions_of fs) f)
-      (typed : IsTypedIn env.parts p m f.function) (vs : List Value) (t : List Event) where
-    start : Starting p n (functions_of fs) f
-    start = starting p n (functions_of fs) f fit
+  module _ (callees : List Function) (calls : ByNumber) (d : Respond) (alike : AreAlike callees calls d)
+      (f : Naming) (start : Starting p n f) (regular : AreRegular p callees f f.function.body)
+      (scope : IsTrue (fits_function f)) (typed : IsTypedIn env.parts p m f.function)
+      (vs : List Value) (t : List Event) where
+    abbrev own : Call
+    own = call_over callees calls f vs t
 
     abbrev all : List (Option ℕ)
     all = f.function.first_values
@@ -472,7 +515,7 @@ module _ (p : Module) (n : ModuleNames) (uses : Bytes → WordUse) (uses_fit : U
         ∙ ap (λ k. bind (names_before i) (f.names.local_ k) (variable_place f (entries t) k)) count
 
     abbrev spelled : Words
-    spelled = words (call_of fs f vs t) (responses fs)
+    spelled = words own d
 
     abbrev kept : KeptValues
     kept = constants_kept f.function env m
@@ -486,21 +529,21 @@ module _ (p : Module) (n : ModuleNames) (uses : Bytes → WordUse) (uses_fit : U
         ReachedOrHalted (List (Option Value))) →
         ((t2 : List Event) → rest t2 ≡ reached_firsts os t2) →
         (t1 : List Event) → first_then spelled (value_if f (at_start f.function) o) names t1 rest ≡
-        reached_firsts (with_first (first_used (call_of fs f vs t) kept o) os) t1
+        reached_firsts (with_first (first_used own kept o) os) t1
     first_reached k e i None u names q os rest r t1 = ap (put_first None) (r t1) ∙ put_reached os t1
     first_reached k e i (Some h) u names q os rest r t1 =
-        let fit1 = starting_before p f i n (functions_of fs) start in
-        let value = first_value_here fs within fits earlier (before f i) fit1 (typed_before p f i env.parts m typed) vs t k e h u t1 in
+        let fit1 = starting_before p f i n start in
+        let value = first_value_here callees calls d alike (before f i) fit1 (typed_before p f i env.parts m typed) vs t k e h u t1 in
         ap (λ z. first_followed (value_of spelled (value_at f (at_start f.function) h) z t1) rest) q
         ∙ ap (λ q. first_followed q rest) value
-        ∙ followed_firsts (used_value (call_of fs f vs t) kept h) os t1 rest r
+        ∙ followed_firsts (used_value own kept h) os t1 rest r
 
     firsts_reached : IsTrue (has_types env.parts f.function.argument_types vs) →
         length vs ≡ argument_count f.function → (os : List (Option ℕ)) (i : ℕ) →
         ((k : ℕ) → slice_get os k ≡ slice_get all (k + i)) →
         IsTrue (first_values_fit f.function i os) → (names : Scope) → names ≡ names_before i →
         (t1 : List Event) → first_of_each spelled (variables_from f i os) (entries t) i names t1 ≡
-        reached_firsts (first_used_all (call_of fs f vs t) kept os) t1
+        reached_firsts (first_used_all own kept os) t1
     firsts_reached k e [] i at u names q t1 = refl
     firsts_reached k e (o ∷ os) i at u names q t1 =
         let here = usable_if (before_local f.function i) (at_start f.function) o in
@@ -509,7 +552,7 @@ module _ (p : Module) (n : ModuleNames) (uses : Bytes → WordUse) (uses_fit : U
         let next = bind names (f.names.local_ i) (variable_place f (entries t) i) in
         let known : next ≡ names_before (suc i) = ap (λ z. bind z (f.names.local_ i) (variable_place f (entries t) i)) q ∙ sym (next_names i o there) in
         let rest = first_of_each spelled (variables_from f (suc i) os) (entries t) (suc i) next in
-        first_reached k e i o (and_left here later u) names q (first_used_all (call_of fs f vs t) kept os) rest (firsts_reached k e os (suc i) further (and_right here later u) next known) t1
+        first_reached k e i o (and_left here later u) names q (first_used_all own kept os) rest (firsts_reached k e os (suc i) further (and_right here later u) next known) t1
       where
         further : (k : ℕ) → slice_get os k ≡ slice_get all (k + suc i)
         further k =
@@ -517,63 +560,62 @@ module _ (p : Module) (n : ModuleNames) (uses : Bytes → WordUse) (uses_fit : U
             at (suc k) ∙ ap (slice_get all) same
 
     -- the body and what is related at its start
-    pub body_fits : FitsAll p (call_of fs f vs t) f.names 0 f.function.body (at_start f.function)
+    pub body_fits : FitsAll p own f.names 0 f.function.body (at_start f.function)
     body_fits =
-        let c = call_of fs f vs t in
         let firsts_fit = first_values_fit f.function 0 f.function.first_values in
         let body_fits = fits_all f 0 f.function.body (at_start f.function) in
-        all_fresh p c f.names environment fit.distinct f.function.body 0 (at_start f.function)
-        (omega arith) (start_sources p c f.names environment fit.distinct) fit.regular
-        (and_right firsts_fit body_fits fit.scope)
+        all_fresh p own f.names environment start.distinct f.function.body 0 (at_start f.function)
+        (omega arith) (start_sources p own f.names environment start.distinct) regular
+        (and_right firsts_fit body_fits scope)
 
     -- both runs of the body
     list_alike : length vs ≡ argument_count f.function →
         IsTrue (has_types env.parts f.function.argument_types vs) →
-        (t1 : List Event) → SameBody (call_of fs f vs t) (at_start f.function)
+        (t1 : List Event) → SameBody own (at_start f.function)
         (constants_kept f.function env m) (any_continue f.function.body)
-        (run_all (call_of fs f vs t) bound f.function.body (constants_kept f.function env m) t1)
-        (follow_all (words (call_of fs f vs t) (responses fs)) bound
+        (run_all own bound f.function.body (constants_kept f.function env m) t1)
+        (follow_all (words own d) bound
         (form_all f 0 f.function.body (at_start f.function)) (first_names n f vs t) t1)
     list_alike e k t1 =
-        let facts = facts fs within fits earlier f start typed vs t k in
+        let facts = facts callees calls d alike f start typed vs t k in
         let lines = form_all f 0 f.function.body (at_start f.function) in
-        same_body p (call_of fs f vs t) f.names (responses fs) facts bound (at_start f.function) _
+        same_body p own f.names d facts bound (at_start f.function) _
         (constants_kept f.function env m) (any_continue f.function.body) _ lines (first_names n f vs t) t1
-        (same_all p (call_of fs f vs t) f.names (responses fs) facts bound f.function.body 0
+        (same_all p own f.names d facts bound f.function.body 0
         (at_start f.function) (first_names n f vs t) (constants_kept f.function env m) t1
-        (starts fs within fits earlier f start typed vs t e) body_fits)
+        (starts callees calls d alike f start typed vs t e) body_fits)
 
     body_alike : (place place' : ℕ) → place' ≡ place → length vs ≡ argument_count f.function →
         IsTrue (has_types env.parts f.function.argument_types vs) →
-        Answers (Returns env.parts f.function) (run_body (call_of fs f vs t) bound place vs t)
-        (follow_body (words (call_of fs f vs t) (responses fs)) bound place' (form_function f) vs
+        Answers (Returns env.parts f.function) (run_body own bound place vs t)
+        (follow_body (words own d) bound place' (form_function f) vs
         (parameter_names n f vs) t)
     body_alike place place' pe e k =
-        let c = call_of fs f vs t in
         let kept = constants_kept f.function env m in
         let os = f.function.first_values in
         let firsts_fit = first_values_fit f.function 0 os in
         let body_fits = fits_all f 0 f.function.body (at_start f.function) in
-        subst (λ q. Answers (Returns env.parts f.function) (run_body c bound place vs t)
+        subst (λ q. Answers (Returns env.parts f.function) (run_body own bound place vs t)
         (entered_by place' vs q
         (λ t1. answer
-        (follow_all (words c (responses fs)) bound
+        (follow_all (words own d) bound
         (form_all f 0 f.function.body (at_start f.function)) (first_names n f vs t) t1))))
         (sym (firsts_reached k e os 0 (λ i. ap (slice_get all) (sym (add-zero i)))
-        (and_left firsts_fit body_fits fit.scope) (parameter_names n f vs) refl t))
-        (entered_alike (Returns env.parts f.function) place place' vs (first_used_all c kept os)
+        (and_left firsts_fit body_fits scope) (parameter_names n f vs) refl t))
+        (entered_alike (Returns env.parts f.function) place place' vs (first_used_all own kept os)
         t _ _ pe (λ t1. alike_answers tt (list_alike e k t1)))
 
-    call_alike : IsTrue (has_types env.parts f.function.argument_types vs) → Answers (Returns env.parts f.function) (program_call fs f vs t) (text_call fs f vs t)
-    call_alike h =
+    -- both runs of the call
+    pub call_alike : (place place' : ℕ) → place' ≡ place →
+        IsTrue (has_types env.parts f.function.argument_types vs) →
+        Answers (Returns env.parts f.function) (program_call own place f vs t) (text_call d place' f vs t)
+    call_alike place place' same h =
         let count = length-names_from f.names.argument 0 (argument_count f.function) in
-        let there = length (functions_of fs) in
-        let place : length (form_functions fs) ≡ there = length-form_functions fs ∙ sym (length-functions_of fs) in
         called_alike (Returns env.parts f.function)
         (nat_eq (length vs)
         (length (names_from f.names.argument 0 (argument_count f.function))))
         (nat_eq (length vs) (argument_count f.function)) _ _ t (ap (nat_eq (length vs)) count)
-        (λ e. body_alike there (length (form_functions fs)) place
+        (λ e. body_alike place place' same
         (eqb-true (length vs) (argument_count f.function) e) h)
 
   pub calls_alike : (fs : List Naming) → length fs ≤ length p.functions → AllFit p n fs →
@@ -590,197 +632,23 @@ module _ (p : Module) (n : ModuleNames) (uses : Bytes → WordUse) (uses_fit : U
       let within : g < suc (length (functions_of fs)) = numbered_within (functions_of (f ∷ fs)) g callee e in
       let lt : g < suc (length fs) = subst (λ k. g < suc k) place within in
       let test = same_test (n.function g) own_name g (length (functions_of fs)) (λ e. one g (length fs) lt (omega arith) (e ∙ is_name) ∙ sym place) (λ e. ap n.function (e ∙ place) ∙ sym is_name) in
+      let calls = run_numbered (functions_of fs) in
+      let c = call_over (functions_of fs) calls f vs t in
+      let there = length (functions_of fs) in
+      let spelled = length (form_functions fs) in
+      let same_place : spelled ≡ there = length-form_functions fs ∙ sym place in
       pick_alike (Returns env.parts callee) (same_bytes (n.function g) own_name)
-      (nat_eq g (length (functions_of fs))) (program_call fs f vs t) (text_call fs f vs t)
-      (run_call env w m bound (functions_of fs) g vs t) ((responses fs).1 (n.function g) vs t) test
+      (nat_eq g there) (program_call c there f vs t) (text_call (responses fs) spelled f vs t)
+      (calls g vs t) ((responses fs).1 (n.function g) vs t) test
       (λ q. let same : f.function ≡ callee =
       same_Some f.function callee
       (ap (λ b. cond b (Some f.function) (function_numbered (functions_of fs) g)) (sym q) ∙ e)
-      in subst (λ k. Answers (Returns env.parts k) (program_call fs f vs t)
-      (text_call fs f vs t)) same
-      (call_alike fs fewer fits.1 earlier f fits.0 typed.0 vs t
+      in subst (λ k. Answers (Returns env.parts k) (program_call c there f vs t)
+      (text_call (responses fs) spelled f vs t)) same
+      (call_alike (functions_of fs) calls (responses fs) (named_alike fs fewer fits.1 earlier) f
+      (starting p n (functions_of fs) f fits.0) fits.0.regular fits.0.scope typed.0 vs t there spelled
+      same_place
       (subst (λ k. IsTrue (has_types env.parts k.argument_types vs)) (sym same) h)))
       (λ q. earlier g callee
       (ap (λ b. cond b (Some f.function) (function_numbered (functions_of fs) g)) (sym q)
       ∙ e) vs h t)
-
-number_apart : (others fs : List Function) (g : ℕ) → g < length fs → nat_eq g (length (others ++ fs)) ≡ false
-number_apart others fs g lt =
-    ne_eqb g (length (others ++ fs)) (λ e. let counted = length-append others fs in omega (arith, e, counted, lt))
-
-answers_same : {A : Type 0} (R : A → Type 0) (q q' : ReachedOrHalted A) → KeepsTypes q → Answers R q q' → q' ≡ q
-answers_same R q q' k (same_answer h) = refl
-answers_same R q q' k mistyped_answer = absurd k
-
--- a function's name is one in the text
-name_among : (n : ModuleNames) (fs : List TextFunction) → AreNamed n fs → (g : ℕ) → g < length fs → names_function fs (n.function g) ≡ true
-name_among n [] named g lt = absurd (omega (arith, lt))
-name_among n (f ∷ fs) named g lt = by (nat_eq g (length fs)) refl (name_among n fs named.1 g)
-  where
-    in_rest : (b : Bool) → names_function fs (n.function g) ≡ true → b || names_function fs (n.function g) ≡ true
-    in_rest true is = refl
-    in_rest false is = is
-
-    by : (b : Bool) → nat_eq g (length fs) ≡ b → (g < length fs → names_function fs (n.function g) ≡ true) →
-        names_function (f ∷ fs) (n.function g) ≡ true
-    by true e later =
-        let own : n.function g ≡ f.name = ap n.function (eqb-true g (length fs) e) ∙ sym named.0 in
-        ap (λ b. b || names_function fs (n.function g)) (ap (same_bytes (n.function g)) (sym own) ∙ same_bytes_self (n.function g))
-    by false e later =
-        let apart = eqb-false g (length fs) e in
-        in_rest (same_bytes (n.function g) f.name) (later (omega (arith, lt, apart)))
-
-pub uses_fit : (p : Module) (n : ModuleNames) (functions : List TextFunction) → length functions ≡ length p.functions → AreNamed n functions → UsesFit p n (word_use functions n.vocabulary)
-uses_fit p n functions counted are =
-    record {
-      functions = λ g lt. ap (λ b. is_operation (cond b NamesFunction (cond (n.vocabulary.is_request (n.function g)) AsksForEvent (unasked (n.function g)))))
-          (name_among n functions are g (omega (arith, counted, lt)));
-      requests = λ word other q. named word other ∙ ap (λ b. cond b AsksForEvent (unasked word)) q;
-      operators = λ word other q r.
-          named word other ∙ ap₂ (λ a b. cond a AsksForEvent (cond b Operates MeansNothing)) q r;
-    }
-  where
-    -- what a word is that names no function and asks for nothing
-    unasked : Bytes → WordUse
-    unasked word = cond (n.vocabulary.is_operator word) Operates MeansNothing
-
-    named : (word : Bytes) → ((g : ℕ) → g < length p.functions → n.function g ≢ word) →
-        word_use functions n.vocabulary word ≡ cond (n.vocabulary.is_request word) AsksForEvent (unasked word)
-    named word other =
-        ap (λ b. cond b NamesFunction (cond (n.vocabulary.is_request word) AsksForEvent (unasked word))) (no_name_among p n functions (omega (arith, counted)) are word other)
-
--- ---- the first functions of a module
-skipped : {A : Type 0} (b : Bool) → b ≡ false → (x y : A) → cond b x y ≡ y
-skipped b e x y = ap (λ b. cond b x y) e
-
--- a call of one of them, by its number
-run_among_first : (env : Environment) (w : World) (m : Meaning) (turns : ℕ)
-    (others fs : List Function) (g : ℕ) → g < length fs → (vs : List Value) (t : List Event) →
-    run_call env w m turns (others ++ fs) g vs t ≡ run_call env w m turns fs g vs t
-run_among_first env w m turns [] fs g lt vs t = refl
-run_among_first env w m turns (f ∷ others) fs g lt vs t =
-    skipped (nat_eq g (length (others ++ fs))) (number_apart others fs g lt) _ (run_call env w m turns (others ++ fs) g vs t)
-    ∙ run_among_first env w m turns others fs g lt vs t
-
-pub first_numbered : (others fs : List Function) (g : ℕ) → g < length fs → function_numbered (others ++ fs) g ≡ function_numbered fs g
-first_numbered [] fs g lt = refl
-first_numbered (f ∷ others) fs g lt =
-    ap (λ b. cond b (Some f) (function_numbered (others ++ fs) g)) (number_apart others fs g lt)
-    ∙ first_numbered others fs g lt
-
-pub first_typed : (parts : PartTypes) (p : Module) (m : Meaning) (others fs : List Function) → AllTypedIn parts p m (others ++ fs) → AllTypedIn parts p m fs
-first_typed parts p m [] fs typed = typed
-first_typed parts p m (f ∷ others) fs typed = first_typed parts p m others fs typed.1
-
--- and by its name
-followed_among_first : (parts : PartTypes) (outer : Scope) (w : World) (m : Meaning) (uses : Bytes → WordUse)
-    (turns : ℕ) (p : Module) (n : ModuleNames) → ModuleNamesAreDistinct p n →
-    (later functions : List TextFunction) → AreNamed n (later ++ functions) →
-    length (later ++ functions) ≤ length p.functions → (g : ℕ) → g < length functions →
-    (vs : List Value) (t : List Event) →
-    follow_call parts outer w m uses turns (later ++ functions) (n.function g) vs t ≡
-    follow_call parts outer w m uses turns functions (n.function g) vs t
-followed_among_first parts outer w m uses turns p n distinct [] functions named within g lt vs t = refl
-followed_among_first parts outer w m uses turns p n distinct (f ∷ later) functions named within g lt vs t =
-    let counted : length (later ++ functions) ≡ length later + length functions = length-append later functions in
-    let place = length (later ++ functions) in
-    let apart : same_bytes (n.function g) f.name ≡ false =
-    same_bytes_apart (n.function g) f.name (λ e.
-    let same : g ≡ place =
-    distinct.functions g place (omega (arith, within, counted, lt)) (omega (arith, within))
-    (e ∙ named.0) in
-    omega (arith, same, counted, lt)) in
-    skipped (same_bytes (n.function g) f.name) apart _ (follow_call parts outer w m uses turns (later ++ functions) (n.function g) vs t)
-    ∙ followed_among_first parts outer w m uses turns p n distinct later functions named.1 (omega (arith, within)) g lt vs t
-
--- in an environment of the module's types
-environment_alike : (p : Module) (n : ModuleNames) (later : List TextFunction) (fs : List Naming) →
-    FirstFit p n later fs →
-    (env : Environment) → EnvironmentFits p env → (m : Meaning) → IsTyped p m →
-    (g : ℕ) → g < length fs → (f : Function) → function_numbered p.functions g ≡ Some f →
-    (vs : List Value) → IsTrue (has_types p.parts f.argument_types vs) →
-    (w : World) (turns : ℕ) (t : List Event) →
-    KeepsTypes (run_call env w m turns p.functions g vs t) →
-    follow_call env.parts (module_names_in_scope p n env) w m
-    (word_use (later ++ form_functions fs) n.vocabulary) turns (later ++ form_functions fs)
-    (n.function g) vs t ≡ run_call env w m turns p.functions g vs t
-environment_alike p n later fs fits env environment m typed g lt f e vs h w turns t keeps =
-    followed_among_first env.parts outer w m uses turns p n fits.items.distinct later (form_functions fs)
-    fits.items.named whole g (subst (λ k. g < k) (sym (length-form_functions fs)) lt) vs t
-    ∙ (alike ∙ sym run_first)
-  where
-    uses : Bytes → WordUse
-    uses = word_use (later ++ form_functions fs) n.vocabulary
-
-    outer : Scope
-    outer = module_names_in_scope p n env
-
-    whole : length (later ++ form_functions fs) ≤ length p.functions
-    whole = let same = fits.items.counted in omega (arith, same)
-
-    counted : length fs ≡ length (functions_of fs)
-    counted = sym (length-functions_of fs)
-
-    within : length fs ≤ length p.functions
-    within =
-        let both = ap length (sym fits.functions) ∙ length-append fits.others (functions_of fs) in
-        omega (arith, counted, both)
-
-    small : g < length (functions_of fs)
-    small = subst (λ k. g < k) counted lt
-
-    one : (g k : ℕ) → g < length fs → k < length fs → n.function g ≡ n.function k → g ≡ k
-    one g k lg lk = fits.items.distinct.functions g k (omega (arith, lg, within)) (omega (arith, lk, within))
-
-    run_first : run_call env w m turns p.functions g vs t ≡ run_call env w m turns (functions_of fs) g vs t
-    run_first =
-        ap (λ l. run_call env w m turns l g vs t) (sym fits.functions)
-        ∙ run_among_first env w m turns fits.others (functions_of fs) g small vs t
-
-    there : function_numbered (functions_of fs) g ≡ Some f
-    there =
-        sym (first_numbered fits.others (functions_of fs) g small)
-        ∙ (ap (λ l. function_numbered l g) fits.functions ∙ e)
-
-    all : AllTypedIn env.parts p m (functions_of fs)
-    all =
-        first_typed env.parts p m fits.others (functions_of fs)
-        (subst (AllTypedIn env.parts p m) (sym fits.functions)
-        (subst (λ parts. AllTypedIn parts p m p.functions) (sym environment.parts) typed.functions))
-
-    alike : follow_call env.parts outer w m uses turns (form_functions fs) (n.function g) vs t ≡ run_call env w m turns (functions_of fs) g vs t
-    alike =
-        answers_same (Returns env.parts f) (run_call env w m turns (functions_of fs) g vs t) _
-        (subst KeepsTypes run_first keeps)
-        (calls_alike p n uses (uses_fit p n (later ++ form_functions fs) fits.items.counted fits.items.named) env
-        environment w m turns fs within fits.all all one g f there vs
-        (subst (λ parts. IsTrue (has_types parts f.argument_types vs)) (sym environment.parts) h) t)
-
--- the names that the text of the whole module computes
-pub names_are : (p : Module) (n : ModuleNames) (functions : List TextFunction) → ItemsFit p n functions →
-    (s : Settings) → SettingsFit p s → (m : Meaning) → IsTyped p m →
-    (w : World) → module_scope (form_module_with p n functions) p.parts s w m n.vocabulary ≡
-    module_names_in_scope p n (environment_of p s m)
-names_are p n functions fits s settings m typed w =
-    let same = fits.counted in
-    scope_is p n fits.constants s settings m typed functions fits.named (omega (arith, same)) w
-
-pub initialisers_are_alike : InitialisersAreAlike
-initialisers_are_alike p n functions fits s settings m typed w =
-    let same = fits.counted in
-    initialiser_is p n fits.constants s settings m typed functions fits.named (omega (arith, same)) w
-
-pub first_run_alike : FirstRunAlike
-first_run_alike p n later fs fits s settings m typed g lt f e vs h w turns t keeps =
-    let functions = later ++ form_functions fs in
-    ap (λ names. follow_call p.parts names w m (word_use functions n.vocabulary) turns functions (n.function g) vs t)
-    (names_are p n functions fits.items s settings m typed w)
-    ∙ environment_alike p n later fs fits (environment_of p s m)
-    (environment_fits p n fits.items.constants s settings m typed) m typed g lt f e vs h w turns t keeps
-
-pub runs_alike : RunsAlike
-runs_alike p n fs fits s settings m typed g f e vs h w turns t keeps =
-    let within = numbered_within p.functions g f e in
-    let counted = sym (ap length fits.functions) ∙ length-functions_of fs in
-    first_run_alike p n [] fs (first_fit p n fs fits) s settings m typed g
-    (subst (λ k. g < k) counted within) f e vs h w turns t keeps

@@ -16,7 +16,7 @@ use Rattle.shader_runs.specs.Form.{names_from, variables_from, globals_from, fun
 use Rattle.shader_runs.specs.Form.{form_functions}
 use Rattle.shader_runs.specs.Premises.{choice_fits, choices_fit, global_fits, globals_fit}
 use Rattle.shader_runs.specs.Premises.{AllFit}
-use Rattle.shader_runs.specs.Correct.{AreNamed, FirstFit, ItemsFit, ModuleFits}
+use Rattle.shader_runs.specs.Correct.{AreNamed, ItemsFit, ModuleFits}
 use Rattle.shader_runs.specs.Text.{TextFunction}
 use Rattle.shader_runs.proofs.Update.{and_left, and_right, and_both, same_bytes_true}
 use Rattle.shader_runs.proofs.Update.{same_bytes_apart, same_type_self}
@@ -245,7 +245,7 @@ forms_named p n (f ∷ fs) fits =
     let count : length (functions_of fs) ≡ length (form_functions fs) = length-functions_of fs ∙ sym (length-form_functions fs) in
     (ap (λ m. m.function f.names.earlier) fits.0.outer ∙ ap n.function (fits.0.earlier ∙ count), forms_named p n fs fits.1)
 
--- what is asked of a module whose functions fit is asked of its items and of its first functions
+-- what is asked of a module whose functions fit is asked of its items
 pub items_fit : (p : Module) (n : ModuleNames) (fs : List Naming) → ModuleFits p n fs → ItemsFit p n (form_functions fs)
 items_fit p n fs fits =
     record {
@@ -254,10 +254,6 @@ items_fit p n fs fits =
       named = forms_named p n fs fits.all;
       counted = length-form_functions fs ∙ sym (length-functions_of fs) ∙ ap length fits.functions;
     }
-
-pub first_fit : (p : Module) (n : ModuleNames) (fs : List Naming) → ModuleFits p n fs → FirstFit p n [] fs
-first_fit p n fs fits =
-    record { items = items_fit p n fs fits; others = []; functions = fits.functions; all = fits.all }
 
 -- no function has a word for its name that is none of the module's
 pub no_name_among : (p : Module) (n : ModuleNames) (fs : List TextFunction) →

@@ -18,7 +18,7 @@ use Rattle.shader_runs.specs.Scope.{ModuleNames, Naming}
 use Rattle.shader_runs.specs.Form.{form_module}
 use Rattle.shader_runs.specs.Premises.{SettingsFit, IsTyped}
 use Rattle.shader_runs.specs.Correct.{KeepsTypes, ModuleFits, HasTypedWorld}
-use Rattle.shader_runs.proofs.Calls.{runs_alike}
+use Rattle.shader_runs.proofs.OneRun.{runs_alike}
 use Rattle.shader_runs.proofs.Process.{Pause, Process, resumed, call_process}
 use Rattle.shader_runs.proofs.Performed.{call_outcome, call_performed}
 use Rattle.shader_runs.proofs.Courses.{Course, comes_to, stops, makes, asks, counts, joins}

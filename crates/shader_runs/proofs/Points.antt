@@ -4,7 +4,7 @@ use Rattle.std.proofs.Common.{arith}
 use Rattle.shader_runs.specs.Value.{PartTypes}
 use Rattle.shader_runs.specs.World.{Meaning, Environment}
 use Rattle.shader_runs.specs.Program.{expression_of, handle_type, Module}
-use Rattle.shader_runs.specs.ProgramRun.{Call, KeptValues}
+use Rattle.shader_runs.specs.ProgramRun.{Call, KeptValues, run_call}
 use Rattle.shader_runs.specs.TextRun.{Scope, word_use}
 use Rattle.shader_runs.specs.Scope.{Handles, ModuleNames, Names, Naming, at_start}
 use Rattle.shader_runs.specs.Form.{form_functions, functions_of, form_all}
@@ -16,8 +16,8 @@ use Rattle.shader_runs.proofs.Update.{has_types_length}
 use Rattle.shader_runs.proofs.Relation.{as_denoted, Stands, Related}
 use Rattle.shader_runs.proofs.Evaluation.{naming, words, Respond}
 use Rattle.shader_runs.proofs.Form.{Facts, typed_value, value_here}
-use Rattle.shader_runs.proofs.Calls.{starting, facts, starts, body_fits, calls_alike, uses_fit}
-use Rattle.shader_runs.proofs.Calls.{names_are}
+use Rattle.shader_runs.proofs.Calls.{starting, facts, starts, body_fits, calls_alike, named_alike}
+use Rattle.shader_runs.proofs.OneRun.{names_are, uses_fit}
 use Rattle.shader_runs.proofs.Places.{lines_there}
 use Rattle.shader_runs.proofs.Passes.{passes}
 use Rattle.shader_runs.proofs.Names.{items_fit, length-functions_of, module_names_in_scope}
@@ -96,9 +96,12 @@ points_agree p n later f fs fits s settings m typed vs h w turns before_entry t 
         let earlier = calls_alike p n uses known env environment w m turns fs within fit.1 all.1 one in
         let l = words_of p.parts (module_names_in_scope p n env) n every w m turns fs in
         let d : Respond = (l.operates, l.respond) in
-        let first = starting p n (functions_of fs) f fit.0 in
-        let facts = facts p n uses known env environment w m turns fs within fit.1 earlier f first all.0 vs before_entry h in
-        let start = starts p n uses known env environment w m turns fs within fit.1 earlier f first all.0 vs before_entry (has_types_length env.parts f.function.argument_types vs h) in
-        let body = body_fits p n uses known env environment w m turns fs within fit.1 earlier f fit.0 all.0 vs before_entry in
+        let alike = named_alike p n uses known env environment w m turns fs within fit.1 earlier in
+        let callees = functions_of fs in
+        let calls = run_call env w m turns callees in
+        let first = starting p n callees f fit.0 in
+        let facts = facts p n uses known env environment w m turns callees calls d alike f first all.0 vs before_entry h in
+        let start = starts p n uses known env environment w m turns callees calls d alike f first all.0 vs before_entry (has_types_length env.parts f.function.argument_types vs h) in
+        let body = body_fits p n uses known env environment w m turns callees calls d alike f first fit.0.regular fit.0.scope all.0 vs before_entry in
         let there = passes p c f.names d facts turns passed 0 (at_start f.function) _ start body in
         (there.0, there.1, (λ e. lines_there f c turns passed 0 (at_start f.function) e), facts_hold p c f.names d facts (handles_at f 0 f.function.body q (at_start f.function)) there.0 kept there.2)

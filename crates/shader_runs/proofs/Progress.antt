@@ -63,7 +63,7 @@ use Rattle.shader_runs.proofs.Statements.{ReturnsOf, ActionReturns, called_typed
 use Rattle.shader_runs.proofs.Fresh.{all_fresh, start_sources}
 use Rattle.shader_runs.proofs.ScopeRules.{everywhere_forgotten}
 use Rattle.shader_runs.proofs.Start.{start_stands}
-use Rattle.shader_runs.proofs.Calls.{runs_alike}
+use Rattle.shader_runs.proofs.OneRun.{runs_alike}
 use Rattle.shader_runs.specs.Constants.{environment_of}
 use Rattle.shader_runs.proofs.Constants.{environment_fits}
 use Rattle.std.proofs.lemmas.Option.{same_Some, none-some}

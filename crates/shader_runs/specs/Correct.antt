@@ -1,10 +1,10 @@
 -- The laws: a call runs alike by the text and by the module, event by event.
 --
--- Throughout, p is a module, n are its names and fs its functions with theirs, later are functions of
--- a text that stand after these, m is the meaning, w
--- the world, g the number of a function f, vs are its arguments and t the events so far, i is an
--- index and e an initialiser.
-use Rattle.std.specs.Prelude.{◌≡◌, ℕ, ◌<◌, ◌++◌, List, [], ◌∷◌, length, Some, IsTrue, slice_get}
+-- Throughout, p is a module, n are its names and fs its functions with theirs, m is the meaning, w the
+-- world, g the number of a function f, vs are its arguments and t the events so far, i is an index
+-- and e an initialiser. Functions of a text that stand after f are later, and those between f and
+-- its callees are between; others and uncalled are the module's there.
+use Rattle.std.specs.Prelude.{◌≡◌, ℕ, ◌++◌, List, [], ◌∷◌, length, Some, IsTrue, slice_get}
 use Rattle.std.specs.Prelude.{drop}
 use Rattle.shader_runs.specs.Value.{Value, has_types}
 use Rattle.shader_runs.specs.World.{World, Meaning, Event, Settings, Environment}
@@ -15,11 +15,12 @@ use Rattle.shader_runs.specs.ProgramRun.{constant_value}
 use Rattle.shader_runs.specs.Constants.{global_values, environment_of, run_module, follow_module}
 use Rattle.shader_runs.specs.Constants.{module_initialiser_value, text_initialiser_value}
 use Rattle.shader_runs.specs.Scope.{ModuleNames, Naming}
-use Rattle.shader_runs.specs.Form.{constant_form, form_functions, form_module, form_module_with}
-use Rattle.shader_runs.specs.Form.{functions_of}
+use Rattle.shader_runs.specs.Form.{constant_form, form_function, form_functions, form_module}
+use Rattle.shader_runs.specs.Form.{form_module_with, functions_of}
 use Rattle.shader_runs.specs.Text.{TextFunction}
 use Rattle.shader_runs.specs.Typing.{IsConsistent}
 use Rattle.shader_runs.specs.Premises.{IsTyped, AllFit, ConstantsFit, SettingsFit, EnvironmentFits}
+use Rattle.shader_runs.specs.Premises.{AreRegular, FunctionFits}
 use Rattle.shader_runs.specs.Premises.{ModuleNamesAreDistinct, EachWord, OperatesOutside}
 use Rattle.shader_runs.specs.Premises.{ConstantInRange}
 
@@ -48,14 +49,19 @@ pub record ItemsFit (p : Module) (n : ModuleNames) (functions : List TextFunctio
   pub named : AreNamed n functions
   pub counted : length functions ≡ length p.functions
 
--- fs are the first functions of the module, and fit. Of the others nothing is asked but their names,
--- whatever the text has for them
-pub record FirstFit (p : Module) (n : ModuleNames) (later : List TextFunction)
-    (fs : List Naming) : Type 0 where
-  pub items : ItemsFit p n (later ++ form_functions fs)
+-- f is a function of the module, and fits. Its callees are the module's first functions and fit, and
+-- all that it calls are among them. Of the functions between and of the later ones nothing is asked
+-- but their names, whatever the text has for them.
+pub record OneFits (p : Module) (n : ModuleNames) (later : List TextFunction) (f : Naming)
+    (between : List TextFunction) (callees : List Naming) : Type 0 where
+  pub items : ItemsFit p n (later ++ (form_function f ∷ (between ++ form_functions callees)))
   pub others : List Function
-  pub functions : others ++ functions_of fs ≡ p.functions
-  pub all : AllFit p n fs
+  pub uncalled : List Function
+  pub functions : others ++ (f.function ∷ (uncalled ++ functions_of callees)) ≡ p.functions
+  pub counted : length uncalled ≡ length between
+  pub own : FunctionFits p n (uncalled ++ functions_of callees) f
+  pub calls : AreRegular p (functions_of callees) f f.function.body
+  pub all : AllFit p n callees
 
 -- of every module whose scope holds, in every world that keeps the types, under all values of
 -- overrides and arguments of their types, every typed meaning and every bound on loop turns, a
@@ -75,19 +81,21 @@ RunsAlike =
     follow_module text p.parts settings w m n.vocabulary turns (n.function g) vs t
     ≡ run_module p settings w m turns g vs t
 
--- The same of one of the first functions, whatever stands after them in the module and in the text:
--- a function calls only those before it.
-abbrev pub FirstRunAlike : Type 0
-FirstRunAlike =
-    (p : Module) (n : ModuleNames) (later : List TextFunction) (fs : List Naming) →
-    FirstFit p n later fs →
+-- The same of one function that fits behind its callees, whatever stands after it, and between it
+-- and them, in the module and in the text.
+abbrev pub OneRunsAlike : Type 0
+OneRunsAlike =
+    (p : Module) (n : ModuleNames) (later : List TextFunction) (f : Naming)
+    (between : List TextFunction) (callees : List Naming) →
+    OneFits p n later f between callees →
     (settings : Settings) → SettingsFit p settings →
     (m : Meaning) → IsTyped p m →
-    (g : ℕ) → g < length fs → (f : Function) → function_numbered p.functions g ≡ Some f →
-    (vs : List Value) → IsTrue (has_types p.parts f.argument_types vs) →
+    (vs : List Value) → IsTrue (has_types p.parts f.function.argument_types vs) →
     (w : World) (turns : ℕ) (t : List Event) →
+    let g = f.names.earlier in
     KeepsTypes (run_module p settings w m turns g vs t) →
-    let text = form_module_with p n (later ++ form_functions fs) in
+    let functions = later ++ (form_function f ∷ (between ++ form_functions callees)) in
+    let text = form_module_with p n functions in
     follow_module text p.parts settings w m n.vocabulary turns (n.function g) vs t
     ≡ run_module p settings w m turns g vs t
 

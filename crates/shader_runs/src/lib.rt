@@ -1,7 +1,7 @@
 //! The run of a module, the run of the text that is written for it, and why they agree.
 #![tactic(auto)]
 
-ghost use Rattle.shader_runs.specs.Correct.{FirstRunAlike, RunsAlike};
+ghost use Rattle.shader_runs.specs.Correct.{OneRunsAlike, RunsAlike};
 ghost use Rattle.shader_runs.specs.Correct.{HasTypedMeaning, HasTypedWorld};
 ghost use Rattle.shader_runs.specs.Correct.{ConstantsAreComputed, InitialisersAreAlike};
 ghost use Rattle.shader_runs.specs.Identifiers.{BindsAsMeant, FunctionBindsAsMeant};
@@ -19,10 +19,10 @@ ghost use Rattle.shader_runs.specs.StatementRows.{StatementRowsHold};
 ghost use Rattle.shader_runs.specs.VariableRows.{VariableRowsHold};
 
 /// A module's functions and entry points and their texts make the same events and end alike.
-/// So do the first ones, whatever stands after them.
+/// So does one behind its callees, whatever stands after it and between it and them.
 pub fn runs_alike()
     ensures whole { RunsAlike }
-    ensures first { FirstRunAlike }
+    ensures one { OneRunsAlike }
 {}
 
 /// At each point that a run passes, inside branches, cases, blocks and each turn of a loop too,

@@ -4,7 +4,7 @@ use bitflags::Flags;
 use naga_wgsl_out::back::FunctionType;
 use naga_wgsl_out::builder::{FunctionBuilder, ModuleBuilder};
 use naga_wgsl_out::info::{accepts, count, unaccepted};
-use naga_wgsl_out::ir::{Binding, BuiltIn, Place, Sampling, Scalar};
+use naga_wgsl_out::ir::{Binding, BuiltIn, Place, Sampling, Scalar, ShaderStage};
 use naga_wgsl_out::wgsl::{
     CheckedError, Error, Writer, WriterFlags, names_of, no_flags, write_binding, write_checked,
     write_function, write_string,
@@ -94,20 +94,19 @@ fn add_without_text(rt: &impl Abort, alloc: Global, shader: &mut ModuleBuilder) 
     shader.add_function(function).expect(rt, "memory");
 }
 
-/// What stands after a function is nothing to its text: the first one is written, and the last one
-/// is refused, as the module is.
-#[test]
-fn a_function_is_written_before_one_that_is_refused(rt: HostRuntime) {
-    let alloc = rt.alloc();
-    let mut shader = ModuleBuilder::new(alloc);
-    Row::Named.build(alloc, &mut shader).expect(&rt, "memory");
-    add_without_text(&rt, alloc, &mut shader);
+/// The first function is written, and this later one is refused, as the module is.
+fn first_is_written_alone(
+    rt: &impl Abort,
+    alloc: Global,
+    shader: &mut ModuleBuilder,
+    later: FunctionType,
+) {
     count(&mut shader.info, &shader.module);
     assert!(rt; accepts(&shader.module, &shader.info));
     assert_eq!(rt; shader.module.functions.len(), 2);
     let whole = write_string(alloc, &shader.module, &shader.info, no_flags());
     assert!(rt; whole.is_err());
-    let (names, mut namer) = names_of(alloc, &shader.module).expect(&rt, "names");
+    let (names, mut namer) = names_of(alloc, &shader.module).expect(rt, "names");
     let mut text = String::new(alloc);
     write_function(
         alloc,
@@ -119,20 +118,44 @@ fn a_function_is_written_before_one_that_is_refused(rt: HostRuntime) {
         WriterFlags::empty(),
         &mut text,
     )
-    .expect(&rt, "a text");
-    reads(&rt, text.as_str(), NAMED);
+    .expect(rt, "a text");
+    reads(rt, text.as_str(), NAMED);
     let refused = write_function(
         alloc,
         &shader.module,
         &shader.info,
-        FunctionType::Function(Place::from_index(1)),
+        later,
         &names,
         &mut namer,
         WriterFlags::empty(),
         &mut text,
     );
     assert!(rt; refused.is_err());
-    reads(&rt, text.as_str(), NAMED);
+    reads(rt, text.as_str(), NAMED);
+}
+
+/// What stands after a function is nothing to its text: not the body of a later one.
+#[test]
+fn a_function_is_written_before_one_that_is_refused(rt: HostRuntime) {
+    let alloc = rt.alloc();
+    let mut shader = ModuleBuilder::new(alloc);
+    Row::Named.build(alloc, &mut shader).expect(&rt, "memory");
+    add_without_text(&rt, alloc, &mut shader);
+    let later = FunctionType::Function(Place::from_index(1));
+    first_is_written_alone(&rt, alloc, &mut shader, later);
+}
+
+/// Nor is the head of an entry point, as that of a mesh stage that lacks its output.
+#[test]
+fn a_function_is_written_before_a_stage_that_is_refused(rt: HostRuntime) {
+    let alloc = rt.alloc();
+    let mut shader = ModuleBuilder::new(alloc);
+    Row::Named.build(alloc, &mut shader).expect(&rt, "memory");
+    let function = FunctionBuilder::new(alloc, "main").expect(&rt, "memory");
+    shader
+        .add_entry_point("main", ShaderStage::Mesh, [1, 1, 1], function)
+        .expect(&rt, "memory");
+    first_is_written_alone(&rt, alloc, &mut shader, FunctionType::EntryPoint(0));
 }
 
 const COMPUTE: &str = "@compute @workgroup_size(64, 1, 1) \nfn main() {\n}\n";

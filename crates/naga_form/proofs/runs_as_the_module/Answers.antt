@@ -1,4 +1,4 @@
-use Rattle.naga_form.proofs.OneFunction.{runs_at}
+use Rattle.naga_form.proofs.OneFunction.{numbered_runs_at}
 use Rattle.naga_form.proofs.Runs.{runs_as_under}
 use Rattle.naga_form.proofs.runs_as_the_module.Goals as goal
 
@@ -6,4 +6,4 @@ pub returns-clause-whole : goal.returns-clause-whole
 returns-clause-whole c = runs_as_under
 
 pub returns-clause-one : goal.returns-clause-one
-returns-clause-one c = runs_at
+returns-clause-one c = numbered_runs_at

@@ -1,4 +1,4 @@
-use Rattle.shader_runs.proofs.Calls.{initialisers_are_alike}
+use Rattle.shader_runs.proofs.OneRun.{initialisers_are_alike}
 use Rattle.shader_runs.proofs.initialisers_are_alike.Goals as goal
 
 pub returns : goal.returns
