@@ -16,6 +16,7 @@ pub mod DeclarationForms
 pub mod Layouts
 pub mod Lists
 pub mod ModuleShapeExamples
+mod ComputedExamples
 pub mod PlaceExamples
 pub mod NumberExamples
 pub mod Operations

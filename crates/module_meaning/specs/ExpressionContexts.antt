@@ -14,7 +14,7 @@ use Rattle.naga_info.specs.declared.info.TypeResolution.{TypeResolution}
 use Rattle.naga_info.specs.declared.info.TypeResolution.TheVariants.{Handle}
 use Rattle.naga_names.specs.declared.key.NameKey.TheVariants as key
 use Rattle.module_meaning.specs.ExpressionOperators.{ExpressionContext, constructor}
-use Rattle.module_meaning.specs.ExpressionShapes.{Declared, tree_over}
+use Rattle.module_meaning.specs.ExpressionShapes.{Declared, computed_over}
 use Rattle.module_meaning.specs.InfoSizes.{is_handle_space}
 use Rattle.module_meaning.specs.Names.{module_names, name_in}
 use Rattle.module_meaning.specs.OperatorTable.{if_there, run_word}
@@ -77,10 +77,10 @@ zero_of_type m ty =
     Constructed (run_word (constructor (expression_context m (λ h. None)) (Handle ty) 0))
     (type_of_values m (Handle ty)) no_constant
 
--- A constant as it is written, over the trees of the module's own expressions: by its number, or
--- without a name by its initialiser. One without a name whose initialiser is not written out, since
--- it applies an operator other than a composition or a splat, counts as the zero value of its type:
--- no text is written for what uses it.
+-- A constant over the trees of the module's own expressions: by its number, or without a name by
+-- its initialiser. One without a name whose initialiser has no tree, as it asks for an event or
+-- takes a part of what a pointer leads to, counts as the zero value of its type: no text is written
+-- for what uses it.
 abbrev pub constant_over : Module → (own : ℕ → Option ConstantTree) → ℕ → Option ConstantTree
 constant_over m own h =
     option_map
@@ -95,7 +95,7 @@ global_tree_within zero m info h = None
 global_tree_within (suc levels) m info h =
     let own = global_tree_within levels m info in
     let inside = declared_over m (constant_over m own) (global_types_known info) in
-    option_and_then (tree_over inside own h) (slice_get m.global_expressions h)
+    option_and_then (computed_over inside own h) (slice_get m.global_expressions h)
 
 -- the tree of such an expression, before which its operands and the initialisers of the constants
 -- that it names stand

@@ -14,6 +14,7 @@ use Rattle.naga_ir.specs.declared.expression.SampleLevel.{SampleLevel}
 use Rattle.naga_ir.specs.declared.expression.SampleLevel.TheVariants as level
 use Rattle.naga_ir.specs.declared.expression.SwizzleComponent.{SwizzleComponent}
 use Rattle.naga_ir.specs.declared.expression.SwizzleComponent.TheVariants as component
+use Rattle.naga_ir.specs.declared.operators.BinaryOperator.TheVariants as binary
 use Rattle.naga_ir.specs.declared.types.VectorSize.{VectorSize}
 use Rattle.naga_ir.specs.declared.types.TypeInner.{TypeInner}
 use Rattle.naga_ir.specs.declared.types.TypeInner.TheVariants as inner
@@ -21,7 +22,7 @@ use Rattle.naga_info.specs.declared.info.TypeResolution.{TypeResolution}
 use Rattle.naga_info.specs.declared.info.TypeResolution.TheVariants.{Handle}
 use Rattle.naga_info.specs.Resolution.{inner_of, handle_of}
 use Rattle.module_meaning.specs.ExpressionOperators.{ExpressionContext, applied_operator}
-use Rattle.module_meaning.specs.ExpressionOperators.{constructor}
+use Rattle.module_meaning.specs.ExpressionOperators.{constructor, part_operator}
 use Rattle.module_meaning.specs.ExpressionOperators.{type_with, load_operator}
 use Rattle.module_meaning.specs.Literals.{literal_value}
 use Rattle.module_meaning.specs.OperatorTable.{Operator as TableOperator, Splat, Sample, Gather}
@@ -29,9 +30,10 @@ use Rattle.module_meaning.specs.OperatorTable.{Texel, ImageSize, CountOf, Withou
 use Rattle.module_meaning.specs.OperatorTable.{run_word}
 use Rattle.module_meaning.specs.Shapes.{operator_shape}
 use Rattle.module_meaning.specs.TypeIdentity.{vector_number}
-use Rattle.shader_runs.specs.Value.{Selector, MemberNamed, ElementAt, ValueType, Truth}
-use Rattle.shader_runs.specs.Value.{Opaque}
+use Rattle.shader_runs.specs.Value.{Selector, MemberNamed, ElementAt, ValueType, PointerType}
+use Rattle.shader_runs.specs.Value.{Truth, Opaque, ShortCircuit, ShortCircuitAnd, ShortCircuitOr}
 use Rattle.shader_runs.specs.Program.{ConstantTree, Fixed, Constructed, ConstantTrees, no_constant}
+use Rattle.shader_runs.specs.Program.{Indexing, Picking, Joining}
 use Rattle.shader_runs.specs.Program.{constant, Expression, Constant, Argument, Local, Global, Load}
 use Rattle.shader_runs.specs.Program.{Access, AccessIndex, Swizzle, Request}
 use Rattle.shader_runs.specs.Program.{AskingRule, WhenCounted, Always, Result}
@@ -97,8 +99,7 @@ tree_within (suc levels) d es h =
 abbrev pub constant_tree : Declared → List ir.Expression → ℕ → Option ConstantTree
 constant_tree d es h = tree_within (suc h) d es h
 
--- a constant; one without a tree, for which no text is written (it applies an operator that is no
--- composition), is `false`
+-- a constant; one without a tree, for which no text is written, is `false`
 abbrev pub constant_shape : Option ConstantTree → Expression
 constant_shape t = Constant (unwrap_or t (Fixed (Truth false)))
 
@@ -174,6 +175,82 @@ part_selector d base index =
 abbrev pub part_shape : (base index : ℕ) → Option Selector → Expression
 part_shape base index (Some s) = AccessIndex s base
 part_shape base index None = applied_shape (WithoutForm (PartAt index)) (base ∷ [])
+
+-- ---- computed constants
+-- it is no pointer's type
+abbrev pub is_value_type : ValueType → Bool
+is_value_type (PointerType spelling) = false
+is_value_type _ = true
+
+-- the expression with this handle has values, and no pointers
+abbrev pub has_values : Declared → ℕ → Bool
+has_values d h = option_map_or (λ r. is_value_type (d.value_type r)) (d.context.known h) false
+
+-- a tree of the type that is known of the expression with this handle
+abbrev pub typed_tree : Declared → ℕ → (ValueType → ConstantTree) → Option ConstantTree
+typed_tree d h make = option_map (λ r. make (d.value_type r)) (d.context.known h)
+
+-- over two operands
+abbrev pub over_two :
+    (ConstantTree → ConstantTree → Option ConstantTree) → (a b : Option ConstantTree) →
+    Option ConstantTree
+over_two make a b = option_and_then (λ t. option_and_then (make t) b) a
+
+-- an index into a constant
+abbrev pub indexed : Declared → ℕ → (base index : ConstantTree) → Option ConstantTree
+indexed d h base index = typed_tree d h (λ ty. Indexing ty base index)
+
+-- a part of a constant
+abbrev pub picked : Declared → ℕ → Selector → (base : ConstantTree) → Option ConstantTree
+picked d h part base = typed_tree d h (λ ty. Picking part ty base)
+
+-- `&&` or `||` of constants
+abbrev pub joined : Declared → ℕ → ShortCircuit → (left right : ConstantTree) → Option ConstantTree
+joined d h circuit left right = typed_tree d h (λ ty. Joining circuit ty left right)
+
+-- an operator over the trees of its operands, unless it asks for an event
+abbrev pub operated : Declared → (ℕ → Option ConstantTree) → ℕ → (operands : List ℕ) →
+    Option TableOperator → Option ConstantTree
+operated d tree_of h operands None = None
+operated d tree_of h operands (Some operator) =
+    if asks operator then None else option_and_then (built d h operator) (trees_of tree_of operands)
+
+-- a part of a constant that has parts, or the operator that is applied to one that has none
+abbrev pub part_tree : Declared → (ℕ → Option ConstantTree) → ℕ → (base : ℕ) → Option Selector →
+    Option TableOperator → Option ConstantTree
+part_tree d tree_of h base (Some part) operator =
+    if has_values d base then option_and_then (picked d h part) (tree_of base) else None
+part_tree d tree_of h base None operator = operated d tree_of h (base ∷ []) operator
+
+-- One of the module's own expressions over the trees of its operands: as it is written out, or the
+-- operator that it applies, written or not. What asks for an event has no such tree, and no
+-- constant points to what has parts.
+abbrev pub computed_over :
+    Declared → (ℕ → Option ConstantTree) → ℕ → ir.Expression → Option ConstantTree
+computed_over d tree_of h (expression.Literal value) =
+    tree_over d tree_of h (expression.Literal value)
+computed_over d tree_of h (expression.Constant handle) =
+    tree_over d tree_of h (expression.Constant handle)
+computed_over d tree_of h (expression.Override handle) =
+    tree_over d tree_of h (expression.Override handle)
+computed_over d tree_of h (expression.ZeroValue ty) =
+    tree_over d tree_of h (expression.ZeroValue ty)
+computed_over d tree_of h (expression.Compose ty components) =
+    tree_over d tree_of h (expression.Compose ty components)
+computed_over d tree_of h (expression.Splat size value) =
+    tree_over d tree_of h (expression.Splat size value)
+computed_over d tree_of h (expression.Access base index) =
+    if has_values d base then over_two (indexed d h) (tree_of base) (tree_of index) else None
+computed_over d tree_of h (expression.AccessIndex base index) =
+    part_tree d tree_of h base (part_selector d base index) (part_operator d.context base index)
+computed_over d tree_of h (expression.Swizzle size vector pattern) =
+    part_tree d tree_of h vector (Some (MemberNamed (swizzle_letters size pattern))) None
+computed_over d tree_of h (expression.Binary binary.LogicalAnd left right) =
+    over_two (joined d h ShortCircuitAnd) (tree_of left) (tree_of right)
+computed_over d tree_of h (expression.Binary binary.LogicalOr left right) =
+    over_two (joined d h ShortCircuitOr) (tree_of left) (tree_of right)
+computed_over d tree_of h e =
+    operated d tree_of h (expression_operands e) (applied_operator d.context e)
 
 -- ---- images
 -- the number `0.0`

@@ -1,19 +1,23 @@
--- What an accepted module may hold that no text is ever written for, and of which the laws about the
--- runs of all accepted modules ask that there is none: a constant with a name that applies an
--- operator other than a composition or a splat, and a case with statements that falls through.
+-- What is written out as a constant; and what an accepted module may hold that no text is ever
+-- written for, and of which the laws about the runs of all accepted modules ask that there is none:
+-- a constant with a name that no operators compute from others, and a case with statements that
+-- falls through.
 --
--- Throughout, m is a module, es are its own expressions, e is one of them and h a handle of one, s
--- is a statement, b the rest of a block and cs the further cases.
+-- Throughout, m is a module, info what is known of it, es are its own expressions, e is one of them
+-- and h a handle of one, c is a constant, s a statement, b the rest of a block and cs the further
+-- cases.
 use Rattle.std.specs.Prelude.{◌≡◌, ℕ, zero, suc, Bool, true, false, ◌&&◌, ◌||◌, not, List}
 use Rattle.std.specs.Prelude.{slice_get}
 use Rattle.std.specs.List.{list_all}
-use Rattle.std.specs.Option.{is_none, option_map_or}
+use Rattle.std.specs.Option.{is_none, is_some, option_map_or}
 use Rattle.naga_ir.specs.StatementTree.{BlockTree, no_statements, statement, CaseTrees, no_cases}
 use Rattle.naga_ir.specs.StatementTree.{case, StatementTree, simple, block, branch, switch, loop}
 use Rattle.naga_ir.specs.StatementTree.{has_no_statements}
 use Rattle.naga_ir.specs.declared.expression.Expression.{Expression}
 use Rattle.naga_ir.specs.declared.expression.Expression.TheVariants as expression
 use Rattle.naga_ir.specs.declared.module.Module.{Module}
+use Rattle.naga_info.specs.declared.info.ModuleInfo.{ModuleInfo}
+use Rattle.module_meaning.specs.ExpressionContexts.{global_tree}
 
 -- ---- constants
 -- an expression is written out as a constant, if these handles are
@@ -37,10 +41,11 @@ written_out_within (suc levels) es h =
 abbrev pub is_written_out : List Expression → ℕ → Bool
 is_written_out es h = written_out_within (suc h) es h
 
--- the initialiser of each constant with a name is
-abbrev pub AreWrittenOut : Module → Type 0
-AreWrittenOut m =
-    list_all (λ c. is_none c.name || is_written_out m.global_expressions c.init) m.constants ≡ true
+-- the initialiser of each constant with a name has a tree, written out or not: nothing in it asks
+-- for an event, or takes a part of what a pointer leads to
+abbrev pub AreComputed : Module → ModuleInfo → Type 0
+AreComputed m info =
+    list_all (λ c. is_none c.name || is_some (global_tree m info c.init)) m.constants ≡ true
 
 -- ---- cases
 -- only empty cases fall through, in a statement, in a block and among cases
@@ -71,6 +76,6 @@ pub record OnlyEmptyFall (m : Module) : Type 0 where
 
 -- ---- modules
 -- the module holds neither
-pub record IsWritable (m : Module) : Type 0 where
-  pub constants : AreWrittenOut m
+pub record IsWritable (m : Module) (info : ModuleInfo) : Type 0 where
+  pub constants : AreComputed m info
   pub cases : OnlyEmptyFall m

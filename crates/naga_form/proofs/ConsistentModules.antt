@@ -10,9 +10,11 @@ use Rattle.module_meaning.specs.Accepted.{is_accepted}
 use Rattle.module_meaning.specs.Meanings.{OperatorsAreConsistent, HasTypedMeaning}
 use Rattle.module_meaning.specs.ModuleShapes.{module_shape}
 use Rattle.shader_runs.specs.Program.{Function, expression_of, handle_type}
-use Rattle.shader_runs.specs.Typing.{Signature, IsSpelled, PartsFit}
+use Rattle.shader_runs.specs.Typing.{Signature, IsSpelled, LeafTreesFit, PartsFit}
 use Rattle.naga_form.proofs.AgreeingSignatures.{signatures_agree}
-use Rattle.naga_form.proofs.ConstantInitialisers.{tree_spelled, initialiser_spelled}
+use Rattle.naga_form.proofs.ConstantInitialisers.{initialiser_fits, initialiser_spelled}
+use Rattle.naga_form.proofs.ConstantInitialisers.{tree_fits, tree_spelled}
+use Rattle.naga_form.proofs.LeafTrees.{leaf_trees_fit}
 use Rattle.naga_form.proofs.PartsFit.{parts_fit}
 use Rattle.shader_runs.proofs.Typing.{has_typed_meaning}
 use Rattle.naga_form.proofs.ModulePlaces.{function_at}
@@ -28,6 +30,14 @@ module _ (m : ir_module.Module) (info : ModuleInfo) (accepted : IsTrue (is_accep
       subst (λ f. PartsFit (module_shape m info).parts f (handle_type f h) (expression_of f h)) (sym k.same)
       (parts_fit m info accepted distinguished k.function k.known k.sound h)
 
+  -- and so do the constants in it
+  constants : (place : ℕ) (f : Function) → slice_get (module_shape m info).functions place ≡ Some f →
+      (h : ℕ) → LeafTreesFit (module_shape m info) (expression_of f h)
+  constants place f there h =
+      let k = function_at m info accepted distinguished.types place f there in
+      subst (λ f. LeafTreesFit (module_shape m info) (expression_of f h)) (sym k.same)
+      (leaf_trees_fit m info (tree_fits m info accepted distinguished.types) k.function k.known k.sound h)
+
   -- what is spelled is of an expression
   spelled : (x : Signature) → IsSpelled (module_shape m info) x → IsOfExpression m info x
   spelled = of_spelled m info (tree_spelled m info accepted distinguished.types) accepted distinguished.types (initialiser_spelled m info accepted distinguished.types)
@@ -36,6 +46,8 @@ module _ (m : ir_module.Module) (info : ModuleInfo) (accepted : IsTrue (is_accep
   consistent = record {
     alike = λ x y is_x is_y. signatures_agree m info accepted distinguished x y (spelled x is_x) (spelled y is_y);
     parts = parts;
+    constants = constants;
+    initialisers = initialiser_fits m info accepted distinguished.types;
   }
 
   -- so that there is a typed meaning

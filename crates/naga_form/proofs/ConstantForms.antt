@@ -15,7 +15,9 @@ use Rattle.module_meaning.proofs.ExpressionForms.{declared_of_spellable, spelled
 use Rattle.module_meaning.specs.AlikeTypes.{is_spelled}
 use Rattle.module_meaning.specs.Undeclared.{is_spellable, is_undeclared_struct}
 use Rattle.module_meaning.specs.ExpressionOperators.{ExpressionContext, constructor}
-use Rattle.module_meaning.specs.ExpressionShapes.{Declared, built, tree_over, tree_then, tree_within}
+use Rattle.module_meaning.specs.ExpressionShapes.{Declared, built, computed_over, tree_over, tree_then}
+use Rattle.module_meaning.specs.ExpressionShapes.{tree_within}
+use Rattle.naga_form.proofs.ComputedTrees.{computed_as_formed}
 use Rattle.module_meaning.specs.ExpressionShapes.{trees, trees_of}
 use Rattle.module_meaning.specs.Literals.{literal_value}
 use Rattle.module_meaning.specs.Names.{constant_name, module_names}
@@ -330,14 +332,20 @@ module _ (outer : ModuleNames) (m : Module) (info : ModuleInfo) (t : TypeNames)
           ((x : ℕ) → own x ≡ true → IsReadAs outer (tree_of x) (part x)) →
           IsReadAs outer
           (option_and_then
-          (tree_over (declared_over m (constant_over m tree_of) (global_types_known info)) tree_of h) o)
+          (computed_over (declared_over m (constant_over m tree_of) (global_types_known info)) tree_of h) o)
           (option_map_or
           (constant_form_over (expression_context m (λ x. None)) t (constant_form_by m part) part) o
           no_constant_form)
       by None at is each = absurd cc
       by (Some e) at is each =
-          over_read outer m (constant_over m tree_of) (global_types_known info) (λ h. None) t spells
-          tree_of part (constant_form_by m part) h (known e at) e (out_of each e is)
+          subst
+          (λ o. IsReadAs outer o
+          (constant_form_over (expression_context m (λ x. None)) t (constant_form_by m part) part e))
+          (sym
+          (computed_as_formed m (declared_over m (constant_over m tree_of) (global_types_known info))
+          tree_of h own e is))
+          (over_read outer m (constant_over m tree_of) (global_types_known info) (λ h. None) t spells
+          tree_of part (constant_form_by m part) h (known e at) e (out_of each e is))
 
   -- what is written of the module's own expressions is read as its tree
   pub globals_read : (h : ℕ) → global_is_written m h ≡ true →

@@ -16,7 +16,7 @@ use Rattle.naga_info.specs.declared.info.TypeResolution.TheVariants.{Handle}
 use Rattle.naga_info.proofs.Options.{map_some}
 use Rattle.shader_runs.specs.Program.{ConstantTree, Fixed}
 use Rattle.shader_runs.specs.Premises.{constant_type, ConstantInRange}
-use Rattle.shader_runs.specs.Typing.{Signature, constant_signatures, IsOneOf}
+use Rattle.shader_runs.specs.Typing.{Signature, constant_signatures, IsOneOf, TreeFits}
 use Rattle.shader_runs.specs.Value.{Truth, type_at}
 use Rattle.module_meaning.specs.Accepted.{is_accepted}
 use Rattle.module_meaning.specs.AgreeingOperators.{Group}
@@ -64,6 +64,10 @@ module _ (m : Module) (info : ModuleInfo) (accepted : IsTrue (is_accepted m info
       ConstantInRange (module_shape m info) t
   tree_in_range f g is h t found = (trees_are m info accepted distinguished f g is h t found).range
 
+  pub tree_fits : (f : Option Function) (g : Group) → IsSoundGroup m info f g → (h : ℕ) (t : ConstantTree) → constant_tree (declared_for m info g) g.expressions h ≡ Some t →
+      TreeFits (module_shape m info) t
+  tree_fits f g is h t found = (trees_are m info accepted distinguished f g is h t found).fits
+
   -- ---- initialisers of named constants
   -- the named constant that an initialiser is of, among all constants
   pub record IsInitialiser (i : ℕ) (e : ConstantTree) : Type 0 where
@@ -100,6 +104,12 @@ module _ (m : Module) (info : ModuleInfo) (accepted : IsTrue (is_accepted m info
       let k = initialiser_of i e at in
       subst (ConstantInRange (module_shape m info)) k.is
       (initialiser_by (ConstantInRange (module_shape m info)) tt k.handle k.constant k.there (λ t is. is.range))
+
+  pub initialiser_fits : (i : ℕ) (e : ConstantTree) → slice_get (module_shape m info).initialisers i ≡ Some e → TreeFits (module_shape m info) e
+  initialiser_fits i e at =
+      let k = initialiser_of i e at in
+      subst (TreeFits (module_shape m info)) k.is
+      (initialiser_by (TreeFits (module_shape m info)) tt k.handle k.constant k.there (λ t is. is.fits))
 
   -- each named constant is computed from a tree
   abbrev pub HaveTrees : Type 0

@@ -3,11 +3,13 @@
 use Rattle.module_meaning.specs.Names.{TypesAreDistinguished}
 use Rattle.std.proofs.Common.{◌≡◌, ℕ, zero, suc, ◌<◌, ◌≤◌, Bool, true, false, List, [], ◌∷◌, refl, sym, ap, ◌∙◌, length, subst}
 use Rattle.std.proofs.Common.{Option, Some, None, slice_get, arith, nat_lt, if◌then◌else◌}
+use Rattle.std.specs.List.{AllByRecursion}
 use Rattle.std.specs.Prelude.{IsTrue, unwrap_or}
 use Rattle.std.specs.Option.{option_map, option_map_or, is_some}
 use Rattle.std.proofs.lemmas.Bool.{and_parts, ltb-true}
 use Rattle.std.proofs.lemmas.List.{length-map}
 use Rattle.std.proofs.lemmas.Option.{same_Some}
+use Rattle.naga_ir.specs.Operands.{expression_operands}
 use Rattle.naga_ir.specs.declared.expression.Expression.{Expression}
 use Rattle.naga_ir.specs.declared.expression.Expression.TheVariants as expression
 use Rattle.naga_ir.specs.declared.module.Constant.{Constant}
@@ -16,18 +18,20 @@ use Rattle.naga_info.specs.declared.info.ModuleInfo.{ModuleInfo}
 use Rattle.naga_info.specs.declared.info.TypeResolution.TheVariants.{Handle}
 use Rattle.naga_info.proofs.Options.{then_some, map_some}
 use Rattle.shader_runs.specs.Program.{ConstantTree, Fixed, NamedConstant, Constructed, ConstantTrees, no_constant, constant, constant_count}
+use Rattle.shader_runs.specs.Program.{Indexing, Picking, Joining}
 use Rattle.shader_runs.specs.Program as program
 use Rattle.shader_runs.specs.Premises.{EachLeaf, EachLeafOf}
 use Rattle.shader_runs.specs.Value.{Value, Truth}
 use Rattle.module_meaning.specs.Accepted.{is_accepted}
 use Rattle.module_meaning.specs.ExpressionOperators.{constructor}
-use Rattle.module_meaning.specs.ExpressionShapes.{Declared, trees, tree_then, trees_of, built, tree_over}
+use Rattle.module_meaning.specs.ExpressionShapes.{Declared, trees, tree_then, trees_of, built, tree_over, computed_over}
 use Rattle.module_meaning.specs.ModuleShapes.{module_shape, named_constants, initialiser}
 use Rattle.module_meaning.specs.OperatorTable.{Operator, Splat, run_word}
 use Rattle.module_meaning.specs.Ranges.{all_below}
 use Rattle.module_meaning.specs.ExpressionContexts.{constant_over, declared_over, global_tree, global_tree_within, constant_number, override_number}
 use Rattle.module_meaning.specs.ExpressionContexts.{global_types_known, zero_of_type}
 use Rattle.naga_form.proofs.ConstantInitialisers.{initialiser_of}
+use Rattle.naga_form.proofs.ComputedTrees.{HoldsOfMade, of_computed}
 use Rattle.naga_form.proofs.ConstantTrees.{availability_tree}
 use Rattle.naga_form.proofs.NamedConstants.{constants_counted, named_at, types_count, types_of_constants}
 use Rattle.naga_form.proofs.WrittenOut.{Own, own_is, constant_named, initialiser_stands_before}
@@ -41,6 +45,9 @@ mutual
   leaves_follow P Q more (Fixed v) are = tt
   leaves_follow P Q more (NamedConstant k) are = more k are
   leaves_follow P Q more (Constructed w ty ts) are = all_leaves_follow P Q more ts are
+  leaves_follow P Q more (Indexing ty b i) are = (leaves_follow P Q more b are.0, leaves_follow P Q more i are.1)
+  leaves_follow P Q more (Picking x ty b) are = leaves_follow P Q more b are
+  leaves_follow P Q more (Joining j ty l r) are = (leaves_follow P Q more l are.0, leaves_follow P Q more r are.1)
 
   all_leaves_follow : (P Q : ℕ → Type 0) → ((k : ℕ) → P k → Q k) → (ts : ConstantTrees) → EachLeafOf AnyValue P ts → EachLeafOf AnyValue Q ts
   all_leaves_follow P Q more no_constant are = tt
@@ -120,6 +127,28 @@ module _ (m : Module) (info : ModuleInfo) where
           built_before h h (Splat size) (parts.0 ∷ []) (below v (ltb-true v h low.0) parts.0 parts.1, tt) t parts.2
       over_before tree_of h _ at below t found = absurd cc
 
+      made_before : (bound : ℕ) → HoldsOfMade (EachLeaf AnyValue (Before bound)) (EachLeafOf AnyValue (Before bound))
+      made_before bound = record {
+        no_trees = tt;
+        more = λ t ts one all. (one, all);
+        indexing = λ ty b i one two. (one, two);
+        picking = λ x ty b one. one;
+        joining = λ j ty l r one two. (one, two);
+      }
+
+      computed_before : (tree_of : ℕ → Option ConstantTree) (h : ℕ) (e : Expression) → slice_get m.global_expressions h ≡ Some e →
+          ((k : ℕ) → k < h → (t : ConstantTree) → tree_of k ≡ Some t → EachLeaf AnyValue (Before h) t) → (t : ConstantTree) → computed_over inside tree_of h e ≡ Some t → EachLeaf AnyValue (Before h) t
+      computed_before tree_of h e at below t found =
+          of_computed inside tree_of (EachLeaf AnyValue (Before h)) (EachLeafOf AnyValue (Before h)) (made_before h) h e
+          (over_before tree_of h e at below) (each_below (expression_operands e) ((own_is m info accepted).below h e at))
+          (λ a applied silent ty ts all. all) t found
+        where
+          each_below : (hs : List ℕ) → all_below h hs ≡ true → AllByRecursion (λ k. (t : ConstantTree) → tree_of k ≡ Some t → EachLeaf AnyValue (Before h) t) hs
+          each_below [] are = tt
+          each_below (k ∷ hs) are =
+              let low = and_parts (nat_lt k h) (all_below h hs) are in
+              (below k (ltb-true k h low.0), each_below hs low.1)
+
     named_before : (h : ℕ) (c : Constant) → slice_get m.constants h ≡ Some c → is_some c.name ≡ true → Before (suc c.init) (constant_number m h)
     named_before h c at named lt =
         let rank : constant_rank (constant_number m h) ≡ c.init = ap (λ o. option_map_or (λ c. c.init) o 0) (named_at m.constants h c at named) in
@@ -147,8 +176,8 @@ module _ (m : Module) (info : ModuleInfo) where
     globals_before zero h t found = absurd cc
     globals_before (suc levels) h t found =
         let global = global_tree_within levels m info in
-        let parts = then_some (tree_over (declared_over m (constant_over m global) (global_types_known info)) global h) (slice_get m.global_expressions h) t found in
-        over_before (constant_over m global) (constants_before global (globals_before levels)) global h parts.0 parts.1
+        let parts = then_some (computed_over (declared_over m (constant_over m global) (global_types_known info)) global h) (slice_get m.global_expressions h) t found in
+        computed_before (constant_over m global) (constants_before global (globals_before levels)) global h parts.0 parts.1
         (λ k lt u is. before_more k h (omega (arith, lt)) u (globals_before levels k u is)) t parts.2
 
     -- an initialiser names constants of smaller ranks alone

@@ -6,16 +6,18 @@ use Rattle.module_meaning.specs.Names.{TypesAreDistinguished}
 use Rattle.shader_runs.proofs.Typing.{no_signature}
 use Rattle.naga_form.proofs.Signatures.{either_signature, only_signature}
 use Rattle.std.proofs.Common.{◌≡◌, ℕ, zero, suc, Bool, true, false, List, [], ◌∷◌, refl, sym, ap, ◌∙◌, length, subst}
-use Rattle.std.proofs.Common.{Option, Some, None, slice_get, map, ◌&&◌, if◌then◌else◌}
+use Rattle.std.proofs.Common.{Option, Some, None, slice_get, map, ◌&&◌, ◌++◌, if◌then◌else◌}
 use Rattle.std.specs.List.{list_all}
 use Rattle.std.specs.Prelude.{IsTrue, unwrap_or}
-use Rattle.std.specs.Option.{option_map, option_map_or, is_some}
+use Rattle.std.specs.Option.{option_map, option_map_or, option_and_then, is_some}
 use Rattle.std.proofs.lemmas.Bool.{and_parts}
 use Rattle.std.proofs.lemmas.Option.{same_Some}
 use Rattle.std.proofs.lemmas.Slice.Eq.{bytes_eq-Decides}
 use Rattle.naga_ir.specs.Operands.{expression_operands}
 use Rattle.naga_ir.specs.declared.expression.Expression.{Expression}
 use Rattle.naga_ir.specs.declared.expression.Expression.TheVariants as expression
+use Rattle.naga_ir.specs.declared.operators.BinaryOperator.{BinaryOperator}
+use Rattle.naga_ir.specs.declared.operators.BinaryOperator.TheVariants as binary
 use Rattle.naga_ir.specs.declared.module.Constant.{Constant}
 use Rattle.naga_ir.specs.declared.module.Function.{Function}
 use Rattle.naga_ir.specs.declared.module.Module.{Module}
@@ -25,23 +27,29 @@ use Rattle.naga_info.specs.declared.info.TypeResolution.{TypeResolution}
 use Rattle.naga_info.specs.declared.info.TypeResolution.TheVariants.{Handle, Value}
 use Rattle.naga_info.proofs.Options.{then_some, map_some}
 use Rattle.shader_runs.specs.Program.{ConstantTree, Fixed, NamedConstant, Constructed, ConstantTrees, no_constant, constant}
+use Rattle.shader_runs.specs.Program.{Indexing, Picking, Joining}
 use Rattle.shader_runs.specs.Program as program
-use Rattle.shader_runs.specs.Premises.{constant_type, constant_types_of, ConstantInRange, ConstantsInRange}
+use Rattle.shader_runs.specs.Premises.{constant_type, constant_types_of, ConstantInRange, ConstantsInRange, IsNoPointer}
 use Rattle.shader_runs.specs.Typing.{Signature, constant_signatures, constants_signatures, IsOneOf, first_of, later_of}
-use Rattle.shader_runs.specs.Value.{ValueType, Spelled}
+use Rattle.shader_runs.specs.Typing.{LogicalFits, TreeFits, TreesFit}
+use Rattle.shader_runs.specs.Value.{ValueType, PointerType, Word, Spelled, PartWord, IndexWord, Selector, MemberNamed}
+use Rattle.shader_runs.specs.Value.{ShortCircuit, ShortCircuitAnd, ShortCircuitOr, short_circuit_word}
 use Rattle.module_meaning.specs.Accepted.{is_accepted}
 use Rattle.module_meaning.specs.AgreeingOperators.{Group, module_operators_agree}
 use Rattle.module_meaning.specs.AlikeTypes.{type_identity, are_alike}
-use Rattle.module_meaning.specs.ExpressionOperators.{constructor}
+use Rattle.module_meaning.specs.ExpressionOperators.{constructor, applied_operator, part_operator}
 use Rattle.module_meaning.specs.ExpressionShapes.{Declared, trees, tree_then, trees_of, built, tree_over, tree_within, constant_tree}
-use Rattle.module_meaning.specs.ExpressionTypes.{only, is_wanted}
+use Rattle.module_meaning.specs.ExpressionShapes.{computed_over, has_values, indexed, is_value_type, joined, operated, over_two}
+use Rattle.module_meaning.specs.ExpressionShapes.{part_selector, part_tree, picked, swizzle_letters}
+use Rattle.module_meaning.specs.ExpressionTypes.{only, is_wanted, binary_type, logical_type}
+use Rattle.module_meaning.specs.TypeParts.{known_inner}
 use Rattle.naga_ir.specs.Literals.{literal_scalar}
 use Rattle.module_meaning.specs.ExpressionTypes as types
 use Rattle.module_meaning.specs.InfoSizes.{all_paired}
 use Rattle.module_meaning.specs.Initialisers.{initialisers_fit, constant_is_sound, override_is_sound, global_is_sound}
 use Rattle.module_meaning.specs.Literals.{literal_value}
 use Rattle.module_meaning.specs.ModuleShapes.{module_shape}
-use Rattle.module_meaning.specs.OperatorTable.{Operator, run_word, Splat}
+use Rattle.module_meaning.specs.OperatorTable.{Operator, run_word, Splat, BinarySign, asks}
 use Rattle.module_meaning.specs.Ranges.{module_ranges_fit}
 use Rattle.module_meaning.specs.Soundness.{module_is_sound, function_is_sound, entry_point_is_sound, declarations_are_sound, expressions_are_sound}
 use Rattle.module_meaning.specs.ExpressionContexts.{declared_over, constant_over, global_tree, global_tree_within, written_constant}
@@ -55,6 +63,8 @@ use Rattle.naga_form.proofs.LiteralTypes.{literal_typed, literal_is_none}
 use Rattle.naga_form.proofs.NamedConstants.{named_typed, named_within, override_typed, override_within}
 use Rattle.naga_form.proofs.SameValues.{IsFit, values_by_numbers}
 use Rattle.naga_form.proofs.Signatures.{group_context, declared_for, IsCalled, by_constant, by_operator, by_zero, IsOfExpression}
+use Rattle.naga_form.proofs.Signatures.{by_index, by_letters, by_part}
+use Rattle.naga_form.proofs.LogicalTypes.{logical_fits}
 
 -- ---- trees
 module _ (m : Module) (info : ModuleInfo) where
@@ -66,21 +76,24 @@ module _ (m : Module) (info : ModuleInfo) where
     pub type : constant_type shape t ≡ k
     pub spelled : (x : Signature) → IsOneOf x (constant_signatures shape t) → IsOfExpression m info x
     pub range : ConstantInRange shape t
+    pub fits : TreeFits shape t
 
   -- trees of these types
   pub record AreTreesOf (ks : List ValueType) (ts : ConstantTrees) : Type 0 where
     pub types : constant_types_of shape ts ≡ ks
     pub spelled : (x : Signature) → IsOneOf x (constants_signatures shape ts) → IsOfExpression m info x
     pub range : ConstantsInRange shape ts
+    pub fits : TreesFit shape ts
 
   no_trees : AreTreesOf [] no_constant
-  no_trees = record { types = refl; spelled = λ x one. absurd (no_signature x one); range = tt }
+  no_trees = record { types = refl; spelled = λ x one. absurd (no_signature x one); range = tt; fits = tt }
 
   tree_and : (k : ValueType) (ks : List ValueType) (t : ConstantTree) (ts : ConstantTrees) → IsTreeOf k t → AreTreesOf ks ts → AreTreesOf (k ∷ ks) (constant t ts)
   tree_and k ks t ts one more = record {
     types = λ i. one.type i ∷ more.types i;
     spelled = λ x is. either_signature x (constant_signatures shape t) (constants_signatures shape ts) (one.spelled x) (more.spelled x) is;
     range = (one.range, more.range);
+    fits = (one.fits, more.fits);
   }
 
   trees_found : (value : ℕ → ValueType) (tree_of : ℕ → Option ConstantTree) → ((h : ℕ) (t : ConstantTree) → tree_of h ≡ Some t → IsTreeOf (value h) t) →
@@ -111,7 +124,18 @@ module _ (m : Module) (info : ModuleInfo) where
   ConstantsAre tree_of = (h : ℕ) (c : Constant) → slice_get m.constants h ≡ Some c → (t : ConstantTree) → tree_of h ≡ Some t → StandsFor c.ty t
 
   retyped : (k l : ValueType) (t : ConstantTree) → k ≡ l → IsTreeOf k t → IsTreeOf l t
-  retyped k l t e is = record { type = is.type ∙ e; spelled = is.spelled; range = is.range }
+  retyped k l t e is = record { type = is.type ∙ e; spelled = is.spelled; range = is.range; fits = is.fits }
+
+  -- what is the first of a list, or one of the others
+  first_or : (s : Signature) → IsOfExpression m info s → (xs : List Signature) →
+      ((x : Signature) → IsOneOf x xs → IsOfExpression m info x) →
+      (x : Signature) → IsOneOf x (s ∷ xs) → IsOfExpression m info x
+  first_or s first xs more x first_of = first
+  first_or s first xs more x (later_of one) = more x one
+
+  no_pointer : (k : ValueType) → is_value_type k ≡ true → IsNoPointer k
+  no_pointer (PointerType spelling) is = absurd cc
+  no_pointer k is = tt
 
   module _ (accepted : IsTrue (is_accepted m info)) (distinguished : TypesAreDistinguished m) where
     -- types that are alike have values of one type
@@ -141,12 +165,13 @@ module _ (m : Module) (info : ModuleInfo) where
                 (is.typed h (expression.Literal v) own.0 at own.1);
             spelled = λ x one. absurd (no_signature x one);
             range = literal_is_none v;
+            fits = tt;
           }
 
       -- the zero value that stands for a constant that an expression names
       zero_is : (h c : ℕ) → slice_get g.expressions h ≡ Some (expression.Constant c) → (k : Constant) → slice_get m.constants c ≡ Some k →
           type_of_values m (Handle k.ty) ≡ value h → IsTreeOf (value h) (zero_of_type m k.ty)
-      zero_is h c at k there like = record { type = like; spelled = spelled; range = tt }
+      zero_is h c at k there like = record { type = like; spelled = spelled; range = tt; fits = tt }
         where
           spelled : (x : Signature) → IsOneOf x (constant_signatures shape (zero_of_type m k.ty)) → IsOfExpression m info x
           spelled x one =
@@ -187,6 +212,7 @@ module _ (m : Module) (info : ModuleInfo) where
             type = override_typed m info o item.0 item.1 ∙ like_wanted h (expression.Override o) at own.0 own.1 (Handle item.0.ty) tt same;
             spelled = λ x one. absurd (no_signature x one);
             range = override_within m info o item.0 item.1;
+            fits = tt;
           }
 
       built_is : (h : ℕ) (e : Expression) → slice_get g.expressions h ≡ Some e → (o : Operator) → IsCalled m info g e (Spelled (run_word o)) → (ts : List ConstantTree) →
@@ -197,20 +223,15 @@ module _ (m : Module) (info : ModuleInfo) where
             type = sym (value_is m info g.known h parts.0 parts.1);
             spelled = spelled parts.0 parts.1;
             range = are.range;
+            fits = are.fits;
           })
         where
-          either : (s : Signature) → IsOfExpression m info s → (xs : List Signature) →
-              ((x : Signature) → IsOneOf x xs → IsOfExpression m info x) →
-              (x : Signature) → IsOneOf x (s ∷ xs) → IsOfExpression m info x
-          either s first xs more x first_of = first
-          either s first xs more x (later_of one) = more x one
-
           spelled : (r : TypeResolution) → slice_get g.known h ≡ Some r →
               (x : Signature) →
               IsOneOf x (constant_signatures shape
               (Constructed (run_word o) (type_of_values m r) (trees ts))) → IsOfExpression m info x
           spelled r there x one =
-              either (record { word = Spelled (run_word o); operands = constant_types_of shape (trees ts); result = type_of_values m r }) (record {
+              first_or (record { word = Spelled (run_word o); operands = constant_types_of shape (trees ts); result = type_of_values m r }) (record {
                 function = f;
                 group = g;
                 sound = is;
@@ -240,6 +261,162 @@ module _ (m : Module) (info : ModuleInfo) where
           built_is h (expression.Splat size v) at (Splat size) (by_operator (Splat size) refl refl) (parts.0 ∷ [])
           (tree_and (value v) [] parts.0 no_constant (are v parts.0 parts.1) no_trees) t parts.2
       tree_over_is tree_of are h _ at t found = absurd cc
+
+      -- ---- computed trees
+      -- the signature of an expression, over operands of these types
+      own_signature : (h : ℕ) (e : Expression) → slice_get g.expressions h ≡ Some e → (w : Word) → IsCalled m info g e w → (ks : List ValueType) →
+          ks ≡ map value (expression_operands e) → (r : TypeResolution) → slice_get g.known h ≡ Some r →
+          IsOfExpression m info (record { word = w; operands = ks; result = type_of_values m r })
+      own_signature h e at w called ks same r there = record {
+        function = f;
+        group = g;
+        sound = is;
+        handle = h;
+        expression = e;
+        there = at;
+        called = called;
+        operands = same;
+        result = sym (value_is m info g.known h r there);
+      }
+
+      -- what has values is no pointer
+      value_fits : (base : ℕ) (t : ConstantTree) → IsTreeOf (value base) t → has_values inside base ≡ true → IsNoPointer (constant_type shape t)
+      value_fits base t tree has = subst IsNoPointer (sym tree.type) (by (slice_get g.known base) refl has)
+        where
+          by : (o : Option TypeResolution) → slice_get g.known base ≡ o →
+              option_map_or (λ r. is_value_type (type_of_values m r)) o false ≡ true → IsNoPointer (value base)
+          by None at has = absurd cc
+          by (Some r) at has = subst IsNoPointer (sym (value_is m info g.known base r at)) (no_pointer (type_of_values m r) has)
+
+      indexed_is : (h base index : ℕ) → slice_get g.expressions h ≡ Some (expression.Access base index) → (b i : ConstantTree) →
+          IsTreeOf (value base) b → IsTreeOf (value index) i → has_values inside base ≡ true →
+          (t : ConstantTree) → indexed inside h b i ≡ Some t → IsTreeOf (value h) t
+      indexed_is h base index at b i of_b of_i has t made =
+          let parts = map_some (λ r. Indexing (type_of_values m r) b i) (slice_get g.known h) t made in
+          let ks = constant_type shape b ∷ constant_type shape i ∷ [] in
+          subst (IsTreeOf (value h)) parts.2 (record {
+            type = sym (value_is m info g.known h parts.0 parts.1);
+            spelled =
+                first_or (record { word = IndexWord; operands = ks; result = type_of_values m parts.0 })
+                (own_signature h (expression.Access base index) at IndexWord (by_index base index refl) ks
+                (λ j. of_b.type j ∷ of_i.type j ∷ []) parts.0 parts.1)
+                (constant_signatures shape b ++ constant_signatures shape i)
+                (λ x. either_signature x (constant_signatures shape b) (constant_signatures shape i) (of_b.spelled x) (of_i.spelled x));
+            range = (of_b.range, of_i.range);
+            fits = (value_fits base b of_b has, of_b.fits, of_i.fits);
+          })
+
+      picked_is : (h base : ℕ) (e : Expression) → slice_get g.expressions h ≡ Some e → expression_operands e ≡ base ∷ [] → (s : Selector) → IsCalled m info g e (PartWord s) →
+          (b : ConstantTree) → IsTreeOf (value base) b → has_values inside base ≡ true →
+          (t : ConstantTree) → picked inside h s b ≡ Some t → IsTreeOf (value h) t
+      picked_is h base e at operands s called b of_b has t made =
+          let parts = map_some (λ r. Picking s (type_of_values m r) b) (slice_get g.known h) t made in
+          let ks = constant_type shape b ∷ [] in
+          subst (IsTreeOf (value h)) parts.2 (record {
+            type = sym (value_is m info g.known h parts.0 parts.1);
+            spelled =
+                first_or (record { word = PartWord s; operands = ks; result = type_of_values m parts.0 })
+                (own_signature h e at (PartWord s) called ks
+                ((λ j. of_b.type j ∷ []) ∙ ap (map value) (sym operands)) parts.0 parts.1)
+                (constant_signatures shape b) of_b.spelled;
+            range = of_b.range;
+            fits = (value_fits base b of_b has, of_b.fits);
+          })
+
+      joined_is : (h left right : ℕ) (op : BinaryOperator) → slice_get g.expressions h ≡ Some (expression.Binary op left right) → (j : ShortCircuit) →
+          IsCalled m info g (expression.Binary op left right) (Spelled (short_circuit_word j)) →
+          binary_type op (known_inner m.types g.known left) ≡ logical_type (known_inner m.types g.known left) →
+          (l r : ConstantTree) → IsTreeOf (value left) l → IsTreeOf (value right) r →
+          (t : ConstantTree) → joined inside h j l r ≡ Some t → IsTreeOf (value h) t
+      joined_is h left right op at j called wanted l r of_l of_r t made =
+          let parts = map_some (λ k. Joining j (type_of_values m k) l r) (slice_get g.known h) t made in
+          let ks = constant_type shape l ∷ constant_type shape r ∷ [] in
+          let own = value_is m info g.known h parts.0 parts.1 in
+          subst (IsTreeOf (value h)) parts.2 (record {
+            type = sym own;
+            spelled =
+                first_or (record { word = Spelled (short_circuit_word j); operands = ks; result = type_of_values m parts.0 })
+                (own_signature h (expression.Binary op left right) at (Spelled (short_circuit_word j)) called ks
+                (λ j. of_l.type j ∷ of_r.type j ∷ []) parts.0 parts.1)
+                (constant_signatures shape l ++ constant_signatures shape r)
+                (λ x. either_signature x (constant_signatures shape l) (constant_signatures shape r) (of_l.spelled x) (of_r.spelled x));
+            range = (of_l.range, of_r.range);
+            fits = (
+              subst (λ k. LogicalFits k (type_of_values m parts.0)) (sym of_l.type)
+                  (subst (LogicalFits (value left)) own
+                  (logical_fits m info (types_are_counted m info accepted distinguished) f g is h op left right at wanted)),
+              of_l.fits,
+              of_r.fits,
+            );
+          })
+
+      operated_is : (tree_of : ℕ → Option ConstantTree) → ((h : ℕ) (t : ConstantTree) → tree_of h ≡ Some t → IsTreeOf (value h) t) →
+          (h : ℕ) (e : Expression) → slice_get g.expressions h ≡ Some e → (o : Option Operator) → applied_operator (group_context m info g) e ≡ o →
+          (t : ConstantTree) → operated inside tree_of h (expression_operands e) o ≡ Some t → IsTreeOf (value h) t
+      operated_is tree_of are h e at None applied t found = absurd cc
+      operated_is tree_of are h e at (Some o) applied t found = by (asks o) refl found
+        where
+          by : (b : Bool) → asks o ≡ b →
+              (if b then None else option_and_then (built inside h o) (trees_of tree_of (expression_operands e))) ≡ Some t → IsTreeOf (value h) t
+          by true asked found = absurd cc
+          by false asked found =
+              let parts = then_some (built inside h o) (trees_of tree_of (expression_operands e)) t found in
+              built_is h e at o (by_operator o applied asked) parts.0 (trees_found value tree_of are (expression_operands e) parts.0 parts.1) t parts.2
+
+      logic_is : (tree_of : ℕ → Option ConstantTree) → ((h : ℕ) (t : ConstantTree) → tree_of h ≡ Some t → IsTreeOf (value h) t) →
+          (h left right : ℕ) (op : BinaryOperator) → slice_get g.expressions h ≡ Some (expression.Binary op left right) → (j : ShortCircuit) →
+          IsCalled m info g (expression.Binary op left right) (Spelled (short_circuit_word j)) →
+          binary_type op (known_inner m.types g.known left) ≡ logical_type (known_inner m.types g.known left) →
+          (t : ConstantTree) → over_two (joined inside h j) (tree_of left) (tree_of right) ≡ Some t → IsTreeOf (value h) t
+      logic_is tree_of are h left right op at j called wanted t found =
+          let one = then_some (λ l. option_and_then (joined inside h j l) (tree_of right)) (tree_of left) t found in
+          let two = then_some (joined inside h j one.0) (tree_of right) t one.2 in
+          joined_is h left right op at j called wanted one.0 two.0 (are left one.0 one.1) (are right two.0 two.1) t two.2
+
+      part_is : (tree_of : ℕ → Option ConstantTree) → ((h : ℕ) (t : ConstantTree) → tree_of h ≡ Some t → IsTreeOf (value h) t) →
+          (h base : ℕ) (e : Expression) → slice_get g.expressions h ≡ Some e → expression_operands e ≡ base ∷ [] → (s : Selector) → IsCalled m info g e (PartWord s) →
+          (b : Bool) → has_values inside base ≡ b → (t : ConstantTree) →
+          (if b then option_and_then (picked inside h s) (tree_of base) else None) ≡ Some t → IsTreeOf (value h) t
+      part_is tree_of are h base e at operands s called false has t found = absurd cc
+      part_is tree_of are h base e at operands s called true has t found =
+          let one = then_some (picked inside h s) (tree_of base) t found in
+          picked_is h base e at operands s called one.0 (are base one.0 one.1) has t one.2
+
+      -- a tree that is computed over trees
+      computed_is : (tree_of : ℕ → Option ConstantTree) → ((h : ℕ) (t : ConstantTree) → tree_of h ≡ Some t → IsTreeOf (value h) t) →
+          (h : ℕ) (e : Expression) → slice_get g.expressions h ≡ Some e → (t : ConstantTree) → computed_over inside tree_of h e ≡ Some t → IsTreeOf (value h) t
+      computed_is tree_of are h (expression.Literal v) at t found = tree_over_is tree_of are h (expression.Literal v) at t found
+      computed_is tree_of are h (expression.Constant c) at t found = tree_over_is tree_of are h (expression.Constant c) at t found
+      computed_is tree_of are h (expression.Override o) at t found = tree_over_is tree_of are h (expression.Override o) at t found
+      computed_is tree_of are h (expression.ZeroValue ty) at t found = tree_over_is tree_of are h (expression.ZeroValue ty) at t found
+      computed_is tree_of are h (expression.Compose ty components) at t found = tree_over_is tree_of are h (expression.Compose ty components) at t found
+      computed_is tree_of are h (expression.Splat size v) at t found = tree_over_is tree_of are h (expression.Splat size v) at t found
+      computed_is tree_of are h (expression.Access base index) at t found = by (has_values inside base) refl found
+        where
+          by : (b : Bool) → has_values inside base ≡ b →
+              (if b then over_two (indexed inside h) (tree_of base) (tree_of index) else None) ≡ Some t → IsTreeOf (value h) t
+          by false has found = absurd cc
+          by true has found =
+              let one = then_some (λ b. option_and_then (indexed inside h b) (tree_of index)) (tree_of base) t found in
+              let two = then_some (indexed inside h one.0) (tree_of index) t one.2 in
+              indexed_is h base index at one.0 two.0 (are base one.0 one.1) (are index two.0 two.1) has t two.2
+      computed_is tree_of are h (expression.AccessIndex base index) at t found = by (part_selector inside base index) refl found
+        where
+          by : (o : Option Selector) → part_selector inside base index ≡ o →
+              part_tree inside tree_of h base o (part_operator inside.context base index) ≡ Some t → IsTreeOf (value h) t
+          by (Some s) selected found =
+              part_is tree_of are h base (expression.AccessIndex base index) at refl s (by_part base index s refl selected) (has_values inside base) refl t found
+          by None selected found =
+              operated_is tree_of are h (expression.AccessIndex base index) at (part_operator inside.context base index) refl t found
+      computed_is tree_of are h (expression.Swizzle size vector pattern) at t found =
+          part_is tree_of are h vector (expression.Swizzle size vector pattern) at refl (MemberNamed (swizzle_letters size pattern))
+          (by_letters size vector pattern refl) (has_values inside vector) refl t found
+      computed_is tree_of are h (expression.Binary binary.LogicalAnd left right) at t found =
+          logic_is tree_of are h left right binary.LogicalAnd at ShortCircuitAnd (by_operator (BinarySign binary.LogicalAnd) refl refl) refl t found
+      computed_is tree_of are h (expression.Binary binary.LogicalOr left right) at t found =
+          logic_is tree_of are h left right binary.LogicalOr at ShortCircuitOr (by_operator (BinarySign binary.LogicalOr) refl refl) refl t found
+      computed_is tree_of are h e at t found =
+          operated_is tree_of are h e at (applied_operator inside.context e) refl t found
 
       within_is : (levels : ℕ) (h : ℕ) (t : ConstantTree) → tree_within levels inside g.expressions h ≡ Some t → IsTreeOf (value h) t
       within_is zero h t found = absurd cc
@@ -302,6 +479,7 @@ module _ (m : Module) (info : ModuleInfo) where
           type = named_typed m info h c at named;
           spelled = λ x one. absurd (no_signature x one);
           range = named_within m info h c at named;
+          fits = tt;
         })
         by false named = unnamed (global c.init) refl
 
@@ -309,8 +487,8 @@ module _ (m : Module) (info : ModuleInfo) where
     globals_within zero h t found = absurd cc
     globals_within (suc levels) h t found =
         let global = global_tree_within levels m info in
-        let parts = then_some (tree_over (declared_over m (constant_over m global) (global_types_known info)) global h) (slice_get m.global_expressions h) t found in
-        tree_over_is None (own_group m info accepted) (declarations_are m info accepted)
+        let parts = then_some (computed_over (declared_over m (constant_over m global) (global_types_known info)) global h) (slice_get m.global_expressions h) t found in
+        computed_is None (own_group m info accepted) (declarations_are m info accepted)
         (constant_over m global) (constants_over global (globals_within levels)) global
         (globals_within levels) h parts.0 parts.1 t parts.2
 

@@ -1,7 +1,7 @@
 -- What is asked of a program's constants holds of the program of shapes of an accepted module whose
--- named constants' initialisers are written out, where words and names stand apart; and so does what
+-- named constants are computed, where words and names stand apart; and so does what
 -- is asked of the constants in its functions, of any accepted module.
-use Rattle.module_meaning.specs.Writable.{AreWrittenOut}
+use Rattle.module_meaning.specs.Writable.{AreComputed}
 use Rattle.module_meaning.specs.Names.{TypesAreDistinguished}
 use Rattle.std.proofs.Common.{◌≡◌, ℕ, ◌<◌, List, Some, slice_get, length}
 use Rattle.std.specs.Prelude.{IsTrue}
@@ -22,7 +22,7 @@ use Rattle.naga_form.proofs.ConstantOrder.{constant_rank, constants_within_types
 use Rattle.naga_form.proofs.Leaves.{ConstantsAreTyped}
 use Rattle.naga_form.proofs.WrittenOut.{have_trees, constant_has_tree, constant_named}
 
-pub constants_fit : (m : Module) (info : ModuleInfo) → IsTrue (is_accepted m info) → TypesAreDistinguished m → AreWrittenOut m → (n : ModuleNames) →
+pub constants_fit : (m : Module) (info : ModuleInfo) → IsTrue (is_accepted m info) → TypesAreDistinguished m → AreComputed m info → (n : ModuleNames) →
     ((i : ℕ) (e : ConstantTree) → slice_get (module_shape m info).initialisers i ≡ Some e → EachWord (OperatesOutside (module_shape m info) n) e) →
     ((i k : ℕ) → i < length (module_shape m info).constant_types → k < length (module_shape m info).constant_types → n.constant i ≡ n.constant k → i ≡ k) →
     ConstantsFit (module_shape m info) n

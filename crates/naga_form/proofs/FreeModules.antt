@@ -4,7 +4,7 @@
 --
 -- Acceptance takes modules for which no text is written and which are left out here: those with a
 -- named constant whose initialiser is an operation, or with a case that does something and falls through.
-use Rattle.module_meaning.specs.Writable.{AreWrittenOut, OnlyEmptyFall}
+use Rattle.module_meaning.specs.Writable.{AreComputed, OnlyEmptyFall}
 use Rattle.module_meaning.specs.Names.{TypesAreDistinguished}
 use Rattle.std.proofs.Common.{◌≡◌, ℕ, true, List, [], ◌∷◌, length, Some}
 use Rattle.std.proofs.Common.{refl, sym, ap, subst, slice_get}
@@ -108,7 +108,7 @@ module _ (m : ir_module.Module) (info : ModuleInfo) (accepted : IsTrue (is_accep
       (initialiser_words_outside m info (types_are_counted m info accepted distinguished) program found.constant)
 
   -- ---- the module
-  module _ (written : AreWrittenOut m) (falls : OnlyEmptyFall m) (scopes : ScopesHold m info) where
+  module _ (written : AreComputed m info) (falls : OnlyEmptyFall m) (scopes : ScopesHold m info) where
     functions_fit : AllFit program names namings
     functions_fit =
         all_fit_freely m info accepted distinguished

@@ -11,7 +11,8 @@ use Rattle.naga_info.specs.declared.info.ModuleInfo.{ModuleInfo}
 use Rattle.shader_runs.specs.Constants.{environment_of, module_initialiser_value}
 use Rattle.shader_runs.specs.Premises.{EachLeaf, EachLeafOf, IsLiteral, IsTyped, SettingsFit}
 use Rattle.shader_runs.specs.Program as shapes
-use Rattle.shader_runs.specs.Program.{ConstantTree, Fixed, NamedConstant, Constructed}
+use Rattle.shader_runs.specs.Program.{ConstantTree, Fixed, NamedConstant, Constructed, Indexing}
+use Rattle.shader_runs.specs.Program.{Picking, Joining}
 use Rattle.shader_runs.specs.Program.{ConstantTrees, no_constant, constant}
 use Rattle.shader_runs.specs.ProgramRun.{also, operator_value, tree_value, tree_values}
 use Rattle.shader_runs.specs.Value.{Spelled, Value}
@@ -25,6 +26,7 @@ use Rattle.module_meaning.specs.Interface.{global_expression_value}
 use Rattle.module_meaning.specs.ModuleShapes.{module_shape}
 use Rattle.module_meaning.specs.Names.{module_names}
 use Rattle.module_meaning.specs.Namings.{outer_names}
+use Rattle.naga_form.proofs.BuiltTrees.{AreBuilt, IsBuilt, written_is_built}
 use Rattle.naga_form.proofs.Interface.{initialiser_has_tree, written_within}
 use Rattle.naga_form.proofs.ModuleFits.{constants as constants_fit, global_in_range}
 
@@ -32,20 +34,23 @@ use Rattle.naga_form.proofs.ModuleFits.{constants as constants_fit, global_in_ra
 module _ (known : ℕ → Option Value) (meaning : Meaning) (P : ℕ → Type 0)
     (there : (i : ℕ) → P i → (v : Value) × (known i ≡ Some v)) where
   mutual
-    tree_has_value : (e : ConstantTree) → EachLeaf IsLiteral P e →
+    tree_has_value : (e : ConstantTree) → IsBuilt e → EachLeaf IsLiteral P e →
         (v : Value) × (tree_value known meaning e ≡ Some v)
-    tree_has_value (Fixed v) leaves = (v, refl)
-    tree_has_value (NamedConstant i) leaves = there i leaves
-    tree_has_value (Constructed w ty es) leaves =
-        let vs = trees_have_values es leaves in
+    tree_has_value (Fixed v) is leaves = (v, refl)
+    tree_has_value (NamedConstant i) is leaves = there i leaves
+    tree_has_value (Indexing ty b i) is leaves = absurd is
+    tree_has_value (Picking x ty b) is leaves = absurd is
+    tree_has_value (Joining j ty l r) is leaves = absurd is
+    tree_has_value (Constructed w ty es) is leaves =
+        let vs = trees_have_values es is leaves in
         (meaning (Spelled w) vs.0, ap (operator_value meaning (Spelled w)) vs.1)
 
-    trees_have_values : (es : ConstantTrees) → EachLeafOf IsLiteral P es →
+    trees_have_values : (es : ConstantTrees) → AreBuilt es → EachLeafOf IsLiteral P es →
         (vs : List Value) × (tree_values known meaning es ≡ Some vs)
-    trees_have_values no_constant leaves = ([], refl)
-    trees_have_values (constant e es) leaves =
-        let one = tree_has_value e leaves.0 in
-        let more = trees_have_values es leaves.1 in (
+    trees_have_values no_constant is leaves = ([], refl)
+    trees_have_values (constant e es) is leaves =
+        let one = tree_has_value e is.0 leaves.0 in
+        let more = trees_have_values es is.1 leaves.1 in (
           one.0 ∷ more.0,
           ap (λ o. also o (tree_values known meaning es)) one.1 ∙ ap (also (Some one.0)) more.1,
         )
@@ -69,7 +74,7 @@ initialisers_have_values m info accepted declarations settings fit meaning typed
     (λ i lt.
     let v = has_type_at env.parts shape.constant_types env.constants computed.0.constants i lt in
     (v.0, v.1))
-    tree.0 range in (
+    tree.0 (written_is_built m info k written tree.0 tree.1) range in (
       value.0,
       ap (option_and_then (module_initialiser_value shape settings meaning)) tree.1 ∙ value.1,
     )

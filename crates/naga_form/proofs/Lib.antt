@@ -12,8 +12,11 @@ pub mod AlikeNumbers
 pub mod AlikeParts
 pub mod AlikeTypes
 pub mod AllowedParts
+pub mod AppliedWords
 pub mod Attributes
 pub mod Bindings
+pub mod BuiltTrees
+pub mod ComputedTrees
 pub mod ConsistentModules
 pub mod ConstantForms
 pub mod ConstantInitialisers
@@ -46,11 +49,13 @@ pub mod LayoutParts
 pub mod LayoutWords
 pub mod Layouts
 mod LeafExamples
+pub mod LeafTrees
 pub mod Leaves
 pub mod Letters
 pub mod LiteralTypes
 pub mod ListPlaces
 pub mod Literals
+pub mod LogicalTypes
 pub mod Meanings
 pub mod MemberNames
 pub mod ModuleFits

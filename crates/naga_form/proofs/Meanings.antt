@@ -30,7 +30,7 @@ use Rattle.naga_form.proofs.Runs.{reads_as_shapes_under}
 use Rattle.naga_form.proofs.ScopeRules.{scopes_are_checked_under}
 use Rattle.naga_form.proofs.WellFormed.{all_well_formed}
 use Rattle.naga_form.proofs.WritableModules.{only_empty}
-use Rattle.naga_form.proofs.WrittenOut.{are_written_out}
+use Rattle.naga_form.proofs.WrittenOut.{are_computed}
 
 module _ (m : Module) (info : ModuleInfo) (explicit : Bool) (accepted : IsTrue (is_accepted m info))
     (declarations : DeclarationsHaveForms m) (have : AllWrittenHaveForms explicit m info)
@@ -38,12 +38,12 @@ module _ (m : Module) (info : ModuleInfo) (explicit : Bool) (accepted : IsTrue (
   pub has_world : HasTypedWorld m info
   has_world =
       every.has_world m info accepted (types_are_distinguished m)
-      (are_written_out m (items_have_forms m declarations)) (only_empty m info accepted explicit have) scopes
+      (are_computed m info accepted (types_are_distinguished m) (items_have_forms m declarations)) (only_empty m info accepted explicit have) scopes
 
   pub gives_results : ResultsAreReturnedIn (module_shape m info)
   gives_results =
       every.gives_results m info accepted (types_are_distinguished m)
-      (are_written_out m (items_have_forms m declarations)) (only_empty m info accepted explicit have) scopes
+      (are_computed m info accepted (types_are_distinguished m) (items_have_forms m declarations)) (only_empty m info accepted explicit have) scopes
 
   -- under whatever names labels may have
   pub never_stuck : (named : LabelNames) → AreLabelNames m named →

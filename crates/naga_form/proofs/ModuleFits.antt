@@ -56,7 +56,7 @@ use Rattle.naga_form.proofs.ItemKeys.{CountsItems}
 use Rattle.naga_form.proofs.NamedConstants.{constants_length}
 use Rattle.naga_form.proofs.OutsideWords.{global_words as global_words_outside}
 use Rattle.naga_form.proofs.OutsideWords.{initialiser_words_outside}
-use Rattle.naga_form.proofs.WrittenOut.{are_written_out}
+use Rattle.naga_form.proofs.WrittenOut.{are_computed}
 
 -- ---- lists
 -- there are as many shapes as functions
@@ -157,7 +157,7 @@ module _ (m : Module) (info : ModuleInfo) (accepted : IsTrue (is_accepted m info
     -- what is asked of its named constants
     pub constants : ConstantsFit p names
     constants =
-        constants_fit m info accepted (types_are_distinguished m) (are_written_out m items)
+        constants_fit m info accepted (types_are_distinguished m) (are_computed m info accepted (types_are_distinguished m) items)
         names
         (λ i e at.
         let found = initialiser_of m info accepted (types_are_distinguished m) i e at in

@@ -39,6 +39,9 @@ use Rattle.naga_form.proofs.OperatingWords.{splat_free, math_free, relation_free
 use Rattle.naga_form.proofs.OperatingWords.{free_parts, names_no_item}
 use Rattle.naga_form.proofs.TreeWords.{constant_words, levels_words, offset_words, or_false_words}
 use Rattle.naga_form.proofs.TreeWords.{written_words}
+use Rattle.naga_form.proofs.AppliedWords.{applied_words}
+use Rattle.module_meaning.specs.ExpressionContexts.{expression_context}
+use Rattle.module_meaning.specs.ExpressionOperators.{applied_operator}
 use Rattle.naga_info.proofs.Options.{then_some}
 use Rattle.naga_form.proofs.SameValues.{IsFit, TypesAreFit}
 use Rattle.naga_form.proofs.TypedWords.{no_request}
@@ -91,7 +94,6 @@ use Rattle.naga_form.proofs.OperatingWords.{length_free, product_free, query_fre
 use Rattle.naga_form.proofs.OperatingWords.{texel_free}
 use Rattle.naga_ir.specs.Operands.{cooperative_operands, query_operands}
 use Rattle.naga_ir.specs.declared.expression.SampleLevel.{SampleLevel}
-use Rattle.naga_ir.specs.declared.types.VectorSize.{VectorSize}
 use Rattle.shader_runs.specs.Premises.{ConstantsWords}
 use Rattle.std.proofs.Common.{◌++◌}
 use Rattle.std.specs.Option.{is_some, option_to_list}
@@ -279,13 +281,16 @@ module _ (m : Module) (info : ModuleInfo) (types : TypesAreFit m) (p : shapes.Mo
       OperatesBy p own (run_word (constructor d.context (Handle ty) components))
   made_operates = made_word m types (OperatesBy p own) operates struct_operates
 
-  splat_operates : (size : VectorSize) → OperatesBy p own (run_word (Splat size))
-  splat_operates size = operates (run_word (Splat size)) (splat_free size)
+  applied_operates : (known : ℕ → Option TypeResolution) (e : ir.Expression) (o : Operator) →
+      applied_operator (expression_context m known) e ≡ Some o → asks o ≡ false →
+      OperatesBy p own (run_word o)
+  applied_operates known e o is silent =
+      applied_words m types (OperatesBy p own) operates struct_operates known e o is silent
 
   constant_is_worded : (handle : ℕ) → WordFits p own (Some (constant_shape (d.constant_tree handle)))
   constant_is_worded handle =
-      or_false_words m info (OperatesBy p own) made_operates splat_operates (d.constant_tree handle)
-      (constant_words m info (OperatesBy p own) made_operates splat_operates handle)
+      or_false_words m info (OperatesBy p own) made_operates applied_operates (d.constant_tree handle)
+      (constant_words m info (OperatesBy p own) made_operates applied_operates handle)
 
   sample_words : (l : SampleLevel) (unwritten : Bool) (offset : Option ℕ) →
       ConstantsWords p own
@@ -295,12 +300,12 @@ module _ (m : Module) (info : ModuleInfo) (types : TypesAreFit m) (p : shapes.Mo
   sample_words l unwritten offset =
       let tree_of = constant_tree d f.expressions in
       let written = option_and_then tree_of offset in
-      levels_words m info (OperatesBy p own) made_operates splat_operates l unwritten
+      levels_words m info (OperatesBy p own) made_operates applied_operates l unwritten
       (option_to_list written)
-      (offset_words m info (OperatesBy p own) made_operates splat_operates written
+      (offset_words m info (OperatesBy p own) made_operates applied_operates written
       (λ t e.
       let x = then_some tree_of offset t e in
-      written_words m info (OperatesBy p own) made_operates splat_operates (types_known es)
+      written_words m info (OperatesBy p own) made_operates applied_operates (types_known es)
       f.expressions x.0 t x.2))
 
   words : (h : ℕ) (e : ir.Expression) →

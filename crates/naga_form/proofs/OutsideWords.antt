@@ -1,19 +1,22 @@
 -- The words of the trees of a module's own expressions: each is an operator's, and none is a name of an
 -- item that runs know.
-use Rattle.std.proofs.Common.{◌≡◌, ℕ, true, false, List, Some, ap, ◌∙◌}
+use Rattle.std.proofs.Common.{◌≡◌, ℕ, true, false, List, Option, Some, ap, ◌∙◌}
 use Rattle.std.specs.Prelude.{slice_get, ◌||◌}
 use Rattle.naga_info.specs.declared.info.ModuleInfo.{ModuleInfo}
 use Rattle.naga_ir.specs.declared.module.Constant as ir_constant
 use Rattle.naga_ir.specs.declared.module.Module.{Module}
 use Rattle.naga_ir.specs.declared.types.Type_.{Type_}
-use Rattle.naga_ir.specs.declared.types.VectorSize.{VectorSize}
+use Rattle.naga_ir.specs.declared.expression.Expression.{Expression}
+use Rattle.naga_info.specs.declared.info.TypeResolution.{TypeResolution}
 use Rattle.naga_names.specs.declared.key.NameKey.TheVariants as key
-use Rattle.module_meaning.specs.ExpressionContexts.{global_tree}
+use Rattle.module_meaning.specs.ExpressionContexts.{expression_context, global_tree}
+use Rattle.module_meaning.specs.ExpressionOperators.{applied_operator}
 use Rattle.module_meaning.specs.ModuleShapes.{initialiser}
 use Rattle.module_meaning.specs.Names.{module_names, name_in}
 use Rattle.module_meaning.specs.Namings.{outer_names}
-use Rattle.module_meaning.specs.OperatorTable.{run_word, Splat}
+use Rattle.module_meaning.specs.OperatorTable.{Operator, asks, run_word}
 use Rattle.module_meaning.specs.Undeclared.{declared_struct_names, is_declared}
+use Rattle.naga_form.proofs.AppliedWords.{applied_words}
 use Rattle.naga_form.proofs.DeclaredNames.{declared_stands}
 use Rattle.std.proofs.Math.Bool.{or-true}
 use Rattle.wgsl_text.specs.Operators.{is_built_in, is_operator}
@@ -26,7 +29,7 @@ use Rattle.wgsl_text.specs.Requests.{is_request}
 use Rattle.naga_form.proofs.ItemKeys.{CountsItems, IsNoItem, no_constant_is, no_function_is}
 use Rattle.naga_form.proofs.ItemKeys.{no_global_is, type_has, type_is_no_item, word_is_no_item}
 use Rattle.naga_form.proofs.Names.{item_is_identifier}
-use Rattle.naga_form.proofs.OperatingWords.{free_parts, operates_freely, splat_free}
+use Rattle.naga_form.proofs.OperatingWords.{free_parts, operates_freely}
 use Rattle.naga_form.proofs.SameValues.{TypesAreFit}
 use Rattle.naga_form.proofs.SpelledWords.{made_word}
 use Rattle.naga_form.proofs.TreeWords.{global_words as tree_words, initialiser_words}
@@ -72,16 +75,18 @@ module _ (m : Module) (info : ModuleInfo) (types : TypesAreFit m) (p : shapes.Mo
       ∙ or-true (is_built_in (name_in (module_names m) (key.Type_ h))))
       (type_is_no_item m h t at)
 
-  splat_operates : (size : VectorSize) → Operates (run_word (Splat size))
-  splat_operates size = free_operates (run_word (Splat size)) (splat_free size)
+  applied_operates : (known : ℕ → Option TypeResolution) (e : Expression) (o : Operator) →
+      applied_operator (expression_context m known) e ≡ Some o → asks o ≡ false → Operates (run_word o)
+  applied_operates known e o is silent =
+      applied_words m types Operates free_operates struct_operates known e o is silent
 
   -- in each tree, and in each initialiser
   pub global_words : (h : ℕ) (e : ConstantTree) → global_tree m info h ≡ Some e → EachWord Operates e
   global_words =
       tree_words m info Operates (made_word m types Operates free_operates struct_operates)
-      splat_operates
+      applied_operates
 
   pub initialiser_words_outside : (c : ir_constant.Constant) → EachWord Operates (initialiser m info c)
   initialiser_words_outside =
       initialiser_words m info Operates (made_word m types Operates free_operates struct_operates)
-      splat_operates
+      applied_operates

@@ -1,14 +1,14 @@
 -- What an expression over pointers or truth values gives in an accepted module: a part of a pointer
 -- is a pointer to the part, as the program's table of parts spells it, and `&&` and `||` on `bool`
 -- give `bool`.
-use Rattle.naga_form.proofs.AgreeingUses.{value_is}
+use Rattle.naga_form.proofs.AgreeingUses.{value_at, value_is}
+use Rattle.naga_form.proofs.LogicalTypes.{logical_fits as values_are_logical}
 use Rattle.module_meaning.specs.Names.{ItemsAreDistinguished}
 use Rattle.std.proofs.Common.{◌≡◌, ℕ, Bool, true, false, List, [], ◌∷◌, refl, sym, ap, ◌∙◌, subst, length}
-use Rattle.std.proofs.Common.{Option, Some, None, slice_get, if◌then◌else◌, arith, get_or}
-use Rattle.std.specs.Prelude.{IsTrue, ℤ, pos, unwrap_or}
-use Rattle.std.specs.Option.{option_map, option_map_or, option_and_then, is_some}
+use Rattle.std.proofs.Common.{Option, Some, None, slice_get, if◌then◌else◌}
+use Rattle.std.specs.Prelude.{IsTrue, ℤ, pos}
+use Rattle.std.specs.Option.{option_map, option_map_or, option_and_then}
 use Rattle.std.proofs.lemmas.Bool.{and_parts}
-use Rattle.std.proofs.lemmas.Option.{same_Some}
 use Rattle.std.proofs.lemmas.Slice.Eq.{bytes_eq-Decides}
 use Rattle.naga_ir.specs.declared.expression.Expression as ir
 use Rattle.naga_ir.specs.declared.expression.Expression.TheVariants as expression
@@ -18,41 +18,37 @@ use Rattle.naga_ir.specs.declared.module.Function as ir_function
 use Rattle.naga_ir.specs.declared.module.Module as ir_module
 use Rattle.naga_ir.specs.declared.operators.BinaryOperator.{BinaryOperator}
 use Rattle.naga_ir.specs.declared.operators.BinaryOperator.TheVariants as binary
-use Rattle.naga_ir.specs.declared.types.Scalar.{Scalar}
 use Rattle.naga_ir.specs.declared.types.ScalarKind.{ScalarKind}
 use Rattle.naga_ir.specs.declared.types.ScalarKind.TheVariants as kind
 use Rattle.naga_ir.specs.declared.types.TypeInner.{TypeInner}
 use Rattle.naga_ir.specs.declared.types.TypeInner.TheVariants as inner
-use Rattle.naga_ir.specs.declared.types.Type_.{Type_}
 use Rattle.naga_info.specs.Resolution.{inner_of, handle_of}
 use Rattle.naga_info.specs.declared.info.ExpressionInfo.{ExpressionInfo}
 use Rattle.naga_info.specs.declared.info.ModuleInfo.{ModuleInfo}
 use Rattle.naga_info.specs.declared.info.TypeResolution.{TypeResolution}
 use Rattle.naga_info.specs.declared.info.TypeResolution.TheVariants.{Handle, Value}
-use Rattle.wgsl_words.specs.Words.{scalar_word}
 use Rattle.shader_runs.specs.Program.{Expression, Function, Load, Request, Result, no_constant, expression_of, handle_type}
 use Rattle.shader_runs.specs.Typing.{AccessFits, AccessIndexFits, IsPart, LogicalFits, PartsFit}
 use Rattle.shader_runs.specs.Value.{Bytes, Selector, step_at, step_to, PartTypes}
-use Rattle.shader_runs.specs.Value.{ValueType, BooleanType, IntegerType, PointerType, OtherType}
+use Rattle.shader_runs.specs.Value.{ValueType, IntegerType, PointerType}
 use Rattle.module_meaning.specs.Accepted.{is_accepted}
 use Rattle.module_meaning.specs.AgreeingOperators.{Group, function_group}
-use Rattle.module_meaning.specs.AlikeTypes.{type_key, type_identity, handle_key, inner_key, key_within, found_key_by, named_key_by, scalar_key}
+use Rattle.module_meaning.specs.AlikeTypes.{type_identity}
 use Rattle.module_meaning.specs.ExpressionOperators.{constructor, cast, cast_to, type_known, is_atomic_pointer, matrix_load, query_operator}
 use Rattle.module_meaning.specs.ExpressionShapes.{part_selector, selector, part_shape, shape_of, applied_or, asking}
-use Rattle.naga_ir.specs.Literals.{scalar_of}
-use Rattle.module_meaning.specs.ExpressionTypes.{is_bool, is_bool_of, logical_type, binary_type, wanted_type, Anything, LikeThis, is_wanted, if_any, only}
+use Rattle.module_meaning.specs.ExpressionTypes.{logical_type, binary_type, wanted_type, LikeThis, is_wanted, if_any, only}
 use Rattle.module_meaning.specs.FunctionShapes.{function_shape}
 use Rattle.module_meaning.specs.OperandDemands.{operand_is, is_integer, is_integer_kind}
 use Rattle.module_meaning.specs.OperatorTable.{Operator as TableOperator, BinarySign, WithoutForm, Formless, ValueOf, Construct, CooperativeLoad, AtomicLoad, asks, run_word}
 use Rattle.module_meaning.specs.Shapes.{operator_shape}
 use Rattle.module_meaning.specs.ExpressionContexts.{declared, expression_context, types_known}
-use Rattle.module_meaning.specs.Types.{scalar_values, type_of_values, word_of_values, values_of}
-use Rattle.module_meaning.specs.TypeIdentity.{identity, identity_code, word_of_unspelled_type, level, kind_number}
+use Rattle.module_meaning.specs.Types.{scalar_values, type_of_values, word_of_values}
+use Rattle.module_meaning.specs.TypeIdentity.{identity, identity_code, level}
 use Rattle.module_meaning.specs.TypeParts.{known_inner, has_computed_parts, is_part_number, part_type}
 use Rattle.module_meaning.specs.Types.{called_spelling}
 use Rattle.naga_form.proofs.AcceptedGroups.{IsSoundGroup, types_are_counted, operands_known, own_known}
 use Rattle.naga_form.proofs.ModulePlaces.{expression_is, handle_type_is}
-use Rattle.naga_form.proofs.SameValues.{TypesAreCounted, IsFit, numbers_by_values, values_by_numbers}
+use Rattle.naga_form.proofs.SameValues.{TypesAreCounted, IsFit}
 use Rattle.module_meaning.specs.ModuleShapes.{module_shape}
 use Rattle.module_meaning.specs.PlaceParts.{place_parts}
 use Rattle.naga_form.proofs.PlaceParts.{IsPointer, element_at, element_to, member_to}
@@ -61,19 +57,6 @@ use Rattle.naga_form.proofs.WellFormed.{values_are}
 
 -- ---- scalars
 module _ (m : ir_module.Module) where
-  -- a scalar has one form wherever it stands
-  scalar_distinguished : (r : TypeResolution) (s : Scalar) → inner_of r m.types ≡ Some (inner.Scalar s) → type_key m.types r ≡ scalar_key s
-  unfolding handle_key
-  scalar_distinguished (Value it) s is = ap (inner_key m.types) (same_Some _ _ is)
-  scalar_distinguished (Handle h) s is = by (slice_get m.types h) refl is
-    where
-      by : (o : Option Type_) → slice_get m.types h ≡ o → option_map (λ t. t.inner) o ≡ Some (inner.Scalar s) → type_key m.types (Handle h) ≡ scalar_key s
-      by None at is = absurd cc
-      by (Some t) at is = ap (found_key_by (key_within h m.types) h) at ∙ ap (named_key_by (key_within h m.types) h) (same_Some _ _ is)
-
-  abbrev distinguished_by : Option (List ℕ) → TypeResolution → List ℕ
-  distinguished_by form r = unwrap_or form (word_of_unspelled_type (identity m.types r))
-
   integer_of : (k : ScalarKind) (w : Bytes) → is_integer_kind k ≡ true → scalar_values k w ≡ IntegerType w
   integer_of kind.Sint w is = refl
   integer_of kind.Uint w is = refl
@@ -87,38 +70,6 @@ module _ (m : ir_module.Module) where
       by None at is = absurd cc
       by (Some (inner.Scalar s)) at is = (word_of_values m r, values_are m r (inner.Scalar s) at ∙ integer_of s.kind (word_of_values m r) is)
       by (Some _) at is = absurd cc
-
-  module _ (are : TypesAreCounted m) where
-    -- what has truth values is `bool`: its numbers are those of `bool`
-    boolean_kind : (k : ScalarKind) → kind_number k ≡ 3 → k ≡ kind.Bool
-    boolean_kind kind.Bool is = refl
-    boolean_kind kind.Sint is = absurd (omega (arith, is))
-    boolean_kind kind.Uint is = absurd (omega (arith, is))
-    boolean_kind kind.Float is = absurd (omega (arith, is))
-    boolean_kind kind.AbstractInt is = absurd (omega (arith, is))
-    boolean_kind kind.AbstractFloat is = absurd (omega (arith, is))
-
-    boolean_scalar : (r : TypeResolution) (s : Scalar) → inner_of r m.types ≡ Some (inner.Scalar s) → IsFit m r → type_of_values m r ≡ BooleanType → is_bool_of s.kind s.width ≡ true
-    boolean_scalar r s at fit values =
-        by (is_some (scalar_word s))
-        (sym (ap (λ form. distinguished_by form r) (scalar_distinguished r s at))
-        ∙ numbers_by_values m are r (Value (inner.Scalar (scalar_of kind.Bool 1))) fit
-        (refl, tt, refl) values)
-      where
-        by : (b : Bool) → distinguished_by (if b then Some (level 0 (kind_number s.kind) s.width 0 0 0) else None) r ≡ level 0 3 1 0 0 0 → is_bool_of s.kind s.width ≡ true
-        by true e =
-            ap (λ k. is_bool_of k s.width) (boolean_kind s.kind (ap (λ xs. get_or xs 1 0) e)) ∙ ap (λ w. is_bool_of kind.Bool w) (ap (λ xs. get_or xs 2 0) e)
-        by false e = let blank : 32 ≡ 0 = ap (λ xs. get_or xs 0 0) e in absurd (omega (arith, blank))
-
-    boolean_values : (r : TypeResolution) → IsFit m r → type_of_values m r ≡ BooleanType → option_map_or is_bool (inner_of r m.types) false ≡ true
-    boolean_values r fit values = by (inner_of r m.types) refl values
-      where
-        by : (o : Option TypeInner) → inner_of r m.types ≡ o →
-            option_map_or (λ it. values_of it (word_of_values m r)) o
-            (OtherType (word_of_values m r)) ≡ BooleanType → option_map_or is_bool o false ≡ true
-        by None at e = absurd cc
-        by (Some (inner.Scalar s)) at e = boolean_scalar r s at fit values
-        by (Some _) at e = absurd cc
 
 module _ (m : ir_module.Module) (info : ModuleInfo) (accepted : IsTrue (is_accepted m info)) (distinguished : ItemsAreDistinguished m) where
   abbrev are : TypesAreCounted m
@@ -272,24 +223,13 @@ module _ (m : ir_module.Module) (info : ModuleInfo) (accepted : IsTrue (is_accep
         named_by base index at b s selected (handle_type shape base) (sym b.values) (handle_type shape h) (sym (own (expression.AccessIndex base index) at).values)
 
     -- `&&` and `||`
-    module _ (e : ir.Expression) (at : slice_get function.expressions h ≡ Some e) (left : ℕ)
-        (b : IsKnown left) (wanted : wanted_type m (Some function) g.known e ≡ logical_type
-        (known_inner m.types g.known left)) where
-      logical_by : (x : ValueType) → type_of_values m b.r ≡ x → (z : ValueType) → type_of_values m (own e at).r ≡ z → LogicalFits x z
-      logical_by BooleanType is z gives =
-          let boolean = Value (inner.Scalar (scalar_of kind.Bool 1)) in
-          sym gives
-          ∙ values_by_numbers m are (own e at).r boolean (own e at).fit (refl, tt, refl)
-          (own_alike e at boolean (wanted ∙ (ap (λ o. logical_type (option_and_then (λ r. inner_of r m.types) o)) b.there
-          ∙ ap (λ c. if c then LikeThis boolean else Anything) (boolean_values m are b.r b.fit is))))
-      logical_by x is z gives = tt
-
     logical_fits : (op : BinaryOperator) (left right : ℕ) → slice_get function.expressions h ≡ Some (expression.Binary op left right) →
         binary_type op (known_inner m.types g.known left) ≡ logical_type (known_inner m.types g.known left) → LogicalFits (handle_type shape left) (handle_type shape h)
     logical_fits op left right at wanted =
-        let operands = operands_known m info (Some function) g sound h (expression.Binary op left right) at in
-        let b = known_as left operands.0.0 operands.0.1 in
-        logical_by (expression.Binary op left right) at left b wanted (handle_type shape left) (sym b.values) (handle_type shape h) (sym (own (expression.Binary op left right) at).values)
+        let same = λ (k : ℕ). handle_type_is m info function es k in
+        subst (λ k. LogicalFits k (handle_type shape h)) (sym (same left))
+        (subst (LogicalFits (value_at m info g.known left)) (sym (same h))
+        (values_are_logical m info are (Some function) g sound h op left right at wanted))
 
     -- ---- shapes
     -- what is no sign between operands is no short circuit

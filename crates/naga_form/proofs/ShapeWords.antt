@@ -23,7 +23,7 @@ use Rattle.module_meaning.specs.ExpressionShapes.{applied_shape, applied_or, par
 use Rattle.module_meaning.specs.ExpressionShapes.{shape_of, asking}
 use Rattle.module_meaning.specs.FunctionShapes.{function_shape, shapes_from}
 use Rattle.module_meaning.specs.ModuleShapes.{initialiser}
-use Rattle.module_meaning.specs.OperatorTable.{Operator, Splat, WithoutForm, PartAt, run_word, asks}
+use Rattle.module_meaning.specs.OperatorTable.{Operator, WithoutForm, PartAt, run_word, asks}
 use Rattle.module_meaning.specs.OperatorTable.{TypeIsSound}
 use Rattle.module_meaning.specs.Shapes.{operator_shape}
 use Rattle.module_meaning.specs.ExpressionContexts.{declared, types_known}
@@ -46,7 +46,6 @@ use Rattle.naga_form.proofs.SoundOperators.{constructor_is_sound, atomic_is_soun
 use Rattle.naga_form.proofs.SoundOperators.{applied_is_sound}
 use Rattle.naga_form.proofs.TreeWords.{constant_words, initialiser_words, levels_words, offset_words}
 use Rattle.naga_form.proofs.TreeWords.{or_false_words, written_words, zero_words}
-use Rattle.naga_ir.specs.declared.types.VectorSize.{VectorSize}
 
 -- ---- expressions
 -- in a function of a program of shapes, behind so many others
@@ -66,8 +65,10 @@ module _ (m : Module) (info : ModuleInfo) (are : TypesAreCounted m) (p : shapes.
   made_operates : (ty n : ℕ) → OperatesBy p own (run_word (constructor (expression_context m (λ h. None)) (Handle ty) n))
   made_operates ty n = operator_operates _ (constructor_is_sound m are (λ h. None) ty n) (constructor_asks (expression_context m (λ h. None)) (Handle ty) n)
 
-  splat_operates : (size : VectorSize) → OperatesBy p own (run_word (Splat size))
-  splat_operates size = operator_operates (Splat size) tt refl
+  applied_operates : (known : ℕ → Option TypeResolution) (e : ir.Expression) (o : Operator) →
+      applied_operator (expression_context m known) e ≡ Some o → asks o ≡ false →
+      OperatesBy p own (run_word o)
+  applied_operates known e o is silent = operator_operates o (applied_is_sound m are known e o is) silent
 
   applied_words : (o : Operator) → TypeIsSound o → (xs : List ℕ) → WordFits p own (Some (applied_shape o xs))
   applied_words o is xs = by (asks o) refl
@@ -85,13 +86,13 @@ module _ (m : Module) (info : ModuleInfo) (are : TypesAreCounted m) (p : shapes.
   pub shape_words : (known : ℕ → Option TypeResolution) (es : List ir.Expression) (h : ℕ) (e : ir.Expression) → WordFits p own (Some (shape_of (declared m info known) es h e))
   shape_words known es h (expression.Literal value) = tt
   shape_words known es h (expression.Constant handle) =
-      or_false_words m info (OperatesBy p own) made_operates splat_operates (written_constant m info handle) (constant_words m info (OperatesBy p own) made_operates splat_operates handle)
+      or_false_words m info (OperatesBy p own) made_operates applied_operates (written_constant m info handle) (constant_words m info (OperatesBy p own) made_operates applied_operates handle)
   shape_words known es h (expression.Override handle) = tt
   shape_words known es h (expression.ZeroValue ty) =
       let d = declared m info known in
-      or_false_words m info (OperatesBy p own) made_operates splat_operates
+      or_false_words m info (OperatesBy p own) made_operates applied_operates
       (built d h (constructor d.context (Handle ty) 0) [])
-      (zero_words m info (OperatesBy p own) made_operates splat_operates known h ty)
+      (zero_words m info (OperatesBy p own) made_operates applied_operates known h ty)
   shape_words known es h (expression.AccessIndex base index) = by (part_selector (declared m info known) base index)
     where
       by : (s : Option Selector) → WordFits p own (Some (part_shape base index s))
@@ -106,9 +107,9 @@ module _ (m : Module) (info : ModuleInfo) (are : TypesAreCounted m) (p : shapes.
       let written = option_and_then (constant_tree d es) offset in
       let is = sampling_is_sound m are known _ gather (level_of l) (is_some depth_ref) clamp (is_some array_index) (is_some offset) in (
         operator_asks _ is.0 is.1,
-        levels_words m info (OperatesBy p own) made_operates splat_operates l unwritten (option_to_list written)
-            (offset_words m info (OperatesBy p own) made_operates splat_operates written
-            (λ t e. let x = then_some (constant_tree d es) offset t e in written_words m info (OperatesBy p own) made_operates splat_operates known es x.0 t x.2)),
+        levels_words m info (OperatesBy p own) made_operates applied_operates l unwritten (option_to_list written)
+            (offset_words m info (OperatesBy p own) made_operates applied_operates written
+            (λ t e. let x = then_some (constant_tree d es) offset t e in written_words m info (OperatesBy p own) made_operates applied_operates known es x.0 t x.2)),
       )
   shape_words known es h (expression.Access base index) = tt
   shape_words known es h (expression.Swizzle size vector pattern) = tt
@@ -145,4 +146,4 @@ pub initialiser_words_outside : (m : Module) (info : ModuleInfo) → TypesAreCou
 initialiser_words_outside m info are p c =
     initialiser_words m info (OperatesOutside p (free_names free_request))
     (λ ty n. operator_operates_outside p _ (constructor_is_sound m are (λ h. None) ty n) (constructor_asks (expression_context m (λ h. None)) (Handle ty) n))
-    (λ size. operator_operates_outside p (Splat size) tt refl) c
+    (λ known e o is silent. operator_operates_outside p o (applied_is_sound m are known e o is) silent) c

@@ -5,23 +5,26 @@ use Rattle.std.proofs.Common.{Some, None, refl, subst}
 use Rattle.std.specs.Prelude.{slice_get, unwrap_or, if◌then◌else◌}
 use Rattle.std.specs.Option.{option_to_list, is_some}
 use Rattle.std.proofs.lemmas.Option.{same_Some}
+use Rattle.std.specs.List.{AllByRecursion}
+use Rattle.naga_ir.specs.Operands.{expression_operands}
+use Rattle.naga_form.proofs.ComputedTrees.{HoldsOfMade, of_computed}
 use Rattle.naga_ir.specs.declared.expression.Expression as ir
 use Rattle.naga_ir.specs.declared.expression.Expression.TheVariants as expression
 use Rattle.naga_ir.specs.declared.expression.SampleLevel.{SampleLevel}
 use Rattle.naga_ir.specs.declared.expression.SampleLevel.TheVariants as level
 use Rattle.naga_ir.specs.declared.module.Constant as ir_constant
 use Rattle.naga_ir.specs.declared.module.Module.{Module}
-use Rattle.naga_ir.specs.declared.types.VectorSize.{VectorSize}
 use Rattle.naga_info.specs.declared.info.ModuleInfo.{ModuleInfo}
 use Rattle.naga_info.specs.declared.info.TypeResolution.{TypeResolution}
 use Rattle.naga_info.specs.declared.info.TypeResolution.TheVariants.{Handle}
 use Rattle.naga_info.proofs.Options.{then_some, map_some}
-use Rattle.module_meaning.specs.ExpressionOperators.{constructor}
+use Rattle.module_meaning.specs.ExpressionOperators.{applied_operator, constructor}
 use Rattle.module_meaning.specs.ExpressionShapes.{Declared, trees, tree_then, trees_of, built, tree_over}
-use Rattle.module_meaning.specs.ExpressionShapes.{constant_tree, tree_within, written_zero}
+use Rattle.module_meaning.specs.ExpressionShapes.{computed_over, constant_tree, tree_within}
+use Rattle.module_meaning.specs.ExpressionShapes.{written_zero}
 use Rattle.module_meaning.specs.Literals.{literal_value}
 use Rattle.module_meaning.specs.ModuleShapes.{initialiser}
-use Rattle.module_meaning.specs.OperatorTable.{Operator, Splat, run_word}
+use Rattle.module_meaning.specs.OperatorTable.{Operator, Splat, asks, run_word}
 use Rattle.module_meaning.specs.ExpressionContexts.{constant_number, constant_over, declared, declared_over}
 use Rattle.module_meaning.specs.ExpressionContexts.{global_tree, global_tree_within}
 use Rattle.module_meaning.specs.ExpressionContexts.{global_types_known}
@@ -34,7 +37,8 @@ use Rattle.shader_runs.specs.Value.{Truth}
 module _ (m : Module) (info : ModuleInfo) (P : List ℕ → Type 0)
     (made : (ty n : ℕ) →
     P (run_word (constructor (expression_context m (λ h. None)) (Handle ty) n)))
-    (splat : (size : VectorSize) → P (run_word (Splat size))) where
+    (applied : (known : ℕ → Option TypeResolution) (e : ir.Expression) (o : Operator) →
+    applied_operator (expression_context m known) e ≡ Some o → asks o ≡ false → P (run_word o)) where
   module _ (constants : ℕ → Option ConstantTree) (in_constants : (c : ℕ) (t : ConstantTree) → constants c ≡ Some t → EachWord P t) (known : ℕ → Option TypeResolution) where
     abbrev context : Declared
     context = declared_over m constants known
@@ -72,8 +76,29 @@ module _ (m : Module) (info : ModuleInfo) (P : List ℕ → Type 0)
         each_of (h ∷ hs) us e = both (tree_of h) (trees_of tree_of hs) us (all h) (each_of hs) e
     over_words tree_of all h (expression.Splat size value) t e =
         let x = then_some (λ t. built context h (Splat size) (t ∷ [])) (tree_of value) t e in
-        built_words h (Splat size) (splat size) (x.0 ∷ []) (all value x.0 x.1, tt) t x.2
+        built_words h (Splat size) (applied known (expression.Splat size value) (Splat size) refl refl) (x.0 ∷ []) (all value x.0 x.1, tt) t x.2
     over_words tree_of all h _ t e = absurd (cc)
+
+    made_words : HoldsOfMade (EachWord P) (EachWordOf P)
+    made_words = record {
+      no_trees = tt;
+      more = λ t ts one all. (one, all);
+      indexing = λ ty b i one two. (one, two);
+      picking = λ x ty b one. one;
+      joining = λ j ty l r one two. (one, two);
+    }
+
+    computed_words : (tree_of : ℕ → Option ConstantTree) →
+        ((h : ℕ) (t : ConstantTree) → tree_of h ≡ Some t → EachWord P t) →
+        (h : ℕ) (e : ir.Expression) (t : ConstantTree) → computed_over context tree_of h e ≡ Some t →
+        EachWord P t
+    computed_words tree_of all h e t found =
+        of_computed context tree_of (EachWord P) (EachWordOf P) made_words h e (over_words tree_of all h e)
+        (each (expression_operands e)) (λ a is silent ty ts words. (applied known e a is silent, words)) t found
+      where
+        each : (hs : List ℕ) → AllByRecursion (λ k. (t : ConstantTree) → tree_of k ≡ Some t → EachWord P t) hs
+        each [] = tt
+        each (k ∷ hs) = (all k, each hs)
 
     within_words : (levels : ℕ) (es : List ir.Expression) (h : ℕ) (t : ConstantTree) → tree_within levels context es h ≡ Some t → EachWord P t
     within_words zero es h t e = absurd (cc)
@@ -105,8 +130,8 @@ module _ (m : Module) (info : ModuleInfo) (P : List ℕ → Type 0)
   within_global_words zero h t e = absurd (cc)
   within_global_words (suc levels) h t e =
       let global = global_tree_within levels m info in
-      let x = then_some (tree_over (declared_over m (constant_over m global) (global_types_known info)) global h) (slice_get m.global_expressions h) t e in
-      over_words (constant_over m global) (constant_words_over global (within_global_words levels)) (global_types_known info) global (within_global_words levels) h x.0 t x.2
+      let x = then_some (computed_over (declared_over m (constant_over m global) (global_types_known info)) global h) (slice_get m.global_expressions h) t e in
+      computed_words (constant_over m global) (constant_words_over global (within_global_words levels)) (global_types_known info) global (within_global_words levels) h x.0 t x.2
 
   -- of each tree of the module's own expressions
   pub global_words : (h : ℕ) (t : ConstantTree) → global_tree m info h ≡ Some t → EachWord P t

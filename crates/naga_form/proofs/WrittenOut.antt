@@ -1,10 +1,9 @@
--- Each constant of an accepted module has a tree. Where the initialisers of those with a name are
--- written out, as a literal, another constant, an override, a zero value, a composition or a splat
--- of such, these have trees too, and so it is where all that a module declares has a form. Acceptance
--- doesn't ask that they are: a negation of a literal is not.
-use Rattle.module_meaning.specs.Writable.{AreWrittenOut, is_written_out, written_out_within, written_out_over}
+-- Each constant of an accepted module has a tree. So has what is written out of the module's own
+-- expressions, as a literal, a constant, an override, a zero value, a composition or a splat of such;
+-- and so the initialisers of the constants with a name, where all that a module declares has a form.
+use Rattle.module_meaning.specs.Writable.{AreComputed, written_out_within, written_out_over}
 use Rattle.module_meaning.specs.Names.{TypesAreDistinguished}
-use Rattle.std.proofs.Common.{◌≡◌, ℕ, zero, suc, ◌<◌, ◌+◌, Bool, true, false, List, [], ◌∷◌, refl, sym, ap, ◌∙◌, length}
+use Rattle.std.proofs.Common.{◌≡◌, ℕ, zero, suc, ◌<◌, ◌+◌, Bool, true, false, List, [], ◌∷◌, refl, sym, ap, ◌∙◌, length, subst}
 use Rattle.std.proofs.Common.{Option, Some, None, slice_get, arith, nat_lt, ◌&&◌}
 use Rattle.std.specs.List.{list_all}
 use Rattle.std.specs.Prelude.{IsTrue, ◌||◌}
@@ -23,7 +22,7 @@ use Rattle.shader_runs.specs.Program.{ConstantTree, Constructed}
 use Rattle.module_meaning.specs.Accepted.{is_accepted}
 use Rattle.module_meaning.specs.AgreeingOperators.{Group, module_operators_agree}
 use Rattle.module_meaning.specs.ExpressionOperators.{constructor}
-use Rattle.module_meaning.specs.ExpressionShapes.{Declared, trees, tree_then, trees_of, built, tree_over}
+use Rattle.module_meaning.specs.ExpressionShapes.{Declared, trees, tree_then, trees_of, built, tree_over, computed_over}
 use Rattle.module_meaning.specs.ExpressionTypes as types
 use Rattle.module_meaning.specs.InfoSizes.{sizes_fit, type_is_fit, all_known}
 use Rattle.module_meaning.specs.OperatorTable.{Operator, Splat}
@@ -43,6 +42,7 @@ use Rattle.module_meaning.proofs.Lists.{all_pass, list_all_at}
 use Rattle.module_meaning.proofs.Lists.{placed_at}
 use Rattle.naga_form.proofs.AcceptedGroups.{IsSoundGroup, own_known, own_group, declarations_are}
 use Rattle.naga_form.proofs.ConstantInitialisers.{HaveTrees, named_stands}
+use Rattle.naga_form.proofs.ComputedTrees.{computed_as_written}
 use Rattle.naga_form.proofs.ConstantTrees.{wanted_there, availability_tree}
 use Rattle.naga_form.proofs.Signatures.{group_context}
 
@@ -98,21 +98,6 @@ module _ (m : Module) where
           option_map_or (written_out_over out) o false ≡ true
       by None is each = absurd cc
       by (Some e) is each = over each e is
-
-  -- so the initialiser of each constant with a name is
-  pub are_written_out : ItemsHaveForms m → AreWrittenOut m
-  are_written_out items =
-      all_pass (λ c. is_none c.name || is_written_out m.global_expressions c.init) m.constants
-      (λ i c at. by c.init c.name
-      (λ named.
-      form_is_out (suc c.init) c.init
-      (items.initialisers c.init (IsInitialiser.OfConstant i c at named))))
-    where
-      by : {X : Type 0} (init : ℕ) (name : Option X) →
-          (is_some name ≡ true → is_written_out m.global_expressions init ≡ true) →
-          (is_none name || is_written_out m.global_expressions init) ≡ true
-      by init None out = refl
-      by init (Some name) out = out refl
 
 module _ (m : Module) (info : ModuleInfo) where
   -- ---- of expressions that stand together
@@ -233,19 +218,34 @@ module _ (m : Module) (info : ModuleInfo) where
 
           by : (o : Option Expression) → slice_get m.global_expressions h ≡ o → option_map_or (written_out_over (written_out_within levels m.global_expressions)) o false ≡ true →
               ((k : ℕ) → written_out_within levels m.global_expressions k ≡ true → HasTree (global k)) →
-              HasTree (option_and_then (tree_over (declared_over m (constant_over m global) (global_types_known info)) global h) o)
+              HasTree (option_and_then (computed_over (declared_over m (constant_over m global) (global_types_known info)) global h) o)
           by None at out have = absurd cc
           by (Some e) at out have =
-              over_there None Own own_is (constant_over m global) global (written_out_within levels m.global_expressions) h e at (λ k lt. have k)
-              (λ c same. let item = constant_named None Own own_is h c (at ∙ ap Some same) in constant_stands global c item.0 item.1) out
+              subst HasTree
+              (sym (computed_as_written (declared_over m (constant_over m global) (global_types_known info)) global h (written_out_within levels m.global_expressions) e out))
+              (over_there None Own own_is (constant_over m global) global (written_out_within levels m.global_expressions) h e at (λ k lt. have k)
+              (λ c same. let item = constant_named None Own own_is h c (at ∙ ap Some same) in constant_stands global c item.0 item.1) out)
 
-      -- so each initialiser of a named one has
-      pub have_trees : AreWrittenOut m → HaveTrees m info accepted distinguished
-      have_trees out i c named =
-          let k = named_stands m.constants i c named in
-          global_there (suc c.init) c.init
-          (by c.name k.2 (list_all_at (λ c. is_none c.name || is_written_out m.global_expressions c.init) m.constants k.0 c out k.1))
+      -- so each initialiser of a named one has, where all that is declared has a form
+      pub are_computed : ItemsHaveForms m → AreComputed m info
+      are_computed items =
+          all_pass (λ c. is_none c.name || is_some (global_tree m info c.init)) m.constants
+          (λ i c at. by c.name (λ named.
+          let out = form_is_out m (suc c.init) c.init (items.initialisers c.init (IsInitialiser.OfConstant i c at named)) in
+          ap is_some (global_there (suc c.init) c.init out).1))
         where
-          by : {X : Type 0} (name : Option X) → is_some name ≡ true → (is_none name || is_written_out m.global_expressions c.init) ≡ true → is_written_out m.global_expressions c.init ≡ true
-          by (Some name) named is = is
-          by None named is = absurd cc
+          by : {X : Type 0} {b : Bool} (name : Option X) → (is_some name ≡ true → b ≡ true) → (is_none name || b) ≡ true
+          by None has = refl
+          by (Some name) has = has refl
+
+      -- and where all are computed, each has its tree
+      pub have_trees : AreComputed m info → HaveTrees m info accepted distinguished
+      have_trees computed i c named =
+          let k = named_stands m.constants i c named in
+          by c.name (global_tree m info c.init) k.2
+          (list_all_at (λ c. is_none c.name || is_some (global_tree m info c.init)) m.constants k.0 c computed k.1)
+        where
+          by : {X : Type 0} (name : Option X) (o : Option ConstantTree) → is_some name ≡ true → (is_none name || is_some o) ≡ true → HasTree o
+          by (Some name) (Some t) named is = (t, refl)
+          by (Some name) None named is = absurd cc
+          by None o named is = absurd cc

@@ -227,7 +227,7 @@ HasAWorld =
 -- which the rules of scope hold
 abbrev pub OfEveryWritable : (Module → ModuleInfo → Type 0) → Type 0
 OfEveryWritable Holds =
-    (m : Module) (info : ModuleInfo) → IsTrue (is_accepted m info) → IsWritable m →
+    (m : Module) (info : ModuleInfo) → IsTrue (is_accepted m info) → IsWritable m info →
     ScopesHold m info → Holds m info
 
 -- one world answers by the right types

@@ -179,6 +179,10 @@ typed_not_pointer parts (PointerType s) (Pointer p) n h = absurd (true≢false (
 typed_not_pointer parts k (Pointer p) n h = absurd (true≢false (sym h))
 typed_not_pointer parts k x n h = refl
 
+pub no_pointer_type : (k : ValueType) → IsNoPointer k → IsTrue (not_pointer_type k)
+no_pointer_type (PointerType s) n = absurd n
+no_pointer_type k n = refl
+
 -- an index into a value that is no pointer, and a part of it
 pub index_value_is : (parts : PartTypes) (m : Meaning) (x y : Value) → place_in x ≡ None → index_value_of parts m x y ≡ Some (m IndexWord (x ∷ y ∷ []))
 index_value_is parts m x y n = ap (λ o. index_value_by parts m o x y) n
@@ -284,10 +288,6 @@ module _ (c : Call) (d : Respond) (names : Scope) where
 
   swizzled_value : (letters : Bytes) (y v : Value) → place_in y ≡ None → swizzle_value c.meaning letters y ≡ Some v → part_value c.environment.parts c.meaning (MemberNamed letters) y ≡ Some v
   swizzled_value letters y v h e = part_value_is c.environment.parts c.meaning (MemberNamed letters) y h ∙ e
-
-  no_pointer_type : (k : ValueType) → IsNoPointer k → IsTrue (not_pointer_type k)
-  no_pointer_type (PointerType s) n = absurd n
-  no_pointer_type k n = refl
 
   pub swizzle_means : (k : ValueType) (letters : Bytes) (b : Plain) (y v : Value) →
       Means c d names b (Some y) → IsNoPointer k → IsTrue (has_type c.environment.parts k y) →

@@ -7,7 +7,7 @@ use Rattle.shader_runs.specs.Scope.{named_by_all}
 use Rattle.shader_runs.specs.Premises.{AllBelow, WordFits, LeafFits, AreDistinct, FixedKey}
 use Rattle.shader_runs.specs.Premises.{NumberedKey, NamedKey, ArgumentName, LocalName, ConstantName}
 use Rattle.shader_runs.specs.Premises.{GlobalName, ConstantsFit}
-use Rattle.shader_runs.specs.Typing.{Signature, IsOneOf, IsSpelled, PartsFit, signatures_of}
+use Rattle.shader_runs.specs.Typing.{Signature, IsOneOf, IsSpelled, PartsFit, LeafTreesFit, signatures_of}
 use Rattle.shader_runs.specs.Typing.{in_function, in_initialiser}
 use Rattle.shader_runs.specs.Rows.{RowsHold, PremisesHold, store_function, store_naming}
 use Rattle.shader_runs.specs.Rows.{store_module}
@@ -102,6 +102,13 @@ no_parts (suc (suc zero)) = tt
 no_parts (suc (suc (suc zero))) = tt
 no_parts (suc (suc (suc (suc h)))) = tt
 
+no_trees : (h : ℕ) → LeafTreesFit store_module (expression_of store_function h)
+no_trees zero = tt
+no_trees (suc zero) = tt
+no_trees (suc (suc zero)) = tt
+no_trees (suc (suc (suc zero))) = tt
+no_trees (suc (suc (suc (suc h)))) = tt
+
 only_function : (i : ℕ) (f : Function) → slice_get store_module.functions i ≡ Some f → store_function ≡ f
 only_function zero f e = same_Some store_function f e
 only_function (suc i) f e = absurd (none-some f e)
@@ -146,6 +153,10 @@ premises =
         parts =
             λ place f e h. subst (λ f. PartsFit row_parts f (handle_type f h) (expression_of f h))
             (only_function place f e) (no_parts h);
+        constants =
+            λ place f e h. subst (λ f. LeafTreesFit store_module (expression_of f h))
+            (only_function place f e) (no_trees h);
+        initialisers = λ i e at. absurd (none-some e at);
       };
       well_formed = (record { loads = loads; body = (tt, (tt, (tt, tt))) }, tt);
       results = ((refl, refl), tt);

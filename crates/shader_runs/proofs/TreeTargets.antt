@@ -3,7 +3,8 @@ use Rattle.std.proofs.Common.{◌≡◌, ℕ, zero, suc, ◌<◌, Bool, true, fa
 use Rattle.std.proofs.Common.{Some, None, refl, sym, ap, ◌∙◌, append_assoc}
 use Rattle.std.proofs.lemmas.List.{map-append}
 use Rattle.shader_runs.specs.Value.{Bytes, MemberNamed, ValueType, PointerType, Selector}
-use Rattle.shader_runs.specs.Program.{ConstantTree, Fixed, NamedConstant, Constructed}
+use Rattle.shader_runs.specs.Program.{ConstantTree, Fixed, NamedConstant, Constructed, Indexing}
+use Rattle.shader_runs.specs.Program.{Picking, Joining}
 use Rattle.shader_runs.specs.Program.{ConstantTrees, no_constant, constant, Expression, Constant}
 use Rattle.shader_runs.specs.Program.{Argument, Local, Global, Load, Operator, Access, AccessIndex}
 use Rattle.shader_runs.specs.Program.{Logical, Swizzle, Request, Result, expression_of, handle_type}
@@ -73,6 +74,13 @@ module _ (n : ModuleNames) (names : Lookup) (count : ℕ) (found : (i : ℕ) →
     constant_resolves (NamedConstant i) range words = ap (λ o. o ∷ []) (found i range)
     constant_resolves (Constructed word ty es) range words =
         word_resolves names word (free word words.0) (constants_resolve es range words.1)
+    constant_resolves (Indexing ty b i) range words =
+        both (constant_targets b) (constant_targets i) (constant_resolves b range.0 words.0) (constant_resolves i range.1 words.1)
+    constant_resolves (Picking x ty b) range words =
+        behind (PartTarget x) (constant_resolves b range words)
+    constant_resolves (Joining j ty l r) range words =
+        behind (LogicTarget j)
+        (both (constant_targets l) (constant_targets r) (constant_resolves l range.0 words.0) (constant_resolves r range.1 words.1))
 
     pub constants_resolve : (es : ConstantTrees) → EachLeafOf IsLiteral (λ i. i < count) es → EachWordOf IsWord es → trees_targets names (constant_forms n es) ≡ map Some (constants_targets es)
     constants_resolve no_constant range words = refl

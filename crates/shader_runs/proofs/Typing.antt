@@ -12,26 +12,30 @@ use Rattle.shader_runs.specs.Value.{part_pointer, place_at, ValueType}
 use Rattle.shader_runs.specs.Value.{BooleanType, IntegerType, PointerType, OtherType, type_of}
 use Rattle.shader_runs.specs.Value.{same_type, has_type, has_types, same_bytes, Value, Truth, Whole}
 use Rattle.shader_runs.specs.Value.{Pointer, Opaque, Word, Spelled, PartWord, IndexWord}
-use Rattle.shader_runs.specs.Value.{ShortCircuit, short_circuit_word}
+use Rattle.shader_runs.specs.Value.{ShortCircuit, short_circuit_word, place_in}
 use Rattle.shader_runs.specs.World.{Meaning}
-use Rattle.shader_runs.specs.Program.{ConstantTree, Fixed, NamedConstant, Constructed}
+use Rattle.shader_runs.specs.Program.{ConstantTree, Fixed, NamedConstant, Constructed, Indexing}
+use Rattle.shader_runs.specs.Program.{Picking, Joining}
 use Rattle.shader_runs.specs.Program.{ConstantTrees, no_constant, constant, Expression, Constant}
 use Rattle.shader_runs.specs.Program.{Operator, Access, AccessIndex, Logical, Swizzle, Request}
 use Rattle.shader_runs.specs.Program.{Function, expression_of, handle_type, operands_of, Module}
 use Rattle.shader_runs.specs.ProgramRun.{index_value_of, part_value, decides, undecided_value}
-use Rattle.shader_runs.specs.ProgramRun.{combined_value}
+use Rattle.shader_runs.specs.ProgramRun.{combined_value, constant_part_by}
 use Rattle.shader_runs.specs.Scope.{is_pure}
-use Rattle.shader_runs.specs.Premises.{constant_types_of, handle_types, ConstantTyped}
+use Rattle.shader_runs.specs.Premises.{constant_type, constant_types_of, handle_types}
+use Rattle.shader_runs.specs.Premises.{ConstantTyped, IsNoPointer}
 use Rattle.shader_runs.specs.Premises.{ConstantsTyped, LeafTyped, IsTypedIn, AllTypedIn}
 use Rattle.shader_runs.specs.Typing.{Signature, constant_signatures, constants_signatures}
 use Rattle.shader_runs.specs.Typing.{signatures_of, IsOneOf, first_of, later_of, IsSpelled}
 use Rattle.shader_runs.specs.Typing.{in_function, in_initialiser, IsPart, AccessFits}
 use Rattle.shader_runs.specs.Typing.{AccessIndexFits}
-use Rattle.shader_runs.specs.Typing.{LogicalFits, PartsFit, IsConsistent}
+use Rattle.shader_runs.specs.Typing.{LogicalFits, PartsFit, IsConsistent, TreeFits, TreesFit}
+use Rattle.shader_runs.specs.Typing.{LeafTreesFit}
 use Rattle.shader_runs.specs.Correct.{HasTypedMeaning}
 use Rattle.shader_runs.proofs.Update.{and_left, and_right, and_both, same_bytes_true}
 use Rattle.shader_runs.proofs.Update.{same_bytes_self, same_type_true, same_type_self}
-use Rattle.shader_runs.proofs.Evaluation.{not_pointer_type, typed_not_pointer, pointer_typed}
+use Rattle.shader_runs.proofs.Evaluation.{not_pointer_type, no_pointer_type, typed_not_pointer}
+use Rattle.shader_runs.proofs.Evaluation.{pointer_typed}
 use Rattle.shader_runs.proofs.Evaluation.{integer_typed, index_value_is, part_value_is}
 
 abbrev pub default_value : ValueType → Value
@@ -286,21 +290,104 @@ module _ (p : Module) (consistent : IsConsistent p) where
       let typed = ap (result_in All x.word) (types_of_typed p.parts x.operands vs h) ∙ found in
       subst (λ t. IsTrue (has_type p.parts x.result (default_value t))) (sym typed) (default_typed p.parts x.result)
 
+  pair_typed : (a b : ValueType) (x y : Value) → IsTrue (has_type p.parts a x) → IsTrue (has_type p.parts b y) → IsTrue (has_types p.parts (a ∷ b ∷ []) (x ∷ y ∷ []))
+  pair_typed a b x y h k = and_both (has_type p.parts a x) (has_types p.parts (b ∷ []) (y ∷ [])) h (and_both (has_type p.parts b y) true k refl)
+
+  -- what `&&` or `||` gives behind a truth value
+  truths_typed : (j : ShortCircuit) (t k : ValueType) → k ≡ BooleanType →
+      ((vs : List Value) → IsTrue (has_types p.parts (BooleanType ∷ t ∷ []) vs) →
+      IsTrue (has_type p.parts k (m (Spelled (short_circuit_word j)) vs))) →
+      (a : Bool) (y : Value) → IsTrue (has_type p.parts t y) →
+      IsTrue (has_type p.parts k (undecided_value m j (Truth a) y))
+  truths_typed j t k w g a (Truth b) l = ap (λ k. has_type p.parts k (Truth b)) w
+  truths_typed j t k w g a y l = g (Truth a ∷ y ∷ []) (pair_typed BooleanType t (Truth a) y refl l)
+
+  truth_cases : (j : ShortCircuit) (t k : ValueType) → k ≡ BooleanType →
+      ((vs : List Value) → IsTrue (has_types p.parts (BooleanType ∷ t ∷ []) vs) →
+      IsTrue (has_type p.parts k (m (Spelled (short_circuit_word j)) vs))) →
+      (d a : Bool) (y : Value) → IsTrue (has_type p.parts t y) →
+      IsTrue (has_type p.parts k (cond d (Truth a) (undecided_value m j (Truth a) y)))
+  truth_cases j t k w g true a y l = ap (λ k. has_type p.parts k (Truth a)) w
+  truth_cases j t k w g false a y l = truths_typed j t k w g a y l
+
+  boolean_of : (a k : ValueType) → LogicalFits a k → (b : Bool) → IsTrue (has_type p.parts a (Truth b)) → (a ≡ BooleanType) × (k ≡ BooleanType)
+  boolean_of BooleanType k w b h = (refl, w)
+  boolean_of a k w b h = absurd (true≢false (sym h))
+
+  logical_typed : (j : ShortCircuit) (a t k : ValueType) → LogicalFits a k →
+      ((vs : List Value) → IsTrue (has_types p.parts (a ∷ t ∷ []) vs) →
+      IsTrue (has_type p.parts k (m (Spelled (short_circuit_word j)) vs))) →
+      (x y : Value) → IsTrue (has_type p.parts a x) → IsTrue (has_type p.parts t y) →
+      IsTrue (has_type p.parts k (cond (decides j x) x (undecided_value m j x y)))
+  logical_typed j a t k w g (Truth b) y h l =
+      let q = boolean_of a k w b h in
+      truth_cases j t k q.1
+      (subst (λ a. (vs : List Value) → IsTrue (has_types p.parts (a ∷ t ∷ []) vs) →
+      IsTrue (has_type p.parts k (m (Spelled (short_circuit_word j)) vs))) q.0 g)
+      (decides j (Truth b)) b y l
+  logical_typed j a t k w g x y h l = g (x ∷ y ∷ []) (pair_typed a t x y h l)
+
+  -- what is no pointer has what the meaning says of its parts
+  no_part : (k : ValueType) → IsNoPointer k → (word : Word) (v : Value) (vs : List Value) →
+      IsTrue (has_type p.parts k v) → constant_part_by m word (place_in v) vs ≡ Some (m word vs)
+  no_part k n word v vs h =
+      ap (λ o. constant_part_by m word o vs) (typed_not_pointer p.parts k v (no_pointer_type k n) h)
+
+  some_either : (b : Bool) (v u : Value) → cond b (Some v) (Some u) ≡ Some (cond b v u)
+  some_either true v u = refl
+  some_either false v u = refl
+
   -- a tree over constants alone whose operators the module spells
   mutual
-    constant_fits : (e : ConstantTree) → ((x : Signature) → IsOneOf x (constant_signatures p e) → IsSpelled p x) → ConstantTyped p.parts p m e
-    constant_fits (Fixed v) at = tt
-    constant_fits (NamedConstant i) at = tt
-    constant_fits (Constructed w ty es) at =
+    constant_fits : (e : ConstantTree) → TreeFits p e → ((x : Signature) → IsOneOf x (constant_signatures p e) → IsSpelled p x) → ConstantTyped p.parts p m e
+    constant_fits (Fixed v) fit at = tt
+    constant_fits (NamedConstant i) fit at = tt
+    constant_fits (Constructed w ty es) fit at =
         let x : Signature = record { word = Spelled w; operands = constant_types_of p es; result = ty } in
-        (λ vs k. spelled_typed x (at x first_of) vs k, constants_fit es (λ y k. at y (later_of k)))
+        (λ vs k. spelled_typed x (at x first_of) vs k, constants_fit es fit (λ y k. at y (later_of k)))
+    constant_fits (Indexing ty b i) fit at =
+        let x : Signature = record { word = IndexWord; operands = constant_type p b ∷ constant_type p i ∷ []; result = ty } in (
+          λ v z h k. (
+            m IndexWord (v ∷ z ∷ []),
+            no_part (constant_type p b) fit.0 IndexWord v (v ∷ z ∷ []) h,
+            spelled_typed x (at x first_of) (v ∷ z ∷ [])
+                (pair_typed (constant_type p b) (constant_type p i) v z h k),
+          ),
+          constant_fits b fit.1 (λ z k. at z (later_of
+              (one_of_left z (constant_signatures p b) (constant_signatures p i) k))),
+          constant_fits i fit.2 (λ z k. at z (later_of
+              (one_of_right z (constant_signatures p b) (constant_signatures p i) k))),
+        )
+    constant_fits (Picking s ty b) fit at =
+        let x : Signature = record { word = PartWord s; operands = constant_type p b ∷ []; result = ty } in (
+          λ v h. (
+            m (PartWord s) (v ∷ []),
+            no_part (constant_type p b) fit.0 (PartWord s) v (v ∷ []) h,
+            spelled_typed x (at x first_of) (v ∷ [])
+                (and_both (has_type p.parts (constant_type p b) v) true h refl),
+          ),
+          constant_fits b fit.1 (λ y k. at y (later_of k)),
+        )
+    constant_fits (Joining j ty l r) fit at =
+        let x : Signature = record { word = Spelled (short_circuit_word j); operands = constant_type p l ∷ constant_type p r ∷ []; result = ty } in (
+          λ a b h k. (
+            cond (decides j a) a (undecided_value m j a b),
+            some_either (decides j a) a (undecided_value m j a b),
+            logical_typed j (constant_type p l) (constant_type p r) ty fit.0
+                (λ vs k. spelled_typed x (at x first_of) vs k) a b h k,
+          ),
+          constant_fits l fit.1 (λ z k. at z (later_of
+              (one_of_left z (constant_signatures p l) (constant_signatures p r) k))),
+          constant_fits r fit.2 (λ z k. at z (later_of
+              (one_of_right z (constant_signatures p l) (constant_signatures p r) k))),
+        )
 
-    constants_fit : (es : ConstantTrees) → ((x : Signature) → IsOneOf x (constants_signatures p es) → IsSpelled p x) → ConstantsTyped p.parts p m es
-    constants_fit no_constant at = tt
-    constants_fit (constant e es) at = (
-      constant_fits e
+    constants_fit : (es : ConstantTrees) → TreesFit p es → ((x : Signature) → IsOneOf x (constants_signatures p es) → IsSpelled p x) → ConstantsTyped p.parts p m es
+    constants_fit no_constant fit at = tt
+    constants_fit (constant e es) fit at = (
+      constant_fits e fit.0
           (λ y k. at y (one_of_left y (constant_signatures p e) (constants_signatures p es) k)),
-      constants_fit es
+      constants_fit es fit.1
           (λ y k. at y (one_of_right y (constant_signatures p e) (constants_signatures p es) k)),
     )
 
@@ -311,11 +398,11 @@ module _ (p : Module) (consistent : IsConsistent p) where
     spelled : (h : ℕ) (x : Signature) → IsHere h x → IsSpelled p x
     spelled h x k = in_function place f here h k
 
-    leaf_fits : (h : ℕ) (e : Option Expression) → ((x : Signature) → IsOneOf x (signatures_of p f (handle_type f h) e) → IsHere h x) → LeafTyped p.parts p m e
-    leaf_fits h (Some (Constant e)) at = constant_fits e (λ x k. spelled h x (at x k))
-    leaf_fits h (Some (Request a w xs es)) at = constants_fit es (λ x k. spelled h x (at x k))
-    leaf_fits h (Some _) at = tt
-    leaf_fits h None at = tt
+    leaf_fits : (h : ℕ) (e : Option Expression) → LeafTreesFit p e → ((x : Signature) → IsOneOf x (signatures_of p f (handle_type f h) e) → IsHere h x) → LeafTyped p.parts p m e
+    leaf_fits h (Some (Constant e)) fit at = constant_fits e fit (λ x k. spelled h x (at x k))
+    leaf_fits h (Some (Request a w xs es)) fit at = constants_fit es fit (λ x k. spelled h x (at x k))
+    leaf_fits h (Some _) fit at = tt
+    leaf_fits h None fit at = tt
 
     -- an operator's value, over values of its operands' types
     abbrev Gives_typed : ValueType → Option Expression → List Value → Type 0
@@ -344,9 +431,6 @@ module _ (p : Module) (consistent : IsConsistent p) where
     by_one k a e g [] h = absurd (true≢false (sym h))
     by_one k a e g (x ∷ []) h = g x (and_left (has_type p.parts a x) true h)
     by_one k a e g (x ∷ y ∷ vs) h = absurd (true≢false (sym (and_right (has_type p.parts a x) (has_types p.parts [] (y ∷ vs)) h)))
-
-    pair_typed : (a b : ValueType) (x y : Value) → IsTrue (has_type p.parts a x) → IsTrue (has_type p.parts b y) → IsTrue (has_types p.parts (a ∷ b ∷ []) (x ∷ y ∷ []))
-    pair_typed a b x y h k = and_both (has_type p.parts a x) (has_types p.parts (b ∷ []) (y ∷ [])) h (and_both (has_type p.parts b y) true k refl)
 
     -- a pointer to a part has the type that its place has
     part_has_type : (k : ValueType) (q : Place) (o : Option Step) → IsPart (p.parts (place_type p.parts q)) o k →
@@ -422,40 +506,6 @@ module _ (p : Module) (consistent : IsConsistent p) where
     part_typed x (PointerType s) k w g b y h = part_of_pointer s x k w b y h
     part_typed x a k w g b y h = part_other x a k refl g b y h
 
-    -- what `&&` or `||` gives behind a truth value
-    truths_typed : (j : ShortCircuit) (t k : ValueType) → k ≡ BooleanType →
-        ((vs : List Value) → IsTrue (has_types p.parts (BooleanType ∷ t ∷ []) vs) →
-        IsTrue (has_type p.parts k (m (Spelled (short_circuit_word j)) vs))) →
-        (a : Bool) (y : Value) → IsTrue (has_type p.parts t y) →
-        IsTrue (has_type p.parts k (undecided_value m j (Truth a) y))
-    truths_typed j t k w g a (Truth b) l = ap (λ k. has_type p.parts k (Truth b)) w
-    truths_typed j t k w g a y l = g (Truth a ∷ y ∷ []) (pair_typed BooleanType t (Truth a) y refl l)
-
-    truth_cases : (j : ShortCircuit) (t k : ValueType) → k ≡ BooleanType →
-        ((vs : List Value) → IsTrue (has_types p.parts (BooleanType ∷ t ∷ []) vs) →
-        IsTrue (has_type p.parts k (m (Spelled (short_circuit_word j)) vs))) →
-        (d a : Bool) (y : Value) → IsTrue (has_type p.parts t y) →
-        IsTrue (has_type p.parts k (cond d (Truth a) (undecided_value m j (Truth a) y)))
-    truth_cases j t k w g true a y l = ap (λ k. has_type p.parts k (Truth a)) w
-    truth_cases j t k w g false a y l = truths_typed j t k w g a y l
-
-    boolean_of : (a k : ValueType) → LogicalFits a k → (b : Bool) → IsTrue (has_type p.parts a (Truth b)) → (a ≡ BooleanType) × (k ≡ BooleanType)
-    boolean_of BooleanType k w b h = (refl, w)
-    boolean_of a k w b h = absurd (true≢false (sym h))
-
-    logical_typed : (j : ShortCircuit) (a t k : ValueType) → LogicalFits a k →
-        ((vs : List Value) → IsTrue (has_types p.parts (a ∷ t ∷ []) vs) →
-        IsTrue (has_type p.parts k (m (Spelled (short_circuit_word j)) vs))) →
-        (x y : Value) → IsTrue (has_type p.parts a x) → IsTrue (has_type p.parts t y) →
-        IsTrue (has_type p.parts k (cond (decides j x) x (undecided_value m j x y)))
-    logical_typed j a t k w g (Truth b) y h l =
-        let q = boolean_of a k w b h in
-        truth_cases j t k q.1
-        (subst (λ a. (vs : List Value) → IsTrue (has_types p.parts (a ∷ t ∷ []) vs) →
-        IsTrue (has_type p.parts k (m (Spelled (short_circuit_word j)) vs))) q.0 g)
-        (decides j (Truth b)) b y l
-    logical_typed j a t k w g x y h l = g (x ∷ y ∷ []) (pair_typed a t x y h l)
-
     operator_fits : (h : ℕ) (e : Option Expression) → PartsFit p.parts f (handle_type f h) e →
         ((x : Signature) → IsOneOf x (signatures_of p f (handle_type f h) e) → IsHere h x) →
         IsTrue (is_pure e) →
@@ -496,7 +546,7 @@ module _ (p : Module) (consistent : IsConsistent p) where
     function_typed : IsTypedIn p.parts p m f
     function_typed =
         record {
-          constants = λ h. leaf_fits h (expression_of f h) (λ x k. k);
+          constants = λ h. leaf_fits h (expression_of f h) (consistent.constants place f here h) (λ x k. k);
           operators = λ h q vs t. operator_fits h (expression_of f h) (consistent.parts place f here h) (λ x k. k) q vs t;
         }
 
@@ -506,4 +556,4 @@ module _ (p : Module) (consistent : IsConsistent p) where
 
 pub has_typed_meaning : HasTypedMeaning
 has_typed_meaning p consistent =
-    (m p consistent, record { functions = all_typed p consistent p.functions 0 (stands_at_start p.functions); initialisers = λ i e q. constant_fits p consistent e (λ x k. in_initialiser i e q k) })
+    (m p consistent, record { functions = all_typed p consistent p.functions 0 (stands_at_start p.functions); initialisers = λ i e q. constant_fits p consistent e (consistent.initialisers i e q) (λ x k. in_initialiser i e q k) })

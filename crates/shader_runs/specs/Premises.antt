@@ -12,7 +12,8 @@ use Rattle.shader_runs.specs.Value.{IntegerType, PointerType, OtherType, type_at
 use Rattle.shader_runs.specs.Value.{Whole, Pointer, Opaque, has_type, has_types, Spelled}
 use Rattle.shader_runs.specs.World.{Environment, GlobalValue, Stored, InHandleSpace, Meaning}
 use Rattle.shader_runs.specs.World.{Settings}
-use Rattle.shader_runs.specs.Program.{ConstantTree, Fixed, NamedConstant, Constructed}
+use Rattle.shader_runs.specs.Program.{ConstantTree, Fixed, NamedConstant, Constructed, Indexing}
+use Rattle.shader_runs.specs.Program.{Picking, Joining}
 use Rattle.shader_runs.specs.Program.{ConstantTrees, no_constant, constant, Expression, Constant}
 use Rattle.shader_runs.specs.Program.{Argument, Local, Global, Operator, Swizzle, Request, Result}
 use Rattle.shader_runs.specs.Program.{Action, Asked, Called, Statement, Block, If, Switch, Loop}
@@ -21,7 +22,8 @@ use Rattle.shader_runs.specs.Program.{case, Function, argument_count, local_coun
 use Rattle.shader_runs.specs.Program.{function_numbered, expression_of, handle_type, operands_of}
 use Rattle.shader_runs.specs.Program.{VariableShape, Held, AtPlace, is_held, variable_type}
 use Rattle.shader_runs.specs.Program.{variable_shape_at, Module, constant_count, override_types}
-use Rattle.shader_runs.specs.ProgramRun.{combined_value, barrier_words}
+use Rattle.shader_runs.specs.ProgramRun.{combined_value, barrier_words, constant_index}
+use Rattle.shader_runs.specs.ProgramRun.{constant_part, constant_logic}
 use Rattle.shader_runs.specs.Scope.{ModuleNames, Names, Naming, is_pure, named_by_all}
 use Rattle.shader_runs.specs.Scope.{fits_function}
 use Rattle.shader_runs.specs.Form.{functions_of}
@@ -91,6 +93,9 @@ abbrev mutual
   EachWord P (Fixed v) = Unit {0}
   EachWord P (NamedConstant i) = Unit {0}
   EachWord P (Constructed w ty es) = P w × EachWordOf P es
+  EachWord P (Indexing ty b i) = EachWord P b × EachWord P i
+  EachWord P (Picking x ty b) = EachWord P b
+  EachWord P (Joining j ty l r) = EachWord P l × EachWord P r
 
   pub EachWordOf : (Bytes → Type 0) → ConstantTrees → Type 0
   EachWordOf P no_constant = Unit {0}
@@ -205,6 +210,9 @@ abbrev mutual
   constant_type p (Fixed v) = literal_type v
   constant_type p (NamedConstant i) = type_at p.constant_types i
   constant_type p (Constructed w ty es) = ty
+  constant_type p (Indexing ty b i) = ty
+  constant_type p (Picking x ty b) = ty
+  constant_type p (Joining j ty l r) = ty
 
   pub constant_types_of : Module → ConstantTrees → List ValueType
   constant_types_of p no_constant = []
@@ -216,6 +224,9 @@ abbrev mutual
   EachLeaf L P (Fixed v) = L v
   EachLeaf L P (NamedConstant i) = P i
   EachLeaf L P (Constructed w ty es) = EachLeafOf L P es
+  EachLeaf L P (Indexing ty b i) = EachLeaf L P b × EachLeaf L P i
+  EachLeaf L P (Picking x ty b) = EachLeaf L P b
+  EachLeaf L P (Joining j ty l r) = EachLeaf L P l × EachLeaf L P r
 
   pub EachLeafOf : (Value → Type 0) → (ℕ → Type 0) → ConstantTrees → Type 0
   EachLeafOf L P no_constant = Unit {0}
@@ -247,8 +258,12 @@ LeafFits p f k (Some (Request a w xs es)) = ConstantsInRange p es
 LeafFits p f k (Some (Swizzle w v)) = IsNoPointer (handle_type f v)
 LeafFits p f k _ = Unit {0}
 
+-- there is a value of this type
+abbrev pub GivesTyped : PartTypes → ValueType → Option Value → Type 0
+GivesTyped parts k o = (v : Value) × (o ≡ Some v) × IsTrue (has_type parts k v)
+
 abbrev mutual
-  -- a type's value from parts has that type whenever its parts have theirs
+  -- an operator's value has its type whenever its operands have theirs
   pub ConstantTyped : PartTypes → Module → Meaning → ConstantTree → Type 0
   ConstantTyped parts p m (Fixed v) = Unit {0}
   ConstantTyped parts p m (NamedConstant i) = Unit {0}
@@ -256,6 +271,19 @@ abbrev mutual
       ((vs : List Value) → IsTrue (has_types parts (constant_types_of p es) vs) →
       IsTrue (has_type parts ty (m (Spelled w) vs)))
       × ConstantsTyped parts p m es
+  ConstantTyped parts p m (Indexing ty b i) =
+      ((v z : Value) → IsTrue (has_type parts (constant_type p b) v) →
+      IsTrue (has_type parts (constant_type p i) z) → GivesTyped parts ty (constant_index m v z))
+      × ConstantTyped parts p m b × ConstantTyped parts p m i
+  ConstantTyped parts p m (Picking x ty b) =
+      ((v : Value) → IsTrue (has_type parts (constant_type p b) v) →
+      GivesTyped parts ty (constant_part m x v))
+      × ConstantTyped parts p m b
+  ConstantTyped parts p m (Joining j ty l r) =
+      ((a b : Value) → IsTrue (has_type parts (constant_type p l) a) →
+      IsTrue (has_type parts (constant_type p r) b) →
+      GivesTyped parts ty (constant_logic m j (Some b) a))
+      × ConstantTyped parts p m l × ConstantTyped parts p m r
 
   pub ConstantsTyped : PartTypes → Module → Meaning → ConstantTrees → Type 0
   ConstantsTyped parts p m no_constant = Unit {0}

@@ -12,11 +12,16 @@ use Rattle.shader_runs.specs.Value.{ShortCircuit}
 
 mutual
   -- an expression over constants alone that no handle of the function names inside: a literal, a
-  -- named constant or override, or a type's value from parts (no parts: its zero value)
+  -- named constant or override, or an operator's value of this type: of a word over its operands,
+  -- as a type's value from parts is (no parts: its zero value), of an index into a value, of a part
+  -- of one, or of `&&` or `||`
   pub data ConstantTree : Type 0 where
     Fixed : Value → ConstantTree
     NamedConstant : (index : ℕ) → ConstantTree
     Constructed : (word : Bytes) → ValueType → ConstantTrees → ConstantTree
+    Indexing : ValueType → (base index : ConstantTree) → ConstantTree
+    Picking : Selector → ValueType → (base : ConstantTree) → ConstantTree
+    Joining : ShortCircuit → ValueType → (left right : ConstantTree) → ConstantTree
 
   pub data ConstantTrees : Type 0 where
     no_constant : ConstantTrees

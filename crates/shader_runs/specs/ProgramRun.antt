@@ -21,7 +21,8 @@ use Rattle.shader_runs.specs.Outcome.{or_stuck, Returned, Stopped, ReachedOrHalt
 use Rattle.shader_runs.specs.Outcome.{answer}
 use Rattle.shader_runs.specs.Outcome.{Next, and_then, turn, turns, after_switch, branch_by}
 use Rattle.shader_runs.specs.Outcome.{with_integer, Unreturned}
-use Rattle.shader_runs.specs.Program.{ConstantTree, Fixed, NamedConstant, Constructed}
+use Rattle.shader_runs.specs.Program.{ConstantTree, Fixed, NamedConstant, Constructed, Indexing}
+use Rattle.shader_runs.specs.Program.{Picking, Joining}
 use Rattle.shader_runs.specs.Program.{ConstantTrees, no_constant, constant, Expression, Constant}
 use Rattle.shader_runs.specs.Program.{Argument, Local, Global, Load, Operator, Access, AccessIndex}
 use Rattle.shader_runs.specs.Program.{Logical, Swizzle, Request, Action, Asked, Called, BarrierBits}
@@ -58,12 +59,44 @@ also (Some v) (Some vs) = Some (v ∷ vs)
 abbrev pub operator_value : Meaning → Word → Option (List Value) → Option Value
 operator_value m w vs = option_map (m w) vs
 
+-- whether the left side's value decides
+abbrev pub decides : ShortCircuit → Value → Bool
+decides j v = option_map_or (is_decided j) (truth_in v) false
+
+-- where it doesn't: the right side's truth value, and what the meaning says of other values
+abbrev pub undecided_value : Meaning → ShortCircuit → Value → Value → Value
+undecided_value m j (Truth a) (Truth b) = Truth b
+undecided_value m j l r = m (Spelled (short_circuit_word j)) (l ∷ r ∷ [])
+
+-- an index into a constant, or a part of one: a pointer has neither there
+abbrev pub constant_part_by : Meaning → Word → Option Place → List Value → Option Value
+constant_part_by m word None vs = Some (m word vs)
+constant_part_by m word (Some p) vs = None
+
+-- an index into a constant
+abbrev pub constant_index : Meaning → Value → Value → Option Value
+constant_index m v i = constant_part_by m IndexWord (place_in v) (v ∷ i ∷ [])
+
+-- a part of a constant
+abbrev pub constant_part : Meaning → Selector → Value → Option Value
+constant_part m x v = constant_part_by m (PartWord x) (place_in v) (v ∷ [])
+
+-- `&&` and `||` of constants want their right side only where it decides
+abbrev pub constant_logic : Meaning → ShortCircuit → Option Value → Value → Option Value
+constant_logic m j r l = cond (decides j l) (Some l) (option_map (undecided_value m j l) r)
+
 abbrev mutual
   -- the value of a tree over constants alone, by what is known of the named ones
   pub tree_value : (ℕ → Option Value) → Meaning → ConstantTree → Option Value
   tree_value known m (Fixed v) = Some v
   tree_value known m (NamedConstant i) = known i
   tree_value known m (Constructed w ty es) = operator_value m (Spelled w) (tree_values known m es)
+  tree_value known m (Indexing ty b i) =
+      option_and_then (λ v. option_and_then (constant_index m v) (tree_value known m i))
+      (tree_value known m b)
+  tree_value known m (Picking x ty b) = option_and_then (constant_part m x) (tree_value known m b)
+  tree_value known m (Joining j ty l r) =
+      option_and_then (constant_logic m j (tree_value known m r)) (tree_value known m l)
 
   pub tree_values : (ℕ → Option Value) → Meaning → ConstantTrees → Option (List Value)
   tree_values known m no_constant = Some []
@@ -139,15 +172,6 @@ part_value parts m x v = part_value_by parts m x (place_in v) v
 -- the components of a vector by their letters
 abbrev pub swizzle_value : Meaning → Bytes → Value → Option Value
 swizzle_value m letters v = Some (m (PartWord (MemberNamed letters)) (v ∷ []))
-
--- whether the left side's value decides
-abbrev pub decides : ShortCircuit → Value → Bool
-decides j v = option_map_or (is_decided j) (truth_in v) false
-
--- where it doesn't: the right side's truth value, and what the meaning says of other values
-abbrev pub undecided_value : Meaning → ShortCircuit → Value → Value → Value
-undecided_value m j (Truth a) (Truth b) = Truth b
-undecided_value m j l r = m (Spelled (short_circuit_word j)) (l ∷ r ∷ [])
 
 -- `&&` and `||`
 abbrev pub logical_value : Meaning → ShortCircuit → Value → Value → Option Value

@@ -8,11 +8,13 @@ use Rattle.shader_runs.specs.Value.{Parts, PartTypes, Step, Selector, MemberName
 use Rattle.shader_runs.specs.Value.{step_to, step_at, ValueType, BooleanType, IntegerType}
 use Rattle.shader_runs.specs.Value.{PointerType, Word, Spelled, PartWord, IndexWord}
 use Rattle.shader_runs.specs.Value.{short_circuit_word}
-use Rattle.shader_runs.specs.Program.{ConstantTree, Fixed, NamedConstant, Constructed}
+use Rattle.shader_runs.specs.Program.{ConstantTree, Fixed, NamedConstant, Constructed, Indexing}
+use Rattle.shader_runs.specs.Program.{Picking, Joining}
 use Rattle.shader_runs.specs.Program.{ConstantTrees, no_constant, constant, Expression, Constant}
 use Rattle.shader_runs.specs.Program.{Operator, Access, AccessIndex, Logical, Swizzle, Request}
 use Rattle.shader_runs.specs.Program.{Function, expression_of, handle_type, Module}
-use Rattle.shader_runs.specs.Premises.{constant_types_of, handle_types}
+use Rattle.shader_runs.specs.Premises.{constant_type, constant_types_of, handle_types}
+use Rattle.shader_runs.specs.Premises.{IsNoPointer}
 
 -- a spelled operator with its operands' types and its result's
 pub record Signature : Type 0 where
@@ -27,6 +29,17 @@ abbrev mutual
   constant_signatures p (Constructed w ty es) =
       record { word = Spelled w; operands = constant_types_of p es; result = ty } ∷
       constants_signatures p es
+  constant_signatures p (Indexing ty b i) =
+      let operands = constant_type p b ∷ constant_type p i ∷ [] in
+      record { word = IndexWord; operands = operands; result = ty } ∷
+      (constant_signatures p b ++ constant_signatures p i)
+  constant_signatures p (Picking x ty b) =
+      record { word = PartWord x; operands = constant_type p b ∷ []; result = ty } ∷
+      constant_signatures p b
+  constant_signatures p (Joining j ty l r) =
+      let operands = constant_type p l ∷ constant_type p r ∷ [] in
+      record { word = Spelled (short_circuit_word j); operands = operands; result = ty } ∷
+      (constant_signatures p l ++ constant_signatures p r)
 
   pub constants_signatures : Module → ConstantTrees → List Signature
   constants_signatures p no_constant = []
@@ -95,9 +108,35 @@ PartsFit parts f k (Some (AccessIndex x b)) = AccessIndexFits parts x (handle_ty
 PartsFit parts f k (Some (Logical j l r)) = LogicalFits (handle_type f l) k
 PartsFit parts f k _ = Unit {0}
 
+abbrev mutual
+  -- what an operator over constants indexes, or has a part of, is no pointer; and `&&` and `||` on
+  -- `bool` give `bool`
+  pub TreeFits : Module → ConstantTree → Type 0
+  TreeFits p (Fixed v) = Unit {0}
+  TreeFits p (NamedConstant i) = Unit {0}
+  TreeFits p (Constructed w ty es) = TreesFit p es
+  TreeFits p (Indexing ty b i) = IsNoPointer (constant_type p b) × TreeFits p b × TreeFits p i
+  TreeFits p (Picking x ty b) = IsNoPointer (constant_type p b) × TreeFits p b
+  TreeFits p (Joining j ty l r) =
+      LogicalFits (constant_type p l) ty × TreeFits p l × TreeFits p r
+
+  pub TreesFit : Module → ConstantTrees → Type 0
+  TreesFit p no_constant = Unit {0}
+  TreesFit p (constant e es) = TreeFits p e × TreesFit p es
+
+-- the same of the constants in an expression
+abbrev pub LeafTreesFit : Module → Option Expression → Type 0
+LeafTreesFit p (Some (Constant e)) = TreeFits p e
+LeafTreesFit p (Some (Request a w xs es)) = TreesFit p es
+LeafTreesFit p _ = Unit {0}
+
 -- what is spelled alike over operands of types alike has a result of types alike
 pub record IsConsistent (p : Module) : Type 0 where
   pub alike : (x y : Signature) → IsSpelled p x → IsSpelled p y → x.word ≡ y.word →
       x.operands ≡ y.operands → x.result ≡ y.result
   pub parts : (place : ℕ) (f : Function) → slice_get p.functions place ≡ Some f → (h : ℕ) →
       PartsFit p.parts f (handle_type f h) (expression_of f h)
+  pub constants : (place : ℕ) (f : Function) → slice_get p.functions place ≡ Some f → (h : ℕ) →
+      LeafTreesFit p (expression_of f h)
+  pub initialisers : (i : ℕ) (e : ConstantTree) → slice_get p.initialisers i ≡ Some e →
+      TreeFits p e
