@@ -37,7 +37,8 @@ use Rattle.shader_runs.specs.Premises.{FixedName, ArgumentName, LocalName, Const
 use Rattle.shader_runs.specs.Premises.{NameKey, FixedKey, NumberedKey, NamedKey, fixed_name}
 use Rattle.shader_runs.specs.Premises.{IsFixedName, IsName, StandsFree, ConstantWords}
 use Rattle.shader_runs.specs.Premises.{ConstantsWords, WordFits, AllBelow, LeafFits, AreDistinct}
-use Rattle.shader_runs.specs.Premises.{AreRegular, FunctionFits, AllFit, EnvironmentFits, IsTypedIn, AllTypedIn}
+use Rattle.shader_runs.specs.Premises.{AreRegular, OnlyEmptyFallIn, FunctionFits, AllFit}
+use Rattle.shader_runs.specs.Premises.{EnvironmentFits, IsTypedIn, AllTypedIn}
 use Rattle.shader_runs.specs.Correct.{AreNamed}
 use Rattle.shader_runs.specs.Text.{TextFunction}
 use Rattle.shader_runs.proofs.Alike.{Answers, same_answer, alike_answers}
@@ -498,6 +499,7 @@ module _ (p : Module) (n : ModuleNames) (uses : Bytes → WordUse) (uses_fit : U
 
   module _ (callees : List Function) (calls : ByNumber) (d : Respond) (alike : AreAlike callees calls d)
       (f : Naming) (start : Starting p n f) (regular : AreRegular p callees f f.function.body)
+      (cases : OnlyEmptyFallIn f.function.body)
       (scope : IsTrue (fits_function f)) (typed : IsTypedIn env.parts p m f.function)
       (vs : List Value) (t : List Event) where
     abbrev own : Call
@@ -569,7 +571,7 @@ module _ (p : Module) (n : ModuleNames) (uses : Bytes → WordUse) (uses_fit : U
         let firsts_fit = first_values_fit f.function 0 f.function.first_values in
         let body_fits = fits_all f 0 f.function.body (at_start f.function) in
         all_fresh p own f.names environment start.distinct f.function.body 0 (at_start f.function)
-        (omega arith) (start_sources p own f.names environment start.distinct) regular
+        (omega arith) (start_sources p own f.names environment start.distinct) regular cases
         (and_right firsts_fit body_fits scope)
 
     -- both runs of the body
@@ -650,7 +652,7 @@ module _ (p : Module) (n : ModuleNames) (uses : Bytes → WordUse) (uses_fit : U
       in subst (λ k. Answers (Returns env.parts k) (program_call c there f vs t)
       (text_call (responses fs) spelled f vs t)) same
       (call_alike (functions_of fs) calls (responses fs) (named_alike fs fewer fits.1 earlier) f
-      (starting p n (functions_of fs) f fits.0) fits.0.regular fits.0.scope typed.0 vs t there spelled
+      (starting p n (functions_of fs) f fits.0) fits.0.regular fits.0.cases fits.0.scope typed.0 vs t there spelled
       same_place
       (subst (λ k. IsTrue (has_types env.parts k.argument_types vs)) (sym same) h)))
       (λ q. earlier g callee

@@ -10,7 +10,7 @@ use Rattle.shader_runs.specs.Scope.{Bound, Handles, Names, bound_name, usable, u
 use Rattle.shader_runs.specs.Scope.{usable_if, is_new, is_emittable, named_after, named_by}
 use Rattle.shader_runs.specs.Scope.{named_by_all, after_one, after, after_all}
 use Rattle.shader_runs.specs.Premises.{FixedName, fixed_name, EachAsks, ActionFits, ReturnFits}
-use Rattle.shader_runs.specs.Premises.{IsResult, FallsFrom}
+use Rattle.shader_runs.specs.Premises.{IsResult, FallsFrom, FallsEmpty}
 use Rattle.shader_runs.proofs.Relation.{IsHere, NoName}
 use Rattle.shader_runs.proofs.Evaluation.{naming}
 
@@ -44,6 +44,20 @@ abbrev pub MayGive : Call → Names → Option ℕ → Handles → Type 0
 MayGive c n None s = Unit {0}
 MayGive c n (Some h) s = MayResult c n h s
 
+-- a case that falls through is empty, and not the last one
+abbrev pub JoinsNext : Bool → Statements → Cases → Type 0
+JoinsNext false b cs = Unit {0}
+JoinsNext true end no_case = ⊥
+JoinsNext true end (case l b falls cs) = Unit {0}
+JoinsNext true (then s ss) cs = ⊥
+
+pub joins_next : (falls : Bool) (b : Statements) (cs : Cases) → FallsFrom falls cs →
+    FallsEmpty falls b → JoinsNext falls b cs
+joins_next false b cs from empty = tt
+joins_next true end no_case from empty = from
+joins_next true end (case l b falls cs) from empty = tt
+joins_next true (then s ss) cs from empty = empty
+
 abbrev mutual
   pub Fits : Module → Call → Names → ℕ → Statement → Handles → Type 0
   Fits p c n k (Emit first count) s = MayEmitAll c n k (from first count) s
@@ -69,4 +83,4 @@ abbrev mutual
   pub FitsCases : Module → Call → Names → ℕ → Cases → Handles → Type 0
   FitsCases p c n k no_case s = Unit {0}
   FitsCases p c n k (case l b falls cs) s =
-      FallsFrom falls b cs × FitsAll p c n k b s × FitsCases p c n (named_by_all c.function b k) cs s
+      JoinsNext falls b cs × FitsAll p c n k b s × FitsCases p c n (named_by_all c.function b k) cs s

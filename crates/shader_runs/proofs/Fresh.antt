@@ -16,7 +16,8 @@ use Rattle.shader_runs.specs.Scope.{after_all, at_start, may_emit, may_emit_all,
 use Rattle.shader_runs.specs.Scope.{fits_all, fits_cases}
 use Rattle.shader_runs.specs.Premises.{FixedKey, NumberedKey, NamedKey, AreDistinct}
 use Rattle.shader_runs.specs.Premises.{EnvironmentFits, ResultFits, IsRegular, AreRegular}
-use Rattle.shader_runs.specs.Premises.{CasesAreRegular}
+use Rattle.shader_runs.specs.Premises.{CasesAreRegular, OnlyEmptyFalls, OnlyEmptyFallIn}
+use Rattle.shader_runs.specs.Premises.{OnlyEmptyCasesFall}
 use Rattle.shader_runs.proofs.Update.{and_left, and_right}
 use Rattle.shader_runs.proofs.Evaluation.{naming}
 use Rattle.shader_runs.proofs.Form.{in_range}
@@ -25,7 +26,7 @@ use Rattle.shader_runs.proofs.Sources.{fixed_numbered, fixed_named, numbered_nam
 use Rattle.shader_runs.proofs.Sources.{named_same, Sources, named_all_more, list_more, cases_more}
 use Rattle.shader_runs.proofs.Sources.{sources_more, sources_one, sources_all, sources_after}
 use Rattle.shader_runs.proofs.Checked.{IsFresh, MayBind, MayEmitAll, MayGive, Fits, FitsAll}
-use Rattle.shader_runs.proofs.Checked.{FitsCases}
+use Rattle.shader_runs.proofs.Checked.{FitsCases, joins_next}
 
 not_bound : (st : Availability) (x : Bytes) → IsTrue (is_new st) → st ≡ Bound x → ⊥
 not_bound st x i e = true≢false (sym i ∙ ap is_new e)
@@ -101,13 +102,13 @@ module _ (p : Module) (c : Call) (n : Names) (environment : EnvironmentFits p c.
 
   mutual
     fits_fresh : (st : Statement) (k : ℕ) (s : Handles) → named_by c.function st k ≤ Total →
-        Sources (naming c n) k s → IsRegular p c.callees (naming c n) st →
+        Sources (naming c n) k s → IsRegular p c.callees (naming c n) st → OnlyEmptyFalls st →
         IsTrue (fits (naming c n) k st s) → Fits p c n k st s
-    fits_fresh (Emit first count) k s le d w m = emit_fresh k (from first count) s le d m
-    fits_fresh (Store q v) k s le d w m =
+    fits_fresh (Emit first count) k s le d w o m = emit_fresh k (from first count) s le d m
+    fits_fresh (Store q v) k s le d w o m =
         (and_left (usable c.function s q) (usable c.function s v) m, and_right (usable c.function s q) (usable c.function s v) m)
-    fits_fresh (Block b) k s le d w m = all_fresh b k s le d w m
-    fits_fresh (If x a b) k s le d w m =
+    fits_fresh (Block b) k s le d w o m = all_fresh b k s le d w o m
+    fits_fresh (If x a b) k s le d w o m =
         let k1 = named_by_all c.function a k in
         let u = usable c.function s x in
         let fa = fits_all (naming c n) k a s in
@@ -115,15 +116,15 @@ module _ (p : Module) (c : Call) (n : Names) (environment : EnvironmentFits p c.
         let more = list_more (naming c n) b k1 in
         let both = and_right u (fa && fb) m in (
           and_left u (fa && fb) m,
-          all_fresh a k s (omega (arith, le, more)) d w.0 (and_left fa fb both),
+          all_fresh a k s (omega (arith, le, more)) d w.0 o.0 (and_left fa fb both),
           all_fresh b k1 s le (sources_more (naming c n) k k1 s (list_more (naming c n) a k) d)
-              w.1 (and_right fa fb both),
+              w.1 o.1 (and_right fa fb both),
         )
-    fits_fresh (Switch h cs) k s le d w m =
+    fits_fresh (Switch h cs) k s le d w o m =
         let u = usable c.function s h in
         let fc = fits_cases (naming c n) k cs s in
-        (and_left u fc m, cases_fresh cs k s le d w (and_right u fc m))
-    fits_fresh (Loop b b2 e) k s le d w m =
+        (and_left u fc m, cases_fresh cs k s le d w o (and_right u fc m))
+    fits_fresh (Loop b b2 e) k s le d w o m =
         let k1 = named_by_all c.function b k in
         let s1 = after_all (naming c n) k b s in
         let fb = fits_all (naming c n) k b s in
@@ -131,38 +132,39 @@ module _ (p : Module) (c : Call) (n : Names) (environment : EnvironmentFits p c.
         let u = usable_if c.function (after_all (naming c n) k1 b2 s1) e in
         let more = list_more (naming c n) b2 k1 in
         let both = and_right fb (fd && u) m in
-        (all_fresh b k s (omega (arith, le, more)) d w.0 (and_left fb (fd && u) m), all_fresh b2 k1 s1 le (sources_all (naming c n) k b s d) w.1 (and_left fd u both), and_right fd u both)
-    fits_fresh Break k s le d w m = tt
-    fits_fresh Continue k s le d w m = tt
-    fits_fresh (Return v) k s le d w m = (m, w)
-    fits_fresh Kill k s le d w m = tt
-    fits_fresh (Barrier bits) k s le d w m = w
-    fits_fresh (Act a xs r) k s le d w m =
+        (all_fresh b k s (omega (arith, le, more)) d w.0 o.0 (and_left fb (fd && u) m), all_fresh b2 k1 s1 le (sources_all (naming c n) k b s d) w.1 o.1 (and_left fd u both), and_right fd u both)
+    fits_fresh Break k s le d w o m = tt
+    fits_fresh Continue k s le d w o m = tt
+    fits_fresh (Return v) k s le d w o m = (m, w)
+    fits_fresh Kill k s le d w o m = tt
+    fits_fresh (Barrier bits) k s le d w o m = w
+    fits_fresh (Act a xs r) k s le d w o m =
         let u = usable_all c.function s xs in
         (and_left u (may_give r s) m, w.0, result_fresh k r s le d w.1 (and_right u (may_give r s) m))
 
     pub all_fresh : (ss : Statements) (k : ℕ) (s : Handles) → named_by_all c.function ss k ≤ Total →
-        Sources (naming c n) k s → AreRegular p c.callees (naming c n) ss →
+        Sources (naming c n) k s → AreRegular p c.callees (naming c n) ss → OnlyEmptyFallIn ss →
         IsTrue (fits_all (naming c n) k ss s) → FitsAll p c n k ss s
-    all_fresh end k s le d w m = tt
-    all_fresh (then st ss) k s le d w m =
+    all_fresh end k s le d w o m = tt
+    all_fresh (then st ss) k s le d w o m =
         let k1 = named_by c.function st k in
         let s1 = after (naming c n) k st s in
         let fa = fits (naming c n) k st s in
         let fb = fits_all (naming c n) k1 ss s1 in
         let more = list_more (naming c n) ss k1 in
-        (fits_fresh st k s (omega (arith, le, more)) d w.0 (and_left fa fb m), all_fresh ss k1 s1 le (sources_after (naming c n) k st s d) w.1 (and_right fa fb m))
+        (fits_fresh st k s (omega (arith, le, more)) d w.0 o.0 (and_left fa fb m), all_fresh ss k1 s1 le (sources_after (naming c n) k st s d) w.1 o.1 (and_right fa fb m))
 
     cases_fresh : (cs : Cases) (k : ℕ) (s : Handles) → named_by_cases c.function cs k ≤ Total →
         Sources (naming c n) k s → CasesAreRegular p c.callees (naming c n) cs →
+        OnlyEmptyCasesFall cs →
         IsTrue (fits_cases (naming c n) k cs s) → FitsCases p c n k cs s
-    cases_fresh no_case k s le d w m = tt
-    cases_fresh (case l b falls cs) k s le d w m =
+    cases_fresh no_case k s le d w o m = tt
+    cases_fresh (case l b falls cs) k s le d w o m =
         let k1 = named_by_all c.function b k in
         let fa = fits_all (naming c n) k b s in
         let fb = fits_cases (naming c n) k1 cs s in
         let more = cases_more (naming c n) cs k1 in
-        (w.0, all_fresh b k s (omega (arith, le, more)) d w.1 (and_left fa fb m), cases_fresh cs k1 s le (sources_more (naming c n) k k1 s (list_more (naming c n) b k) d) w.2 (and_right fa fb m))
+        (joins_next falls b cs w.0 o.0, all_fresh b k s (omega (arith, le, more)) d w.1 o.1 (and_left fa fb m), cases_fresh cs k1 s le (sources_more (naming c n) k k1 s (list_more (naming c n) b k) d) w.2 o.2 (and_right fa fb m))
 
   pub start_sources : Sources (naming c n) 0 (at_start c.function)
   start_sources = sources.start_sources (naming c n)

@@ -6,9 +6,9 @@ use Rattle.shader_runs.specs.Value.{Bytes}
 use Rattle.shader_runs.specs.World.{bind}
 use Rattle.shader_runs.specs.Program.{Statement, Emit, Store, Block, If, Switch, Loop, Break}
 use Rattle.shader_runs.specs.Program.{Continue, Return, Kill, Barrier, Act, Statements, end, then}
-use Rattle.shader_runs.specs.Program.{Cases, no_case, case, Label, Function, expression_of}
+use Rattle.shader_runs.specs.Program.{Cases, no_case, case, Label, expression_of}
 use Rattle.shader_runs.specs.Program.{binds, from, holds_continue, any_continue}
-use Rattle.shader_runs.specs.Program.{some_case_continues, Module}
+use Rattle.shader_runs.specs.Program.{some_case_continues}
 use Rattle.shader_runs.specs.ProgramRun.{barrier_words}
 use Rattle.shader_runs.specs.Scope.{Handles, Naming, bound_name, named_after, named_by}
 use Rattle.shader_runs.specs.Scope.{named_by_all, after_one, after, after_all}
@@ -17,7 +17,8 @@ use Rattle.shader_runs.specs.TextRun.{some_continue, some_group_continues}
 use Rattle.shader_runs.specs.Form.{value_form, own_form, written_form, let_if, lets, perform_each}
 use Rattle.shader_runs.specs.Form.{form}
 use Rattle.shader_runs.specs.Form.{form_all, form_cases}
-use Rattle.shader_runs.specs.Premises.{FallsFrom, IsRegular, AreRegular, CasesAreRegular}
+use Rattle.shader_runs.specs.Premises.{FallsEmpty, OnlyEmptyFalls, OnlyEmptyFallIn}
+use Rattle.shader_runs.specs.Premises.{OnlyEmptyCasesFall}
 use Rattle.shader_runs.specs.Resolution.{LetTarget, Lookup, lets_behind_all, lets_behind_groups}
 use Rattle.shader_runs.specs.Resolution.{names_left, lets_after, lets_after_all, lets_by}
 use Rattle.shader_runs.specs.Resolution.{lets_by_all, lets_by_cases}
@@ -25,36 +26,36 @@ use Rattle.shader_runs.proofs.Scope.{lets_continue, performs_continue}
 
 -- ---- `continue`
 -- a case that falls through is empty
-falls_continue : (b : Statements) (cs : Cases) → FallsFrom true b cs → any_continue b ≡ false
-falls_continue end cs falls = refl
-falls_continue (then st ss) cs falls = absurd falls
+falls_continue : (b : Statements) → FallsEmpty true b → any_continue b ≡ false
+falls_continue end falls = refl
+falls_continue (then st ss) falls = absurd falls
 
-module _ (p : Module) (callees : List Function) (f : Naming) where
+module _ (f : Naming) where
   mutual
-    line_continues : (k : ℕ) (st : Statement) (s : Handles) (tail : Lines) → IsRegular p callees f st → some_continue (form f k st s tail) ≡ (holds_continue st || some_continue tail)
-    line_continues k (Emit first count) s tail regular = lets_continue f k (from first count) s tail
-    line_continues k (Block b) s tail regular = ap (λ c. c || some_continue tail) (lines_continue k b s regular)
-    line_continues k (If c a b) s tail regular =
-        λ i. (lines_continue k a s regular.0 i || lines_continue (named_by_all f.function a k) b s regular.1 i) || some_continue tail
-    line_continues k (Switch h cs) s tail regular = ap (λ c. c || some_continue tail) (groups_continue k [] cs s regular)
-    line_continues k (Barrier bits) s tail regular = performs_continue (barrier_words bits) tail
-    line_continues k (Act a xs None) s tail regular = refl
-    line_continues k (Act a xs (Some h)) s tail regular = refl
-    line_continues k _ s tail regular = refl
+    line_continues : (k : ℕ) (st : Statement) (s : Handles) (tail : Lines) → OnlyEmptyFalls st → some_continue (form f k st s tail) ≡ (holds_continue st || some_continue tail)
+    line_continues k (Emit first count) s tail only = lets_continue f k (from first count) s tail
+    line_continues k (Block b) s tail only = ap (λ c. c || some_continue tail) (lines_continue k b s only)
+    line_continues k (If c a b) s tail only =
+        λ i. (lines_continue k a s only.0 i || lines_continue (named_by_all f.function a k) b s only.1 i) || some_continue tail
+    line_continues k (Switch h cs) s tail only = ap (λ c. c || some_continue tail) (groups_continue k [] cs s only)
+    line_continues k (Barrier bits) s tail only = performs_continue (barrier_words bits) tail
+    line_continues k (Act a xs None) s tail only = refl
+    line_continues k (Act a xs (Some h)) s tail only = refl
+    line_continues k _ s tail only = refl
 
-    lines_continue : (k : ℕ) (ss : Statements) (s : Handles) → AreRegular p callees f ss → some_continue (form_all f k ss s) ≡ any_continue ss
-    lines_continue k end s regular = refl
-    lines_continue k (then st ss) s regular =
-        line_continues k st s (form_all f (named_by f.function st k) ss (after f k st s)) regular.0
-        ∙ ap (λ c. holds_continue st || c) (lines_continue (named_by f.function st k) ss (after f k st s) regular.1)
+    lines_continue : (k : ℕ) (ss : Statements) (s : Handles) → OnlyEmptyFallIn ss → some_continue (form_all f k ss s) ≡ any_continue ss
+    lines_continue k end s only = refl
+    lines_continue k (then st ss) s only =
+        line_continues k st s (form_all f (named_by f.function st k) ss (after f k st s)) only.0
+        ∙ ap (λ c. holds_continue st || c) (lines_continue (named_by f.function st k) ss (after f k st s) only.1)
 
-    groups_continue : (k : ℕ) (labels : List Label) (cs : Cases) (s : Handles) → CasesAreRegular p callees f cs → some_group_continues (form_cases f k labels cs s) ≡ some_case_continues cs
-    groups_continue k labels no_case s regular = refl
-    groups_continue k labels (case label b true cs) s regular =
-        groups_continue (named_by_all f.function b k) (labels ++ label ∷ []) cs s regular.2
-        ∙ ap (λ c. c || some_case_continues cs) (sym (falls_continue b cs regular.0))
-    groups_continue k labels (case label b false cs) s regular =
-        λ i. lines_continue k b s regular.1 i || groups_continue (named_by_all f.function b k) [] cs s regular.2 i
+    groups_continue : (k : ℕ) (labels : List Label) (cs : Cases) (s : Handles) → OnlyEmptyCasesFall cs → some_group_continues (form_cases f k labels cs s) ≡ some_case_continues cs
+    groups_continue k labels no_case s only = refl
+    groups_continue k labels (case label b true cs) s only =
+        groups_continue (named_by_all f.function b k) (labels ++ label ∷ []) cs s only.2
+        ∙ ap (λ c. c || some_case_continues cs) (sym (falls_continue b only.0))
+    groups_continue k labels (case label b false cs) s only =
+        λ i. lines_continue k b s only.1 i || groups_continue (named_by_all f.function b k) [] cs s only.2 i
 
 module _ (f : Naming) where
   -- ---- names
@@ -164,35 +165,34 @@ module _ (f : Naming) where
   performs_leave l [] tail names = refl
   performs_leave l (w ∷ ws) tail names = performs_leave l ws tail names
 
-  module _ (p : Module) (callees : List Function) where
-    line_leaves : (k l : ℕ) (st : Statement) (s : Handles) (tail : Lines) (names : Lookup) →
-        IsRegular p callees f st →
-        names_left l (form f k st s tail) names ≡ cond (holds_continue st) names
-        (names_left (lets_by f.function st l) tail (names_by k l st names))
-    line_leaves k l (Emit first count) s tail names regular = lets_leave k l (from first count) s tail names
-    line_leaves k l (Store q v) s tail names regular = refl
-    line_leaves k l (Block b) s tail names regular =
-        λ i. cond (lines_continue p callees f k b s regular i) names (names_left (lines_counted k l b s i) tail names)
-    line_leaves k l (If c a b) s tail names regular =
-        let k1 = named_by_all f.function a k in
-        λ i. cond (lines_continue p callees f k a s regular.0 i || lines_continue p callees f k1 b s regular.1 i) names
-        (names_left ((ap (λ n. lets_behind_all n (form_all f k1 b s)) (lines_counted k l a s) ∙ lines_counted k1 (lets_by_all f.function a l) b s) i) tail names)
-    line_leaves k l (Switch h cs) s tail names regular =
-        λ i. cond (groups_continue p callees f k [] cs s regular i) names (names_left (groups_counted k l [] cs s i) tail names)
-    line_leaves k l (Loop b d e) s tail names regular =
-        let k1 = named_by_all f.function b k in
-        let s1 = after_all f k b s in
-        λ i. names_left ((ap (λ n. lets_behind_all n (form_all f k1 d s1)) (lines_counted k l b s) ∙ lines_counted k1 (lets_by_all f.function b l) d s1) i) tail names
-    line_leaves k l Break s tail names regular = refl
-    line_leaves k l Continue s tail names regular = refl
-    line_leaves k l (Return v) s tail names regular = refl
-    line_leaves k l Kill s tail names regular = refl
-    line_leaves k l (Barrier bits) s tail names regular = performs_leave l (barrier_words bits) tail names
-    line_leaves k l (Act a xs None) s tail names regular = refl
-    line_leaves k l (Act a xs (Some h)) s tail names regular = refl
+  line_leaves : (k l : ℕ) (st : Statement) (s : Handles) (tail : Lines) (names : Lookup) →
+      OnlyEmptyFalls st →
+      names_left l (form f k st s tail) names ≡ cond (holds_continue st) names
+      (names_left (lets_by f.function st l) tail (names_by k l st names))
+  line_leaves k l (Emit first count) s tail names only = lets_leave k l (from first count) s tail names
+  line_leaves k l (Store q v) s tail names only = refl
+  line_leaves k l (Block b) s tail names only =
+      λ i. cond (lines_continue f k b s only i) names (names_left (lines_counted k l b s i) tail names)
+  line_leaves k l (If c a b) s tail names only =
+      let k1 = named_by_all f.function a k in
+      λ i. cond (lines_continue f k a s only.0 i || lines_continue f k1 b s only.1 i) names
+      (names_left ((ap (λ n. lets_behind_all n (form_all f k1 b s)) (lines_counted k l a s) ∙ lines_counted k1 (lets_by_all f.function a l) b s) i) tail names)
+  line_leaves k l (Switch h cs) s tail names only =
+      λ i. cond (groups_continue f k [] cs s only i) names (names_left (groups_counted k l [] cs s i) tail names)
+  line_leaves k l (Loop b d e) s tail names only =
+      let k1 = named_by_all f.function b k in
+      let s1 = after_all f k b s in
+      λ i. names_left ((ap (λ n. lets_behind_all n (form_all f k1 d s1)) (lines_counted k l b s) ∙ lines_counted k1 (lets_by_all f.function b l) d s1) i) tail names
+  line_leaves k l Break s tail names only = refl
+  line_leaves k l Continue s tail names only = refl
+  line_leaves k l (Return v) s tail names only = refl
+  line_leaves k l Kill s tail names only = refl
+  line_leaves k l (Barrier bits) s tail names only = performs_leave l (barrier_words bits) tail names
+  line_leaves k l (Act a xs None) s tail names only = refl
+  line_leaves k l (Act a xs (Some h)) s tail names only = refl
 
-    pub lines_leave : (k l : ℕ) (ss : Statements) (s : Handles) (names : Lookup) → AreRegular p callees f ss → names_left l (form_all f k ss s) names ≡ list_names k l ss names
-    lines_leave k l end s names regular = refl
-    lines_leave k l (then st ss) s names regular =
-        line_leaves k l st s (form_all f (named_by f.function st k) ss (after f k st s)) names regular.0
-        ∙ ap (cond (holds_continue st) names) (lines_leave (named_by f.function st k) (lets_by f.function st l) ss (after f k st s) (names_by k l st names) regular.1)
+  pub lines_leave : (k l : ℕ) (ss : Statements) (s : Handles) (names : Lookup) → OnlyEmptyFallIn ss → names_left l (form_all f k ss s) names ≡ list_names k l ss names
+  lines_leave k l end s names only = refl
+  lines_leave k l (then st ss) s names only =
+      line_leaves k l st s (form_all f (named_by f.function st k) ss (after f k st s)) names only.0
+      ∙ ap (cond (holds_continue st) names) (lines_leave (named_by f.function st k) (lets_by f.function st l) ss (after f k st s) (names_by k l st names) only.1)

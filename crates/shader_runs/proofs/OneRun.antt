@@ -272,7 +272,7 @@ environment_alike p n later f between callees fits env environment m typed vs h 
     alike =
         answers_same (Returns env.parts f.function) _ _ (subst KeepsTypes run_own keeps)
         (call_alike p n uses known env environment w m turns (functions_of callees) calls responses
-        callees_alike f (starting p n before f fits.own) fits.calls fits.own.scope all.0 vs t
+        callees_alike f (starting p n before f fits.own) fits.calls fits.own.cases fits.own.scope all.0 vs t
         (length before) (length rest) same_place
         (subst (λ parts. IsTrue (has_types parts f.function.argument_types vs)) (sym environment.parts) h))
 

@@ -27,7 +27,7 @@ use Rattle.shader_runs.specs.Scope.{after_all, forgotten_if}
 use Rattle.shader_runs.specs.Form.{written_form, value_at, value_if, value_form, own_form, let_if}
 use Rattle.shader_runs.specs.Form.{lets}
 use Rattle.shader_runs.specs.Form.{perform_each, form, form_all, form_cases}
-use Rattle.shader_runs.specs.Premises.{EachAsks, FallsFrom}
+use Rattle.shader_runs.specs.Premises.{EachAsks}
 use Rattle.shader_runs.specs.Passes.{Region, Point, here, behind, inside, after_turns, InTurn}
 use Rattle.shader_runs.specs.Passes.{to_body, to_continuing, to_break_if, body_at, statements_in}
 use Rattle.shader_runs.specs.Passes.{module_turn, FallsTo, this_case, next_case, ComesToCase}
@@ -50,7 +50,7 @@ use Rattle.shader_runs.proofs.Statements.{or_left, or_right, turns_keep, same_on
 use Rattle.shader_runs.proofs.Scope.{IsFollowed, falls_followed, among_append, has_all_cases}
 use Rattle.shader_runs.proofs.Scope.{extends_all}
 use Rattle.shader_runs.proofs.Places.{from_split}
-use Rattle.shader_runs.proofs.Checked.{Fits, FitsAll, FitsCases, MayEmitAll}
+use Rattle.shader_runs.proofs.Checked.{Fits, FitsAll, FitsCases, JoinsNext, MayEmitAll}
 
 pub same_state : {S : Type 0} (s k : S) (e t : List Event) → Done s e ≡ Done k t → s ≡ k
 same_state s k e t q = cc
@@ -361,7 +361,7 @@ module _ (p : Module) (c : Call) (n : Names) (d : Respond) (facts : Facts p c n 
   Awaited x labels no_case = ⊥
   Awaited x labels (case l b falls cs) = IsTrue (among x (labels ++ l ∷ []))
 
-  awaited_more : (x : Label) (labels : List Label) (b : Statements) (cs : Cases) → FallsFrom true b cs → IsTrue (among x labels) → Awaited x labels cs
+  awaited_more : (x : Label) (labels : List Label) (b : Statements) (cs : Cases) → JoinsNext true b cs → IsTrue (among x labels) → Awaited x labels cs
   awaited_more x labels b (case l b1 falls cs) m e =
       among_append x labels l ∙ or_left (among x labels) (same_label x l) e
   awaited_more x labels end no_case m e = absurd m
@@ -398,7 +398,7 @@ module _ (p : Module) (c : Call) (n : Names) (d : Respond) (facts : Facts p c n 
   found_here l (then st ss) true cs k labels s x e m = absurd m.0
 
   -- a case that falls through is empty
-  nothing_done : (b : Statements) (cs : Cases) (kept kept1 : KeptValues) (t t1 : List Event) → FallsFrom true b cs → run_all c bound b kept t ≡ Done kept1 t1 → (kept1 ≡ kept) × (t1 ≡ t)
+  nothing_done : (b : Statements) (cs : Cases) (kept kept1 : KeptValues) (t t1 : List Event) → JoinsNext true b cs → run_all c bound b kept t ≡ Done kept1 t1 → (kept1 ≡ kept) × (t1 ≡ t)
   nothing_done end cs kept kept1 t t1 m e = (sym (same_state kept kept1 t t1 e), sym (same_events kept kept1 t t1 e))
   nothing_done (then st ss) cs kept kept1 t t1 m e = absurd m
 

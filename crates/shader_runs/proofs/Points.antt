@@ -102,6 +102,6 @@ points_agree p n later f fs fits s settings m typed vs h w turns before_entry t 
         let first = starting p n callees f fit.0 in
         let facts = facts p n uses known env environment w m turns callees calls d alike f first all.0 vs before_entry h in
         let start = starts p n uses known env environment w m turns callees calls d alike f first all.0 vs before_entry (has_types_length env.parts f.function.argument_types vs h) in
-        let body = body_fits p n uses known env environment w m turns callees calls d alike f first fit.0.regular fit.0.scope all.0 vs before_entry in
+        let body = body_fits p n uses known env environment w m turns callees calls d alike f first fit.0.regular fit.0.cases fit.0.scope all.0 vs before_entry in
         let there = passes p c f.names d facts turns passed 0 (at_start f.function) _ start body in
         (there.0, there.1, (λ e. lines_there f c turns passed 0 (at_start f.function) e), facts_hold p c f.names d facts (handles_at f 0 f.function.body q (at_start f.function)) there.0 kept there.2)

@@ -755,7 +755,7 @@ module _ (p : Module) (n : ModuleNames) (env : Environment) (environment : Envir
         let body_fits = fits_all f 0 f.function.body start in
         let firsts = firsts_there 0 f.function.first_values (and_left firsts_fit body_fits fit.scope) in
         let checked = all_fresh p c f.names environment fit.distinct f.function.body 0 start
-        (omega arith) (start_sources p c f.names environment fit.distinct) fit.regular
+        (omega arith) (start_sources p c f.names environment fit.distinct) fit.regular fit.cases
         (and_right firsts_fit body_fits fit.scope) in
         let body = λ (t1 : List Event). answer (run_all c bound f.function.body kept t1) in
         subst (λ b. Answered (Returns env.parts f.function)

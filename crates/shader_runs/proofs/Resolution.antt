@@ -29,6 +29,7 @@ use Rattle.shader_runs.specs.Premises.{FixedName, ArgumentName, LocalName, Const
 use Rattle.shader_runs.specs.Premises.{FixedKey, fixed_name, IsFixedName, IsNoName, EachAsks}
 use Rattle.shader_runs.specs.Premises.{WordFits, LeafFits, ActionFits, IsRegular, AreRegular}
 use Rattle.shader_runs.specs.Premises.{CasesAreRegular, AreDistinct, FunctionFits, AllFit}
+use Rattle.shader_runs.specs.Premises.{OnlyEmptyFalls, OnlyEmptyFallIn, OnlyEmptyCasesFall}
 use Rattle.shader_runs.specs.Premises.{InitialiserFits, OperatesOutside, ModuleNamesAreDistinct}
 use Rattle.shader_runs.specs.Premises.{ConstantInRange, EachWord}
 use Rattle.shader_runs.specs.Correct.{AreNamed, ItemsFit}
@@ -148,36 +149,36 @@ module _ (p : Module) (f : Naming) (distinct : AreDistinct p f) where
       mutual
         line_resolves : (k l : ℕ) (st : Statement) (s : Handles) (numbers : LetNumbers)
             (names : Lookup) (tail : Lines) → named_by f.function st k ≤ total p f distinct →
-            IsRegular p callees f st → InScope p f distinct k s numbers names →
+            IsRegular p callees f st → OnlyEmptyFalls st → InScope p f distinct k s numbers names →
             lines_targets l names (form f k st s tail) ≡ map Some
             (statement_targets f k l st s numbers) ++ lines_targets (lets_by f.function st l)
             (names_by f k l st names) tail
-        line_resolves k l (Emit first count) s numbers names tail le regular scope = lets_resolve k l (from first count) s numbers names tail le scope
-        line_resolves k l (Store q v) s numbers names tail le regular scope =
+        line_resolves k l (Emit first count) s numbers names tail le regular only scope = lets_resolve k l (from first count) s numbers names tail le scope
+        line_resolves k l (Store q v) s numbers names tail le regular only scope =
             let all = all_named names scope.items in
             ap (λ ts. ts ++ lines_targets l names tail)
             (both (value_targets f.function s numbers q) (value_targets f.function s numbers v)
             (place_resolves f names s numbers scope.lets all q)
             (value_resolves f names s numbers scope.lets all v))
-        line_resolves k l (Block b) s numbers names tail le regular scope =
-            λ i. lines_resolve k l b s numbers names le regular scope i ++ lines_targets (lines_counted f k l b s i) names tail
-        line_resolves k l (If c a b) s numbers names tail le regular scope =
+        line_resolves k l (Block b) s numbers names tail le regular only scope =
+            λ i. lines_resolve k l b s numbers names le regular only scope i ++ lines_targets (lines_counted f k l b s i) names tail
+        line_resolves k l (If c a b) s numbers names tail le regular only scope =
             let k1 = named_by_all f.function a k in
             let l1 = lets_by_all f.function a l in
             let k1_le : k1 ≤ total p f distinct = omega (arith, le, list_more f b k1) in
             let value = value_resolves f names s numbers scope.lets (all_named names scope.items) c in
-            let accept = lines_resolve k l a s numbers names k1_le regular.0 scope in
+            let accept = lines_resolve k l a s numbers names k1_le regular.0 only.0 scope in
             let reject = ap (λ n. lines_targets n names (form_all f k1 b s))
-            (lines_counted f k l a s) ∙ lines_resolve k1 l1 b s numbers names le regular.1
+            (lines_counted f k l a s) ∙ lines_resolve k1 l1 b s numbers names le regular.1 only.1
             (scope_more p f distinct k k1 s numbers names (list_more f a k) scope) in
             let one = both (value_targets f.function s numbers c) _ value (both (statements_targets f k l a s numbers) (statements_targets f k1 l1 b s numbers) accept reject) in
             let counted = ap (λ n. lets_behind_all n (form_all f k1 b s)) (lines_counted f k l a s) ∙ lines_counted f k1 l1 b s in
             λ i. one i ++ lines_targets (counted i) names tail
-        line_resolves k l (Switch h cs) s numbers names tail le regular scope =
+        line_resolves k l (Switch h cs) s numbers names tail le regular only scope =
             let value = value_resolves f names s numbers scope.lets (all_named names scope.items) h in
-            let one = both (value_targets f.function s numbers h) (cases_targets f k l cs s numbers) value (groups_resolve k l [] cs s numbers names le regular scope) in
+            let one = both (value_targets f.function s numbers h) (cases_targets f k l cs s numbers) value (groups_resolve k l [] cs s numbers names le regular only scope) in
             λ i. one i ++ lines_targets (groups_counted f k l [] cs s i) names tail
-        line_resolves k l (Loop b d e) s numbers names tail le regular scope =
+        line_resolves k l (Loop b d e) s numbers names tail le regular only scope =
             let k1 = named_by_all f.function b k in
             let l1 = lets_by_all f.function b l in
             let s1 = after_all f k b s in
@@ -187,10 +188,10 @@ module _ (p : Module) (f : Naming) (distinct : AreDistinct p f) where
             let inside = scope_left p f distinct k l b s numbers names k1_le scope in
             let last_scope = scope_left p f distinct k1 l1 d s1 numbers1 names1 le inside in
             let names2 = list_names f k1 l1 d names1 in
-            let left : names_left l (form_all f k b s) names ≡ names1 = lines_leave f p callees k l b s names regular.0 in
-            let body = lines_resolve k l b s numbers names k1_le regular.0 scope in
-            let rest = (λ i. lines_targets (lines_counted f k l b s i) (left i) (form_all f k1 d s1)) ∙ lines_resolve k1 l1 d s1 numbers1 names1 le regular.1 inside in
-            let end_names = (λ i. names_left (lines_counted f k l b s i) (form_all f k1 d s1) (left i)) ∙ lines_leave f p callees k1 l1 d s1 names1 regular.1 in
+            let left : names_left l (form_all f k b s) names ≡ names1 = lines_leave f k l b s names only.0 in
+            let body = lines_resolve k l b s numbers names k1_le regular.0 only.0 scope in
+            let rest = (λ i. lines_targets (lines_counted f k l b s i) (left i) (form_all f k1 d s1)) ∙ lines_resolve k1 l1 d s1 numbers1 names1 le regular.1 only.1 inside in
+            let end_names = (λ i. names_left (lines_counted f k l b s i) (form_all f k1 d s1) (left i)) ∙ lines_leave f k1 l1 d s1 names1 only.1 in
             let break_if =
             ap (λ n. tree_targets_if n (value_if f (after_all f k1 d s1) e)) end_names
             ∙ value_if_resolves f names2 (after_all f k1 d s1)
@@ -202,13 +203,13 @@ module _ (p : Module) (f : Naming) (distinct : AreDistinct p f) where
             (numbers_left f.function l1 d numbers1) e) rest break_if) in
             let counted = ap (λ n. lets_behind_all n (form_all f k1 d s1)) (lines_counted f k l b s) ∙ lines_counted f k1 l1 d s1 in
             λ i. one i ++ lines_targets (counted i) names tail
-        line_resolves k l Break s numbers names tail le regular scope = refl
-        line_resolves k l Continue s numbers names tail le regular scope = refl
-        line_resolves k l (Return v) s numbers names tail le regular scope =
+        line_resolves k l Break s numbers names tail le regular only scope = refl
+        line_resolves k l Continue s numbers names tail le regular only scope = refl
+        line_resolves k l (Return v) s numbers names tail le regular only scope =
             ap (λ ts. ts ++ lines_targets l names tail) (value_if_resolves f names s numbers scope.lets (all_named names scope.items) v)
-        line_resolves k l Kill s numbers names tail le regular scope = refl
-        line_resolves k l (Barrier bits) s numbers names tail le regular scope = performs_resolve l names scope.items (barrier_words bits) regular tail
-        line_resolves k l (Act a xs r) s numbers names tail le regular scope =
+        line_resolves k l Kill s numbers names tail le regular only scope = refl
+        line_resolves k l (Barrier bits) s numbers names tail le regular only scope = performs_resolve l names scope.items (barrier_words bits) regular tail
+        line_resolves k l (Act a xs r) s numbers names tail le regular only scope =
             by r (both (action_targets a) (operands_targets (value_targets f.function s numbers) xs)
             (action_resolves names scope.items a xs r within earlier regular.0)
             (values_resolve f names s numbers scope.lets (all_named names scope.items) xs))
@@ -227,58 +228,59 @@ module _ (p : Module) (f : Naming) (distinct : AreDistinct p f) where
 
         lines_resolve : (k l : ℕ) (ss : Statements) (s : Handles) (numbers : LetNumbers)
             (names : Lookup) → named_by_all f.function ss k ≤ total p f distinct →
-            AreRegular p callees f ss → InScope p f distinct k s numbers names →
+            AreRegular p callees f ss → OnlyEmptyFallIn ss → InScope p f distinct k s numbers names →
             lines_targets l names (form_all f k ss s) ≡ map Some
             (statements_targets f k l ss s numbers)
-        lines_resolve k l end s numbers names le regular scope = refl
-        lines_resolve k l (then st ss) s numbers names le regular scope =
+        lines_resolve k l end s numbers names le regular only scope = refl
+        lines_resolve k l (then st ss) s numbers names le regular only scope =
             let k1 = named_by f.function st k in
             let l1 = lets_by f.function st l in
             let here : k1 ≤ total p f distinct = omega (arith, le, list_more f ss k1) in
-            line_resolves k l st s numbers names (form_all f k1 ss (after f k st s)) here regular.0 scope
+            line_resolves k l st s numbers names (form_all f k1 ss (after f k st s)) here regular.0 only.0 scope
             ∙ both (statement_targets f k l st s numbers) (statements_targets f k1 l1 ss (after f k st s) (numbers_by f.function l st numbers)) refl
-            (lines_resolve k1 l1 ss (after f k st s) (numbers_by f.function l st numbers) (names_by f k l st names) le regular.1 (scope_by p f distinct k l st s numbers names here scope))
+            (lines_resolve k1 l1 ss (after f k st s) (numbers_by f.function l st numbers) (names_by f k l st names) le regular.1 only.1 (scope_by p f distinct k l st s numbers names here scope))
 
         groups_resolve : (k l : ℕ) (labels : List Label) (cs : Cases) (s : Handles)
             (numbers : LetNumbers) (names : Lookup) →
             named_by_cases f.function cs k ≤ total p f distinct → CasesAreRegular p callees f cs →
+            OnlyEmptyCasesFall cs →
             InScope p f distinct k s numbers names →
             groups_targets l names (form_cases f k labels cs s) ≡ map Some
             (cases_targets f k l cs s numbers)
-        groups_resolve k l labels no_case s numbers names le regular scope = refl
-        groups_resolve k l labels (case label b true cs) s numbers names le regular scope =
+        groups_resolve k l labels no_case s numbers names le regular only scope = refl
+        groups_resolve k l labels (case label b true cs) s numbers names le regular only scope =
             let k1 = named_by_all f.function b k in
-            groups_resolve k1 l (labels ++ label ∷ []) cs s numbers names le regular.2 (scope_more p f distinct k k1 s numbers names (list_more f b k) scope)
-        groups_resolve k l labels (case label b false cs) s numbers names le regular scope =
+            groups_resolve k1 l (labels ++ label ∷ []) cs s numbers names le regular.2 only.2 (scope_more p f distinct k k1 s numbers names (list_more f b k) scope)
+        groups_resolve k l labels (case label b false cs) s numbers names le regular only scope =
             let k1 = named_by_all f.function b k in
             let l1 = lets_by_all f.function b l in
             let here : k1 ≤ total p f distinct = omega (arith, le, cases_more f cs k1) in
             both (statements_targets f k l b s numbers) (cases_targets f k1 l1 cs s numbers)
-            (lines_resolve k l b s numbers names here regular.1 scope)
+            (lines_resolve k l b s numbers names here regular.1 only.1 scope)
             (ap (λ n. groups_targets n names (form_cases f k1 [] cs s)) (lines_counted f k l b s)
-            ∙ groups_resolve k1 l1 [] cs s numbers names le regular.2
+            ∙ groups_resolve k1 l1 [] cs s numbers names le regular.2 only.2
             (scope_more p f distinct k k1 s numbers names (list_more f b k) scope))
 
       -- ---- variables
       variables_resolve : (i : ℕ) (os : List (Option ℕ)) → i + length os ≡ local_count f.function →
-          IsTrue (first_values_fit f.function i os) → AreRegular p callees f f.function.body →
+          IsTrue (first_values_fit f.function i os) → AreRegular p callees f f.function.body → OnlyEmptyFallIn f.function.body →
           (names : Lookup) → Knows p f distinct i names
           → variables_targets i names (variables_from f i os)
           (form_all f 0 f.function.body (at_start f.function)) ≡ map Some
           (first_values_targets f.function os ++ statements_targets f 0 0 f.function.body
           (at_start f.function) no_numbers)
-      variables_resolve i [] size fit regular names knows =
+      variables_resolve i [] size fit regular only names knows =
           let all : i ≡ local_count f.function = omega (arith, size) in
-          lines_resolve 0 0 f.function.body (at_start f.function) no_numbers names (omega arith) regular
+          lines_resolve 0 0 f.function.body (at_start f.function) no_numbers names (omega arith) regular only
           (record { items = subst (λ n. Knows p f distinct n names) all knows; lets = none_at_start p f distinct words leaves names; sources = start_sources f })
-      variables_resolve i (o ∷ os) size fit regular names knows =
+      variables_resolve i (o ∷ os) size fit regular only names knows =
           let usable = usable_if (before_local f.function i) (at_start f.function) o in
           let later = first_values_fit f.function (suc i) os in
           let within : i < local_count f.function = omega (arith, size) in
           let next : suc i + length os ≡ local_count f.function = omega (arith, size) in
           both (value_targets_if f.function (at_start f.function) no_numbers o) _
           (first_resolves p f distinct words leaves i names knows o (and_left usable later fit))
-          (variables_resolve (suc i) os next (and_right usable later fit) regular (bind names (f.names.local_ i) (Some (LocalTarget i)))
+          (variables_resolve (suc i) os next (and_right usable later fit) regular only (bind names (f.names.local_ i) (Some (LocalTarget i)))
           (knows_more p f distinct (FixedKey (LocalName i)) within i (suc i) (LocalTarget i) names (λ y here stands e. same_target y e) declared_before knows))
           ∙ ap (map Some) (sym (append_assoc (value_targets_if f.function (at_start f.function) no_numbers o) (first_values_targets f.function os) _))
         where
@@ -329,10 +331,10 @@ module _ (p : Module) (f : Naming) (distinct : AreDistinct p f) where
             no_global : (j : ℕ) → FixedKey (ArgumentName j) ≡ FixedKey (GlobalName i) → ⊥
             no_global j e = cc
 
-        function_resolves : IsTrue (fits_function f) → AreRegular p callees f f.function.body → text_function_targets items (form_function f) ≡ map Some (function_targets f)
-        function_resolves scope regular =
+        function_resolves : IsTrue (fits_function f) → AreRegular p callees f f.function.body → OnlyEmptyFallIn f.function.body → text_function_targets items (form_function f) ≡ map Some (function_targets f)
+        function_resolves scope regular only =
             let first = first_values_fit f.function 0 f.function.first_values in
-            variables_resolve 0 f.function.first_values (omega arith) (and_left first (fits_all f 0 f.function.body (at_start f.function)) scope) regular (entry p f distinct items)
+            variables_resolve 0 f.function.first_values (omega arith) (and_left first (fits_all f 0 f.function.body (at_start f.function)) scope) regular only (entry p f distinct items)
             (record {
               fixed = entry_fixed;
               functions = λ g lt no_name. past (f.names.outer.function g) no_name ∙ knows_items.functions g lt no_name;
@@ -434,7 +436,7 @@ module _ (p : Module) (n : ModuleNames) (fs : List TextFunction) (fits : ItemsFi
       FunctionFits p n callees f → ((h : ℕ) → LeafStands f.function (expression_of f.function h)) →
       text_function_targets (items_of p n fs) (form_function f) ≡ map Some (function_targets f)
   one_resolves callees within f one stand =
-      function_resolves p f one.distinct callees one.words one.leaves stand within one.earlier (items_of p n fs) (knows_items f one.distinct one.outer) one.scope one.regular
+      function_resolves p f one.distinct callees one.words one.leaves stand within one.earlier (items_of p n fs) (knows_items f one.distinct one.outer) one.scope one.regular one.cases
 
   functions_resolve : (gs : List Naming) → AllFit p n gs → LeavesStand gs →
       length gs ≤ length p.functions →

@@ -24,15 +24,15 @@ use Rattle.shader_runs.specs.ProgramRun.{has_label, label_if, run, run_all, run_
 use Rattle.shader_runs.specs.ProgramRun.{constants_kept, first_used_all, run_from_entry, run_body}
 use Rattle.shader_runs.specs.ProgramRun.{run_if_arguments_fit}
 use Rattle.shader_runs.specs.ProgramRun.{run_call}
-use Rattle.shader_runs.specs.Scope.{ModuleNames, Naming}
+use Rattle.shader_runs.specs.Scope.{Naming}
 use Rattle.shader_runs.specs.Form.{functions_of}
 use Rattle.shader_runs.specs.Points.{call_of}
 use Rattle.shader_runs.specs.Premises.{CallFits, ActionFits, FallsFrom, IsRegular, AreRegular}
-use Rattle.shader_runs.specs.Premises.{CasesAreRegular, AllFit}
+use Rattle.shader_runs.specs.Premises.{CasesAreRegular}
 use Rattle.shader_runs.specs.Results.{holds_break, any_break, may_end, may_end_all, some_case_ends}
 use Rattle.shader_runs.specs.Results.{has_values, all_have_values, cases_have_values, GivesResult}
 use Rattle.shader_runs.specs.Results.{AllGiveResults, IsReturned, NotUnreturned, IsComplete}
-use Rattle.shader_runs.specs.Results.{ResultsAreReturned}
+use Rattle.shader_runs.specs.Results.{AllRegular, ResultsAreReturned}
 use Rattle.shader_runs.proofs.Update.{and_left, and_right, and_both}
 use Rattle.shader_runs.proofs.Statements.{or_left, or_right}
 use Rattle.shader_runs.specs.Constants.{environment_of}
@@ -196,11 +196,10 @@ abbrev IsCase : Cases → Type 0
 IsCase no_case = ⊥
 IsCase (case l b falls cs) = Unit {0}
 
-falls_to_case : (falls : Bool) (b : Statements) (cs : Cases) → FallsFrom falls b cs → IsTrue falls → IsCase cs
-falls_to_case false b cs w h = absurd (true≢false (sym h))
-falls_to_case true end no_case w h = w
-falls_to_case true end (case l b falls cs) w h = tt
-falls_to_case true (then s ss) cs w h = absurd w
+falls_to_case : (falls : Bool) (cs : Cases) → FallsFrom falls cs → IsTrue falls → IsCase cs
+falls_to_case false cs w h = absurd (true≢false (sym h))
+falls_to_case true no_case w h = w
+falls_to_case true (case l b falls cs) w h = tt
 
 module _ (p : Module) (c : Call) (f : Naming) (complete : (g : ℕ) (callee : Function) →
     function_numbered c.callees g ≡ Some callee → (vs : List Value) (t : List Event) →
@@ -349,7 +348,7 @@ module _ (p : Module) (c : Call) (f : Naming) (complete : (g : ℕ) (callee : Fu
         picked_leads (same_label x l) (has_label x cs) (Ends b falls cs)
         (some_case_ends cs) _ _ (ends_later b falls cs)
         (case_leads b falls cs (run_on c bound cs) kept t body
-        (λ q kept t. on_lead cs (falls_to_case falls b cs m.0 q) m.2 later kept t))
+        (λ q kept t. on_lead cs (falls_to_case falls cs m.0 q) m.2 later kept t))
         (cases_lead cs m.2 later x kept t)
 
     on_lead : (cs : Cases) → IsCase cs → CasesAreRegular p c.callees f cs →
@@ -359,7 +358,7 @@ module _ (p : Module) (c : Call) (f : Naming) (complete : (g : ℕ) (callee : Fu
     on_lead (case l b falls cs) i m w kept t =
         let body = body_leads b m.1 (where_left k (all_have_values b) (cases_have_values cs) w) kept t in
         let later = where_right k (all_have_values b) (cases_have_values cs) w in
-        case_leads b falls cs (run_on c bound cs) kept t body (λ q kept t. on_lead cs (falls_to_case falls b cs m.0 q) m.2 later kept t)
+        case_leads b falls cs (run_on c bound cs) kept t body (λ q kept t. on_lead cs (falls_to_case falls cs m.0 q) m.2 later kept t)
 
 -- a body's end, where it is reached, gives nothing
 answer_complete : (k : Option ValueType) (e b : Bool) (o : Outcome KeptValues) → (IsTrue e → IsReturned k None) → Leads k e b o → IsComplete k (answer o)
@@ -378,7 +377,7 @@ end_returned : (k : Option ValueType) (body : Statements) → GivesResult k body
 end_returned None body w h = tt
 end_returned (Some k) body w h = absurd (true≢false (sym h ∙ w.1))
 
-module _ (p : Module) (n : ModuleNames) (env : Environment) (w : World) (m : Meaning) (bound : ℕ) where
+module _ (p : Module) (env : Environment) (w : World) (m : Meaning) (bound : ℕ) where
   abbrev Calls_complete : List Naming → Type 0
   Calls_complete fs =
       (g : ℕ) (callee : Function) → function_numbered (functions_of fs) g ≡ Some callee →
@@ -407,7 +406,7 @@ module _ (p : Module) (n : ModuleNames) (env : Environment) (w : World) (m : Mea
           (end_returned k body gives)
           (body_leads p c f earlier k bound body regular (values_where k body gives) kept t1)
 
-  calls_complete : (fs : List Naming) → AllFit p n fs → AllGiveResults (functions_of fs) → Calls_complete fs
+  calls_complete : (fs : List Naming) → AllRegular p fs → AllGiveResults (functions_of fs) → Calls_complete fs
   calls_complete [] fits gives g callee e vs t = absurd (none-some callee e)
   calls_complete (f ∷ fs) fits gives g callee e vs t =
       go (nat_eq g (length (functions_of fs))) e (calls_complete fs fits.1 gives.1)
@@ -416,7 +415,7 @@ module _ (p : Module) (n : ModuleNames) (env : Environment) (w : World) (m : Mea
       own_call b = run_if_arguments_fit b (run_body (call_of env w m bound f fs vs t) bound (length (functions_of fs)) vs t) t
 
       own : Calls_complete fs → (b : Bool) → IsComplete f.function.result (own_call b)
-      own earlier true = body_complete fs earlier f fits.0.regular gives.0 vs t (length (functions_of fs))
+      own earlier true = body_complete fs earlier f fits.0 gives.0 vs t (length (functions_of fs))
       own earlier false = tt
 
       go : (b : Bool) → cond b (Some f.function) (function_numbered (functions_of fs) g) ≡
@@ -430,12 +429,12 @@ module _ (p : Module) (n : ModuleNames) (env : Environment) (w : World) (m : Mea
       go false e earlier = earlier g callee e vs t
 
 pub results_are_returned : ResultsAreReturned
-results_are_returned p n fs fits gives settings m g f e vs w turns t =
-    there (subst (λ l. function_numbered l g ≡ Some f) (sym fits.functions) e) (subst (λ l. AllGiveResults l) (sym fits.functions) gives)
+results_are_returned p fs same regular gives settings m g f e vs w turns t =
+    there (subst (λ l. function_numbered l g ≡ Some f) (sym same) e) (subst (λ l. AllGiveResults l) (sym same) gives)
   where
     env : Environment
     env = environment_of p settings m
 
     there : function_numbered (functions_of fs) g ≡ Some f → AllGiveResults (functions_of fs) → IsComplete f.result (run_call env w m turns p.functions g vs t)
     there e gives =
-        subst (λ l. IsComplete f.result (run_call env w m turns l g vs t)) fits.functions (calls_complete p n env w m turns fs fits.all gives g f e vs t)
+        subst (λ l. IsComplete f.result (run_call env w m turns l g vs t)) same (calls_complete p env w m turns fs regular gives g f e vs t)

@@ -141,6 +141,7 @@ premises =
             words = plain;
             leaves = leaves;
             regular = (tt, (tt, (refl, tt)));
+            cases = (tt, (tt, (tt, tt)));
             distinct = distinct;
             scope = refl;
           },

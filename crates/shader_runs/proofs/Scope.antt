@@ -16,11 +16,10 @@ use Rattle.shader_runs.specs.Scope.{forgotten_if}
 use Rattle.shader_runs.specs.Form.{value_form, own_form, written_form, let_if, lets, perform_each}
 use Rattle.shader_runs.specs.Form.{form}
 use Rattle.shader_runs.specs.Form.{form_all, form_cases}
-use Rattle.shader_runs.specs.Premises.{FallsFrom}
 use Rattle.shader_runs.proofs.Relation.{Extends, extends_refl, extends_trans, extends_forgotten}
 use Rattle.shader_runs.proofs.Evaluation.{naming}
 use Rattle.shader_runs.proofs.Emission.{extends_update, extends_emit}
-use Rattle.shader_runs.proofs.Checked.{Fits, FitsAll, FitsCases}
+use Rattle.shader_runs.proofs.Checked.{Fits, FitsAll, FitsCases, JoinsNext}
 
 let_continue : (b : Bool) (x : Bytes) (e : Tree) (tail : Lines) → some_continue (let_if b x e tail) ≡ some_continue tail
 let_continue true x e tail = refl
@@ -43,7 +42,7 @@ IsFollowed [] no_case = Unit {0}
 IsFollowed (l ∷ ls) no_case = ⊥
 IsFollowed labels (case l b falls cs) = Unit {0}
 
-pub falls_followed : (labels : List Label) (cs : Cases) → FallsFrom true end cs → IsFollowed labels cs
+pub falls_followed : (labels : List Label) (cs : Cases) → JoinsNext true end cs → IsFollowed labels cs
 falls_followed labels no_case m = absurd m
 falls_followed labels (case l b falls cs) m = tt
 

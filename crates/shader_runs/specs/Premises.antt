@@ -164,12 +164,11 @@ abbrev pub ReturnFits : Function → Option ℕ → Type 0
 ReturnFits f None = Unit {0}
 ReturnFits f (Some h) = f.result ≡ Some (handle_type f h)
 
--- only an empty case falls through, and not the last one
-abbrev pub FallsFrom : Bool → Statements → Cases → Type 0
-FallsFrom false b cs = Unit {0}
-FallsFrom true end no_case = ⊥
-FallsFrom true end (case l b falls cs) = Unit {0}
-FallsFrom true (then s ss) cs = ⊥
+-- the last case doesn't fall through
+abbrev pub FallsFrom : Bool → Cases → Type 0
+FallsFrom false cs = Unit {0}
+FallsFrom true no_case = ⊥
+FallsFrom true (case l b falls cs) = Unit {0}
 
 -- the words, calls, results and cases of a statement
 abbrev mutual
@@ -190,7 +189,31 @@ abbrev mutual
   pub CasesAreRegular : Module → List Function → Naming → Cases → Type 0
   CasesAreRegular p callees f no_case = Unit {0}
   CasesAreRegular p callees f (case l b falls cs) =
-      FallsFrom falls b cs × AreRegular p callees f b × CasesAreRegular p callees f cs
+      FallsFrom falls cs × AreRegular p callees f b × CasesAreRegular p callees f cs
+
+-- a case with statements doesn't fall through
+abbrev pub FallsEmpty : Bool → Statements → Type 0
+FallsEmpty false b = Unit {0}
+FallsEmpty true end = Unit {0}
+FallsEmpty true (then s ss) = ⊥
+
+-- only empty cases fall through in a statement, in a body and among cases
+abbrev mutual
+  pub OnlyEmptyFalls : Statement → Type 0
+  OnlyEmptyFalls (Block b) = OnlyEmptyFallIn b
+  OnlyEmptyFalls (If c a b) = OnlyEmptyFallIn a × OnlyEmptyFallIn b
+  OnlyEmptyFalls (Switch h cases) = OnlyEmptyCasesFall cases
+  OnlyEmptyFalls (Loop b d e) = OnlyEmptyFallIn b × OnlyEmptyFallIn d
+  OnlyEmptyFalls _ = Unit {0}
+
+  pub OnlyEmptyFallIn : Statements → Type 0
+  OnlyEmptyFallIn end = Unit {0}
+  OnlyEmptyFallIn (then s ss) = OnlyEmptyFalls s × OnlyEmptyFallIn ss
+
+  pub OnlyEmptyCasesFall : Cases → Type 0
+  OnlyEmptyCasesFall no_case = Unit {0}
+  OnlyEmptyCasesFall (case l b falls cs) =
+      FallsEmpty falls b × OnlyEmptyFallIn b × OnlyEmptyCasesFall cs
 
 -- a literal's type: no literal is a pointer
 abbrev pub literal_type : Value → ValueType
@@ -331,6 +354,7 @@ pub record FunctionFits (p : Module) (n : ModuleNames) (callees : List Function)
   pub leaves :
       (h : ℕ) → LeafFits p f.function (handle_type f.function h) (expression_of f.function h)
   pub regular : AreRegular p callees f f.function.body
+  pub cases : OnlyEmptyFallIn f.function.body
   pub distinct : AreDistinct p f
   pub scope : IsTrue (fits_function f)
 

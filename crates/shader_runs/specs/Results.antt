@@ -1,8 +1,8 @@
 -- The law of results: where functions return what they promise, no call misses a result.
 --
 -- Throughout, s and ss are statements, b, a and d are bodies, k is the type of a result, v a value,
--- t are the events so far and x is why a run stops; of a module p and its names n, fs are its
--- functions with theirs, f is one, g its number, m the meaning, and w the world.
+-- t are the events so far and x is why a run stops; of a module p, fs are its functions with their
+-- names, f is one, g its number, m the meaning, and w the world.
 use Rattle.std.specs.Prelude.{◌≡◌, ℕ, Bool, true, false, not, is_some, List, [], ◌∷◌, Option, Some}
 use Rattle.std.specs.Prelude.{None, ◌&&◌, ◌||◌, IsTrue}
 use Rattle.shader_runs.specs.Value.{ValueType, Value}
@@ -13,8 +13,9 @@ use Rattle.shader_runs.specs.Program.{Return, Kill, Statements, end, then, Cases
 use Rattle.shader_runs.specs.Program.{Function, function_numbered, Module}
 use Rattle.shader_runs.specs.ProgramRun.{has_label}
 use Rattle.shader_runs.specs.Constants.{run_module}
-use Rattle.shader_runs.specs.Scope.{ModuleNames, Naming}
-use Rattle.shader_runs.specs.Correct.{ModuleFits}
+use Rattle.shader_runs.specs.Scope.{Naming}
+use Rattle.shader_runs.specs.Form.{functions_of}
+use Rattle.shader_runs.specs.Premises.{AreRegular}
 
 abbrev mutual
   -- a `break` of the loop or the switch around the statement
@@ -103,7 +104,13 @@ ResultsAreReturnedIn p =
     (vs : List Value) (w : World) (turns : ℕ) (t : List Event) →
     IsComplete f.result (run_module p settings w m turns g vs t)
 
--- in each module whose scope holds
+-- the statements of each function are regular
+abbrev pub AllRegular : Module → List Naming → Type 0
+AllRegular p [] = Unit {0}
+AllRegular p (f ∷ fs) = AreRegular p (functions_of fs) f f.function.body × AllRegular p fs
+
+-- in each module whose statements are regular, whatever is in scope there
 abbrev pub ResultsAreReturned : Type 0
 ResultsAreReturned =
-    (p : Module) (n : ModuleNames) (fs : List Naming) → ModuleFits p n fs → ResultsAreReturnedIn p
+    (p : Module) (fs : List Naming) → functions_of fs ≡ p.functions → AllRegular p fs →
+    ResultsAreReturnedIn p
