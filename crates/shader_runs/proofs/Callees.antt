@@ -1,12 +1,15 @@
--- The run of a call hangs on what its callees do, and not on which are told as its callees.
+-- The run of a call hangs on what its callees do, and not on which are told as its callees; and what
+-- its statements do doesn't hang on which body they stand in.
 --
--- Throughout, c is the call and n bounds the turns of loops, h is a handle and o is of an expression or
--- of a handle, hs and xs are handles, kept are the kept values and t the events so far, v is a value and
--- vs are several, ss are statements and cs cases, and x is a label.
-use Rattle.std.proofs.Common.{◌≡◌, ℕ, cond, List, [], ◌∷◌, Option, Some, None, refl, ap, option_map}
+-- Throughout, c is the call and n bounds the turns of loops, h is a handle and o is of an expression
+-- or of a handle, hs and xs are handles, kept are the kept values and t the events so far, v is a
+-- value and vs are several, a is an action and r its result, ss are statements and cs cases, and x is
+-- a label.
+use Rattle.std.proofs.Common.{◌≡◌, ℕ, zero, suc, cond, List, [], ◌∷◌, Option, Some, None, refl, ap}
+use Rattle.std.proofs.Common.{◌∙◌, length, option_map}
 use Rattle.shader_runs.specs.Value.{Value}
 use Rattle.shader_runs.specs.World.{Event, Write, update}
-use Rattle.shader_runs.specs.Outcome.{Done, Broke, Returned, answer}
+use Rattle.shader_runs.specs.Outcome.{Done, Broke, Returned, ReachedOrHalted, Gives, Halts, answer}
 use Rattle.shader_runs.specs.Outcome.{after_switch, and_then, branch_by, or_stuck, turn, turns}
 use Rattle.shader_runs.specs.Outcome.{with_integer}
 use Rattle.shader_runs.specs.Program.{Action, Asked, Called, Access, AccessIndex, Cases, no_case, case}
@@ -22,12 +25,12 @@ use Rattle.shader_runs.specs.ProgramRun.{has_label, if_counted, joined_values, l
 use Rattle.shader_runs.specs.ProgramRun.{return_outcome, run, run_all, run_body, run_cases}
 use Rattle.shader_runs.specs.ProgramRun.{run_from_entry, run_on, same_label, used_value}
 use Rattle.shader_runs.specs.ProgramRun.{used_value_as, used_values, with_first, with_pointer}
-use Rattle.shader_runs.specs.ProgramRun.{with_result}
+use Rattle.shader_runs.specs.ProgramRun.{constant_as, constant_below, with_result}
 
-module _ (c : Call) (told : List Function) where
-  -- the same call, of which others are told as its callees
+module _ (c : Call) (told : List Function) (body : Statements) where
+  -- the same call, of which others are told as its callees, and of which this is the body
   abbrev pub retold : Call
-  retold = record c { callees = told }
+  retold = record c { function = record c.function { body = body }; callees = told }
 
   -- ---- values
   used_as : (o : Option Expression) (v : Option Value) → used_value_as c o v ≡ used_value_as retold o v
@@ -107,6 +110,16 @@ module _ (c : Call) (told : List Function) where
   answered (Asked w) vs t = refl
   answered (Called g) vs t = refl
 
+  resulted : (a : Action) (r : Option ℕ) (kept : KeptValues) (q : ReachedOrHalted (Option Value)) →
+      with_result c.environment.parts c.function a r kept q
+      ≡ with_result c.environment.parts retold.function a r kept q
+  resulted a None kept (Gives v t) = refl
+  resulted a None kept (Halts x t) = refl
+  resulted a (Some h) kept (Gives None t) = refl
+  resulted (Asked w) (Some h) kept (Gives (Some v) t) = refl
+  resulted (Called g) (Some h) kept (Gives (Some v) t) = refl
+  resulted a (Some h) kept (Halts x t) = refl
+
   module _ (n : ℕ) where
     mutual
       one_runs : (s : Statement) (kept : KeptValues) (t : List Event) → run c n s kept t ≡ run retold n s kept t
@@ -127,8 +140,10 @@ module _ (c : Call) (told : List Function) where
           kept t
       one_runs (Return v) kept t = returned v kept t
       one_runs (Act a xs r) kept t =
-          λ i. or_stuck (used_all kept xs i) t
-          (λ vs. with_result c.environment.parts c.function a r kept (answered a vs t i))
+          (λ i. or_stuck (used_all kept xs i) t
+          (λ vs. with_result c.environment.parts c.function a r kept (answered a vs t i)))
+          ∙ (λ i. or_stuck (used_values retold kept xs) t
+          (λ vs. resulted a r kept (action_answer retold a vs t) i))
       one_runs _ kept t = refl
 
       all_run : (ss : Statements) (kept : KeptValues) (t : List Event) →
@@ -153,9 +168,23 @@ module _ (c : Call) (told : List Function) where
           (λ kept1 t1. cond falls (on_run cs kept1 t1 i) (Done kept1 t1))
 
     -- ---- the body
-    pub body_runs : (g : ℕ) (vs : List Value) (t : List Event) →
+    -- the values of constant trees
+    below : (i h : ℕ) → constant_below c.function c.environment c.meaning i h
+        ≡ constant_below retold.function c.environment c.meaning i h
+    below zero h = refl
+    below (suc i) h =
+        ap (λ value. constant_as c.environment c.meaning value (expression_of c.function h))
+        (λ j k. below i k j)
+
+    kept_alike : constants_kept c.function c.environment c.meaning
+        ≡ constants_kept retold.function c.environment c.meaning
+    kept_alike = λ j h. below (length c.function.expressions) h j
+
+    -- where the bodies do the same, so do the calls
+    pub body_runs :
+        ((kept : KeptValues) (t : List Event) → run_all c n c.function.body kept t ≡ run_all c n body kept t) →
+        (g : ℕ) (vs : List Value) (t : List Event) →
         run_body c n g vs t ≡ run_body retold n g vs t
-    body_runs g vs t =
-        let kept = constants_kept c.function c.environment c.meaning in
-        λ i. run_from_entry g vs (first_all kept c.function.first_values i) t
-        (λ t1. answer (all_run c.function.body kept t1 i))
+    body_runs same g vs t =
+        (λ i. run_from_entry g vs (first_all (kept_alike i) c.function.first_values i) t
+        (λ t1. answer ((same (kept_alike i) t1 ∙ all_run body (kept_alike i) t1) i)))

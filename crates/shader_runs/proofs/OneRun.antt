@@ -264,7 +264,7 @@ environment_alike p n later f between callees fits env environment m typed vs h 
         ∙ (run_among_first env w m turns fits.others (f.function ∷ before) g (omega (arith, number)) vs t
         ∙ (taken (nat_eq g (length before)) (eq-eqb g (length before) number) _ _
         ∙ ap (λ r. run_if_arguments_fit (nat_eq (length vs) (argument_count f.function)) r t)
-        (body_runs (own_call before) (functions_of callees) turns (length before) vs t)))
+        (body_runs (own_call before) (functions_of callees) f.function.body turns (λ kept t. refl) (length before) vs t)))
 
     alike : text_call p n uses known env environment w m turns responses (length rest) f vs t ≡
         run_if_arguments_fit (nat_eq (length vs) (argument_count f.function))
