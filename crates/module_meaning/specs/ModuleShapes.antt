@@ -3,7 +3,7 @@
 --
 -- Throughout, m is a module, info what is known of it, c a constant, o an override and g a
 -- variable.
-use Rattle.std.specs.Prelude.{List, ◌++◌, false, map, reverse, if◌then◌else◌, unwrap_or}
+use Rattle.std.specs.Prelude.{List, ◌++◌, map, reverse, if◌then◌else◌, unwrap_or}
 use Rattle.std.specs.List.{filter}
 use Rattle.std.specs.Option.{is_some}
 use Rattle.naga_ir.specs.declared.module.Constant as ir_constant
@@ -13,22 +13,23 @@ use Rattle.naga_info.specs.declared.info.ModuleInfo.{ModuleInfo}
 use Rattle.module_meaning.specs.ExpressionTypes.{variable_type}
 use Rattle.module_meaning.specs.FunctionNumbers.{all_functions, all_infos}
 use Rattle.module_meaning.specs.FunctionShapes.{function_shapes}
-use Rattle.module_meaning.specs.ExpressionContexts.{global_tree}
+use Rattle.module_meaning.specs.ExpressionContexts.{global_tree, zero_of_type}
 use Rattle.module_meaning.specs.InfoSizes.{is_handle_space}
 use Rattle.module_meaning.specs.PlaceParts.{place_parts}
 use Rattle.module_meaning.specs.Types.{declared_type, word_of_values}
-use Rattle.shader_runs.specs.Program.{ConstantTree, Fixed, VariableShape, Held, AtPlace, Module}
-use Rattle.shader_runs.specs.Value.{Truth}
+use Rattle.shader_runs.specs.Program.{ConstantTree, VariableShape, Held, AtPlace, Module}
 
 -- ---- constants
 -- those with a name, in their order
 abbrev pub named_constants : ir_module.Module → List ir_constant.Constant
 named_constants m = filter (λ c. is_some c.name) m.constants
 
--- what a constant is computed from; one without a tree, for which no text is written, is `false`
+-- What a constant is computed from. One whose initialiser has no tree counts as the zero value of
+-- its type: it asks for an event, takes a part of what a pointer leads to, names a variable, or is
+-- the result of a statement. That value is free, since WGSL has no such constant and no text is
+-- written for a module with one.
 abbrev pub initialiser : ir_module.Module → ModuleInfo → ir_constant.Constant → ConstantTree
-initialiser m info c =
-    unwrap_or (global_tree m info c.init) (Fixed (Truth false))
+initialiser m info c = unwrap_or (global_tree m info c.init) (zero_of_type m c.ty)
 
 -- ---- variables
 -- A variable by its space: in the handle space it holds a value of its type, which may be a pointer

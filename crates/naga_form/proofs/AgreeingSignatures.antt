@@ -2,7 +2,7 @@
 -- results of one type, wherever they stand in it.
 use Rattle.module_meaning.specs.Names.{ItemsAreDistinguished}
 use Rattle.std.proofs.Common.{◌≡◌, ℕ, true, false, List, [], ◌∷◌, refl, sym, ap, ◌∙◌, subst, length}
-use Rattle.std.proofs.Common.{Option, Some, None, slice_get, get_or, map}
+use Rattle.std.proofs.Common.{Option, Some, None, ◌⊎◌, inl, inr, slice_get, get_or, map}
 use Rattle.std.specs.Prelude.{IsTrue}
 use Rattle.std.specs.Option.{option_map_or, option_and_then}
 use Rattle.std.proofs.lemmas.Bool.{and_parts}
@@ -32,9 +32,10 @@ use Rattle.naga_form.proofs.AgreeingExpressions.{operands_are, same_operands, by
 use Rattle.naga_form.proofs.AlikeParts.{PartsStand, parts_stand}
 use Rattle.naga_form.proofs.AgreeingParts.{Named, part_named, one_number, no_part, vector_is_none, struct_distinguished, key_read, swizzle_distinguished, letters_are_several}
 use Rattle.naga_form.proofs.AgreeingWords.{Call, Composed, Zeroed, Applied, Indexed, Selected, Lettered, call, both_values, both_applied, composed_applied, zeroed_applied}
-use Rattle.naga_form.proofs.AgreeingUses.{AreKnown}
+use Rattle.naga_form.proofs.AgreeingWords.{value_and_zero, zeros_agree}
+use Rattle.naga_form.proofs.AgreeingUses.{AreKnown, value_at}
 use Rattle.naga_form.proofs.SameValues.{IsFit}
-use Rattle.naga_form.proofs.Signatures.{IsOfExpression, declared_for}
+use Rattle.naga_form.proofs.Signatures.{IsOfExpression, IsOfZero, declared_for}
 
 module _ (m : Module) (info : ModuleInfo) (accepted : IsTrue (is_accepted m info)) (distinguished : ItemsAreDistinguished m) where
   -- a type's parts stand before it
@@ -207,3 +208,38 @@ module _ (m : Module) (info : ModuleInfo) (accepted : IsTrue (is_accepted m info
       calls_agree a b operands word
       (call m info accepted distinguished.types a.group a.expression x.word a.called)
       (call m info accepted distinguished.types b.group b.expression y.word b.called)
+
+  -- so has an expression that is called as a zero value is
+  zero_agrees : {x y : Signature} (a : IsOfExpression m info x) (b : IsOfZero m info y) →
+      x.operands ≡ y.operands → x.word ≡ y.word →
+      Call m info accepted distinguished.types a.group a.expression x.word → x.result ≡ y.result
+  zero_agrees a b operands e (Composed ty n k wanted ao ak formed v) =
+      value_and_zero m info accepted distinguished.types a b (Handle ty) n tt (wanted a.function)
+      (spelled_word _ _ (sym v ∙ (e ∙ b.word)))
+  zero_agrees a b operands e (Zeroed ty wanted none v) =
+      value_and_zero m info accepted distinguished.types a b (Handle ty) 0 tt (wanted a.function)
+      (spelled_word _ _ (sym v ∙ (e ∙ b.word)))
+  zero_agrees a b operands e (Applied o k ao ak af h hs some v) =
+      let empty : [] ≡ value_at m info a.group.known h ∷ map (value_at m info a.group.known) hs =
+      sym b.operands
+      ∙ (sym operands ∙ (a.operands ∙ ap (map (value_at m info a.group.known)) some)) in
+      absurd cc
+  zero_agrees a b operands e (Indexed i k one v) = spelled_index _ (sym b.word ∙ (sym e ∙ v))
+  zero_agrees a b operands e (Selected i k s one first v) =
+      spelled_part _ _ (sym b.word ∙ (sym e ∙ v))
+  zero_agrees a b operands e (Lettered n i pattern one v) =
+      spelled_part _ _ (sym b.word ∙ (sym e ∙ v))
+
+  -- of all that is spelled
+  pub all_agree : (x y : Signature) → (IsOfExpression m info x ⊎ IsOfZero m info x) →
+      (IsOfExpression m info y ⊎ IsOfZero m info y) → x.word ≡ y.word → x.operands ≡ y.operands →
+      x.result ≡ y.result
+  all_agree x y (inl a) (inl b) word operands = signatures_agree x y a b word operands
+  all_agree x y (inl a) (inr b) word operands =
+      zero_agrees a b operands word
+      (call m info accepted distinguished.types a.group a.expression x.word a.called)
+  all_agree x y (inr a) (inl b) word operands =
+      sym (zero_agrees b a (sym operands) (sym word)
+      (call m info accepted distinguished.types b.group b.expression y.word b.called))
+  all_agree x y (inr a) (inr b) word operands =
+      zeros_agree m info accepted distinguished.types x y a b word

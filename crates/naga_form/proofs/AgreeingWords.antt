@@ -30,6 +30,7 @@ use Rattle.std.specs.List.{flat_map}
 use Rattle.std.specs.Prelude.{take}
 use Rattle.module_meaning.specs.Accepted.{is_accepted}
 use Rattle.module_meaning.specs.AgreeingOperators.{Group, operator_key}
+use Rattle.module_meaning.specs.AlikeTypes.{type_identity}
 use Rattle.module_meaning.specs.ExpressionOperators.{applied_operator, constructor, matrix_load, is_atomic_pointer, sample_operator, query_operator}
 use Rattle.module_meaning.specs.ExpressionShapes.{part_selector, letter}
 use Rattle.module_meaning.specs.ExpressionTypes.{wanted_type, LikeThis, only}
@@ -42,10 +43,12 @@ use Rattle.module_meaning.proofs.ExpressionForms.{called_spelled}
 use Rattle.naga_words.specs.Spelling.{is_struct}
 use Rattle.naga_form.proofs.AcceptedGroups.{agree}
 use Rattle.naga_form.proofs.AgreeingExpressions.{are, own_type, operands_are, own_is, use_of, by_identity, same_values}
-use Rattle.naga_form.proofs.AgreeingUses.{IsApplied, value_at, results_agree}
+use Rattle.naga_form.proofs.AgreeingUses.{IsApplied, value_at, value_is, results_agree}
 use Rattle.naga_form.proofs.OperatorKeys.{IsFormed, IsKeyed, Negated, Keyed, KeyIn, keyed, sound, spells}
-use Rattle.naga_form.proofs.SameValues.{IsFit, numbers_by_words}
-use Rattle.naga_form.proofs.Signatures.{IsCalled, by_operator, by_zero, by_constant, by_index, by_part, by_letters, IsOfExpression, group_context, declared_for}
+use Rattle.naga_form.proofs.SameValues.{IsFit, numbers_by_words, values_by_numbers}
+use Rattle.naga_form.proofs.Signatures.{IsCalled, by_operator, by_zero, by_constant, by_index}
+use Rattle.naga_form.proofs.Signatures.{by_part, by_letters, IsOfExpression, IsOfZero}
+use Rattle.naga_form.proofs.Signatures.{group_context, declared_for}
 use Rattle.naga_form.proofs.TypedWords.{no_blank, share_a_word}
 
 module _ (m : Module) (info : ModuleInfo) (accepted : IsTrue (is_accepted m info)) (distinguished : TypesAreDistinguished m) where
@@ -205,7 +208,7 @@ module _ (m : Module) (info : ModuleInfo) (accepted : IsTrue (is_accepted m info
           ∙ sym (ap (λ o. unwrap_or o (word_of_unspelled_type (identity m.types s))) bt))
 
   -- the word of a type's value tells the type's word
-  one_type : (r s : TypeResolution) (n k : ℕ) → IsFit m r → IsFit m s →
+  pub one_type : (r s : TypeResolution) (n k : ℕ) → IsFit m r → IsFit m s →
       value_word (called_spelling m r) r n ≡ value_word (called_spelling m s) s k →
       word_of_values m r ≡ word_of_values m s
   one_type r s n k p q e = by (called_spelling m r) refl (called_spelling m s) refl e
@@ -227,6 +230,44 @@ module _ (m : Module) (info : ModuleInfo) (accepted : IsTrue (is_accepted m info
       by : IsKeyed m (are m info accepted distinguished) o count k → one_word o ≡ WithoutForm (ValueOf numbers 1) → ⊥
       by (Negated sign one key) is = absurd cc
       by (Keyed key) is = subst (λ p. KeyIn m (are m info accepted distinguished) p count k) is key
+
+  -- types whose values have one word have values of one type
+  types_agree : (r s : TypeResolution) (n k : ℕ) → IsFit m r → IsFit m s →
+      value_word (called_spelling m r) r n ≡ value_word (called_spelling m s) s k →
+      type_identity m.types r ≡ type_identity m.types s
+  types_agree r s n k p q e =
+      numbers_by_words m (are m info accepted distinguished) r s p q (one_type r s n k p q e)
+
+  -- ---- a zero value
+  pub zeros_agree : (x y : Signature) → IsOfZero m info x → IsOfZero m info y → x.word ≡ y.word →
+      x.result ≡ y.result
+  zeros_agree x y a b word =
+      a.result
+      ∙ (values_by_numbers m (are m info accepted distinguished) (Handle a.ty) (Handle b.ty) tt tt
+      (types_agree (Handle a.ty) (Handle b.ty) 0 0 tt tt
+      (spelled_word _ _ (sym a.word ∙ (word ∙ b.word))))
+      ∙ sym b.result)
+    where
+      spelled_word : (v w : List ℕ) → Spelled v ≡ Spelled w → v ≡ w
+      spelled_word v w e = cc
+
+  -- an expression of a type by its word, and a zero value
+  pub value_and_zero : {x y : Signature} (a : IsOfExpression m info x) (b : IsOfZero m info y)
+      (r : TypeResolution) (n : ℕ) → IsFit m r →
+      wanted_type m a.function a.group.known a.expression ≡ LikeThis r →
+      value_word (called_spelling m r) r n
+      ≡ value_word (called_spelling m (Handle b.ty)) (Handle b.ty) 0 →
+      x.result ≡ y.result
+  value_and_zero a b r n fit wanted e =
+      let own = own_type m info accepted distinguished a in
+      a.result
+      ∙ (value_is m info a.group.known a.handle own.0 own.1
+      ∙ (values_by_numbers m (are m info accepted distinguished) own.0 (Handle b.ty)
+      (a.sound.fits a.handle own.0 own.1) tt
+      (sym (ap (λ o. option_map_or (type_identity m.types) o []) own.1)
+      ∙ (own_is m info accepted distinguished a r wanted
+      ∙ types_agree r (Handle b.ty) n 0 fit tt e))
+      ∙ sym b.result))
 
   -- ---- two of one word
   module _ {x y : Signature} (a : IsOfExpression m info x) (b : IsOfExpression m info y) where

@@ -1,5 +1,5 @@
--- Trees of the module's own expressions, computed over those of their operands: what holds of each tree
--- that is made of such trees holds of each of them; and what is written out is computed as it is
+-- Trees of the module's own expressions, computed over those of their operands: what holds of each
+-- tree that is made of such trees holds of each of them; and what has a form is computed as it is
 -- written.
 use Rattle.std.proofs.Common.{◌≡◌, ℕ, Bool, true, false, List, [], ◌∷◌, Option, Some, None, refl, subst}
 use Rattle.std.specs.List.{AllByRecursion}
@@ -19,7 +19,6 @@ use Rattle.module_meaning.specs.ExpressionShapes.{operated, over_two, part_selec
 use Rattle.module_meaning.specs.ExpressionShapes.{part_tree, picked, swizzle_letters, tree_over}
 use Rattle.module_meaning.specs.ExpressionShapes.{tree_then, trees, trees_of, typed_tree}
 use Rattle.module_meaning.specs.OperatorTable.{Operator, asks, run_word}
-use Rattle.module_meaning.specs.Writable.{written_out_over}
 use Rattle.shader_runs.specs.Program.{ConstantTree, Constructed, Indexing, Picking, Joining}
 use Rattle.shader_runs.specs.Program.{ConstantTrees, no_constant, constant}
 use Rattle.shader_runs.specs.Value.{MemberNamed, Selector, ShortCircuit, ShortCircuitAnd}
@@ -129,20 +128,8 @@ module _ (d : Declared) (tree_of : ℕ → Option ConstantTree) (Q : ConstantTre
   of_computed h e written all word t is =
       of_operator h (expression_operands e) all (applied_operator d.context e) word t is
 
--- ---- what is written out
+-- ---- what has a form
 -- it is computed as it is written
-pub computed_as_written : (d : Declared) (tree_of : ℕ → Option ConstantTree) (h : ℕ)
-    (may : ℕ → Bool) (e : Expression) → written_out_over may e ≡ true →
-    computed_over d tree_of h e ≡ tree_over d tree_of h e
-computed_as_written d tree_of h may (expression.Literal value) is = refl
-computed_as_written d tree_of h may (expression.Constant handle) is = refl
-computed_as_written d tree_of h may (expression.Override handle) is = refl
-computed_as_written d tree_of h may (expression.ZeroValue ty) is = refl
-computed_as_written d tree_of h may (expression.Compose ty components) is = refl
-computed_as_written d tree_of h may (expression.Splat size value) is = refl
-computed_as_written d tree_of h may _ is = absurd cc
-
--- and so is what has a form
 pub computed_as_formed : (m : Module) (d : Declared) (tree_of : ℕ → Option ConstantTree) (h : ℕ)
     (own : ℕ → Bool) (e : Expression) → global_is_written_over m own e ≡ true →
     computed_over d tree_of h e ≡ tree_over d tree_of h e

@@ -2,7 +2,7 @@
 -- spelled is of expressions, and what expressions spell alike is of types alike. So there is a
 -- meaning that keeps the types.
 use Rattle.module_meaning.specs.Names.{ItemsAreDistinguished}
-use Rattle.std.proofs.Common.{◌≡◌, ℕ, Some, slice_get, sym, subst}
+use Rattle.std.proofs.Common.{◌≡◌, ◌⊎◌, ℕ, Some, slice_get, sym, subst}
 use Rattle.std.specs.Prelude.{IsTrue}
 use Rattle.naga_ir.specs.declared.module.Module as ir_module
 use Rattle.naga_info.specs.declared.info.ModuleInfo.{ModuleInfo}
@@ -11,14 +11,14 @@ use Rattle.module_meaning.specs.Meanings.{OperatorsAreConsistent, HasTypedMeanin
 use Rattle.module_meaning.specs.ModuleShapes.{module_shape}
 use Rattle.shader_runs.specs.Program.{Function, expression_of, handle_type}
 use Rattle.shader_runs.specs.Typing.{Signature, IsSpelled, LeafTreesFit, PartsFit}
-use Rattle.naga_form.proofs.AgreeingSignatures.{signatures_agree}
+use Rattle.naga_form.proofs.AgreeingSignatures.{all_agree}
 use Rattle.naga_form.proofs.ConstantInitialisers.{initialiser_fits, initialiser_spelled}
 use Rattle.naga_form.proofs.ConstantInitialisers.{tree_fits, tree_spelled}
 use Rattle.naga_form.proofs.LeafTrees.{leaf_trees_fit}
 use Rattle.naga_form.proofs.PartsFit.{parts_fit}
 use Rattle.shader_runs.proofs.Typing.{has_typed_meaning}
 use Rattle.naga_form.proofs.ModulePlaces.{function_at}
-use Rattle.naga_form.proofs.Signatures.{IsOfExpression}
+use Rattle.naga_form.proofs.Signatures.{IsOfExpression, IsOfZero}
 use Rattle.naga_form.proofs.SpelledSignatures.{of_spelled}
 
 module _ (m : ir_module.Module) (info : ModuleInfo) (accepted : IsTrue (is_accepted m info)) (distinguished : ItemsAreDistinguished m) where
@@ -38,13 +38,15 @@ module _ (m : ir_module.Module) (info : ModuleInfo) (accepted : IsTrue (is_accep
       subst (λ f. LeafTreesFit (module_shape m info) (expression_of f h)) (sym k.same)
       (leaf_trees_fit m info (tree_fits m info accepted distinguished.types) k.function k.known k.sound h)
 
-  -- what is spelled is of an expression
-  spelled : (x : Signature) → IsSpelled (module_shape m info) x → IsOfExpression m info x
+  -- what is spelled is of an expression, or of a zero value
+  spelled : (x : Signature) → IsSpelled (module_shape m info) x →
+      IsOfExpression m info x ⊎ IsOfZero m info x
   spelled = of_spelled m info (tree_spelled m info accepted distinguished.types) accepted distinguished.types (initialiser_spelled m info accepted distinguished.types)
 
   pub consistent : OperatorsAreConsistent m info
   consistent = record {
-    alike = λ x y is_x is_y. signatures_agree m info accepted distinguished x y (spelled x is_x) (spelled y is_y);
+    alike = λ x y is_x is_y.
+        all_agree m info accepted distinguished x y (spelled x is_x) (spelled y is_y);
     parts = parts;
     constants = constants;
     initialisers = initialiser_fits m info accepted distinguished.types;

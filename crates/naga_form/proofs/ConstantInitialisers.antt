@@ -1,10 +1,10 @@
 -- What the program of shapes of an accepted module has for its constants: the trees of a group and
--- the initialisers of the named constants spell signatures of expressions, and name what is there.
--- A tree has its expression's type; an initialiser has its constant's, where it has a tree.
+-- the initialisers of the named constants spell signatures of expressions, or of the zero value
+-- that one without a tree counts as, and name what is there. A tree has its expression's type, and
+-- an initialiser its constant's.
 use Rattle.module_meaning.specs.Names.{TypesAreDistinguished}
-use Rattle.shader_runs.proofs.Typing.{no_signature}
 use Rattle.std.proofs.Common.{◌≡◌, ℕ, zero, suc, Bool, true, false, List, [], ◌∷◌, refl, sym, ap, ◌∙◌, subst}
-use Rattle.std.proofs.Common.{Option, Some, None, slice_get, if◌then◌else◌}
+use Rattle.std.proofs.Common.{Option, Some, None, ◌⊎◌, inl, inr, slice_get, if◌then◌else◌}
 use Rattle.std.specs.List.{filter}
 use Rattle.std.specs.Prelude.{IsTrue, unwrap_or}
 use Rattle.std.proofs.lemmas.Option.{same_Some, slice_get-map}
@@ -14,21 +14,23 @@ use Rattle.naga_ir.specs.declared.module.Module.{Module}
 use Rattle.naga_info.specs.declared.info.ModuleInfo.{ModuleInfo}
 use Rattle.naga_info.specs.declared.info.TypeResolution.TheVariants.{Handle}
 use Rattle.naga_info.proofs.Options.{map_some}
-use Rattle.shader_runs.specs.Program.{ConstantTree, Fixed}
+use Rattle.shader_runs.specs.Program.{ConstantTree}
 use Rattle.shader_runs.specs.Premises.{constant_type, ConstantInRange}
 use Rattle.shader_runs.specs.Typing.{Signature, constant_signatures, IsOneOf, TreeFits}
-use Rattle.shader_runs.specs.Value.{Truth, type_at}
+use Rattle.shader_runs.specs.Value.{Spelled, type_at}
 use Rattle.module_meaning.specs.Accepted.{is_accepted}
 use Rattle.module_meaning.specs.AgreeingOperators.{Group}
 use Rattle.module_meaning.specs.ExpressionShapes.{constant_tree}
 use Rattle.module_meaning.specs.ModuleShapes.{module_shape, named_constants, initialiser}
-use Rattle.module_meaning.specs.ExpressionContexts.{global_tree}
+use Rattle.module_meaning.specs.ExpressionContexts.{expression_context, global_tree, zero_of_type}
+use Rattle.module_meaning.specs.ExpressionOperators.{constructor}
+use Rattle.module_meaning.specs.OperatorTable.{run_word}
 use Rattle.module_meaning.specs.Types.{type_of_values}
 use Rattle.naga_form.proofs.AcceptedGroups.{IsSoundGroup}
 use Rattle.naga_form.proofs.AgreeingUses.{value_at}
 use Rattle.naga_form.proofs.ConstantTrees.{IsTreeOf, trees_are, initialiser_is}
 use Rattle.naga_form.proofs.NamedConstants.{is_named, place_typed}
-use Rattle.naga_form.proofs.Signatures.{declared_for, IsOfExpression}
+use Rattle.naga_form.proofs.Signatures.{declared_for, only_signature, IsOfExpression, IsOfZero}
 
 -- a named constant is one of all, and has a name
 abbrev IsNamedOf : List Constant → Constant → Type 0
@@ -83,44 +85,74 @@ module _ (m : Module) (info : ModuleInfo) (accepted : IsTrue (is_accepted m info
       let all = named_stands m.constants i found.0 found.1 in
       record { constant = found.0; named = found.1; handle = all.0; there = all.1; is = found.2 }
 
-  -- what holds of each tree of the constant's type and of `false` holds of the initialiser
-  initialiser_by : (P : ConstantTree → Type 0) → P (Fixed (Truth false)) → (h : ℕ) (c : Constant) → slice_get m.constants h ≡ Some c →
-      ((t : ConstantTree) → IsTreeOf m info (type_of_values m (Handle c.ty)) t → P t) → P (initialiser m info c)
-  initialiser_by P none h c at some = by (global_tree m info c.init) refl
+  -- what holds of each tree of the constant's type and of the zero value holds of the initialiser
+  initialiser_by : (P : ConstantTree → Type 0) (h : ℕ) (c : Constant) →
+      slice_get m.constants h ≡ Some c → P (zero_of_type m c.ty) →
+      ((t : ConstantTree) → IsTreeOf m info (type_of_values m (Handle c.ty)) t → P t) →
+      P (initialiser m info c)
+  initialiser_by P h c at of_zero some = by (global_tree m info c.init) refl
     where
-      by : (o : Option ConstantTree) → global_tree m info c.init ≡ o → P (unwrap_or o (Fixed (Truth false)))
-      by None found = none
+      by : (o : Option ConstantTree) → global_tree m info c.init ≡ o →
+          P (unwrap_or o (zero_of_type m c.ty))
+      by None found = of_zero
       by (Some t) found = some t (initialiser_is m info accepted distinguished h c at t found)
 
-  pub initialiser_spelled : (i : ℕ) (e : ConstantTree) → slice_get (module_shape m info).initialisers i ≡ Some e →
-      (x : Signature) → IsOneOf x (constant_signatures (module_shape m info) e) → IsOfExpression m info x
+  -- what the zero value of a type spells
+  zero_spelled : (ty : ℕ) (x : Signature) →
+      IsOneOf x (constant_signatures (module_shape m info) (zero_of_type m ty)) → IsOfZero m info x
+  zero_spelled ty x one =
+      let same =
+      only_signature x
+      (record {
+        word = Spelled (run_word (constructor (expression_context m (λ h. None)) (Handle ty) 0));
+        operands = [];
+        result = type_of_values m (Handle ty);
+      }) one in
+      record {
+        ty = ty;
+        word = ap (λ y. y.word) same;
+        operands = ap (λ y. y.operands) same;
+        result = ap (λ y. y.result) same;
+      }
+
+  -- if a tree spells it, it is of an expression or of a zero value
+  abbrev Told : Signature → ConstantTree → Type 0
+  Told x t =
+      IsOneOf x (constant_signatures (module_shape m info) t) →
+      IsOfExpression m info x ⊎ IsOfZero m info x
+
+  pub initialiser_spelled : (i : ℕ) (e : ConstantTree) →
+      slice_get (module_shape m info).initialisers i ≡ Some e →
+      (x : Signature) → IsOneOf x (constant_signatures (module_shape m info) e) →
+      IsOfExpression m info x ⊎ IsOfZero m info x
   initialiser_spelled i e at x =
       let k = initialiser_of i e at in
-      subst (λ t. IsOneOf x (constant_signatures (module_shape m info) t) → IsOfExpression m info x) k.is
-      (initialiser_by (λ t. IsOneOf x (constant_signatures (module_shape m info) t) → IsOfExpression m info x) (λ one. absurd (no_signature x one)) k.handle k.constant k.there (λ t is. is.spelled x))
+      subst (Told x) k.is
+      (initialiser_by (Told x) k.handle k.constant k.there
+      (λ one. inr (zero_spelled k.constant.ty x one)) (λ t is one. inl (is.spelled x one)))
 
   pub initialiser_in_range : (i : ℕ) (e : ConstantTree) → slice_get (module_shape m info).initialisers i ≡ Some e → ConstantInRange (module_shape m info) e
   initialiser_in_range i e at =
       let k = initialiser_of i e at in
       subst (ConstantInRange (module_shape m info)) k.is
-      (initialiser_by (ConstantInRange (module_shape m info)) tt k.handle k.constant k.there (λ t is. is.range))
+      (initialiser_by (ConstantInRange (module_shape m info)) k.handle k.constant k.there tt
+      (λ t is. is.range))
 
   pub initialiser_fits : (i : ℕ) (e : ConstantTree) → slice_get (module_shape m info).initialisers i ≡ Some e → TreeFits (module_shape m info) e
   initialiser_fits i e at =
       let k = initialiser_of i e at in
       subst (TreeFits (module_shape m info)) k.is
-      (initialiser_by (TreeFits (module_shape m info)) tt k.handle k.constant k.there (λ t is. is.fits))
+      (initialiser_by (TreeFits (module_shape m info)) k.handle k.constant k.there tt
+      (λ t is. is.fits))
 
-  -- each named constant is computed from a tree
-  abbrev pub HaveTrees : Type 0
-  HaveTrees = (i : ℕ) (c : Constant) → slice_get (named_constants m) i ≡ Some c →
-      (t : ConstantTree) × (global_tree m info c.init ≡ Some t)
-
-  -- then its initialiser has its type
-  pub initialiser_typed : HaveTrees → (i : ℕ) (e : ConstantTree) → slice_get (module_shape m info).initialisers i ≡ Some e →
+  -- it has its constant's type
+  pub initialiser_typed : (i : ℕ) (e : ConstantTree) →
+      slice_get (module_shape m info).initialisers i ≡ Some e →
       type_at (module_shape m info).constant_types i ≡ constant_type (module_shape m info) e
-  initialiser_typed have i e at =
-      let k = initialiser_of i e at in let tree = have i k.constant k.named in
-      let found : initialiser m info k.constant ≡ tree.0 = ap (λ o. unwrap_or o (Fixed (Truth false))) tree.1 in
+  initialiser_typed i e at =
+      let k = initialiser_of i e at in
       place_typed m info i k.constant k.named
-      ∙ (sym (initialiser_is m info accepted distinguished k.handle k.constant k.there tree.0 tree.1).type ∙ ap (constant_type (module_shape m info)) (sym found ∙ k.is))
+      ∙ (initialiser_by
+      (λ t. type_of_values m (Handle k.constant.ty) ≡ constant_type (module_shape m info) t)
+      k.handle k.constant k.there refl (λ t is. sym is.type)
+      ∙ ap (constant_type (module_shape m info)) k.is)

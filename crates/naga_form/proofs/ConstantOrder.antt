@@ -21,7 +21,7 @@ use Rattle.shader_runs.specs.Program.{ConstantTree, Fixed, NamedConstant, Constr
 use Rattle.shader_runs.specs.Program.{Indexing, Picking, Joining}
 use Rattle.shader_runs.specs.Program as program
 use Rattle.shader_runs.specs.Premises.{EachLeaf, EachLeafOf}
-use Rattle.shader_runs.specs.Value.{Value, Truth}
+use Rattle.shader_runs.specs.Value.{Value}
 use Rattle.module_meaning.specs.Accepted.{is_accepted}
 use Rattle.module_meaning.specs.ExpressionOperators.{constructor}
 use Rattle.module_meaning.specs.ExpressionShapes.{Declared, trees, tree_then, trees_of, built, tree_over, computed_over}
@@ -188,6 +188,7 @@ module _ (m : Module) (info : ModuleInfo) where
         let rank : constant_rank i ≡ k.constant.init = ap (λ o. option_map_or (λ c. c.init) o 0) k.named in
         subst (λ n. EachLeaf AnyValue (Before n) e) (sym rank) (subst (EachLeaf AnyValue (Before k.constant.init)) k.is (by k.constant (global_tree m info k.constant.init) refl))
       where
-        by : (c : Constant) (o : Option ConstantTree) → global_tree m info c.init ≡ o → EachLeaf AnyValue (Before c.init) (unwrap_or o (Fixed (Truth false)))
+        by : (c : Constant) (o : Option ConstantTree) → global_tree m info c.init ≡ o →
+            EachLeaf AnyValue (Before c.init) (unwrap_or o (zero_of_type m c.ty))
         by c None found = tt
         by c (Some t) found = globals_before (suc c.init) c.init t found

@@ -1,7 +1,5 @@
--- What is asked of a program's constants holds of the program of shapes of an accepted module whose
--- named constants are computed, where words and names stand apart; and so does what
--- is asked of the constants in its functions, of any accepted module.
-use Rattle.module_meaning.specs.Writable.{AreComputed}
+-- What is asked of a program's constants holds of the program of shapes of an accepted module,
+-- where words and names stand apart; and so does what is asked of the constants in its functions.
 use Rattle.module_meaning.specs.Names.{TypesAreDistinguished}
 use Rattle.std.proofs.Common.{◌≡◌, ℕ, ◌<◌, List, Some, slice_get, length}
 use Rattle.std.specs.Prelude.{IsTrue}
@@ -20,19 +18,19 @@ use Rattle.naga_form.proofs.ConstantInitialisers.{initialiser_in_range, initiali
 use Rattle.naga_form.proofs.ConstantInitialisers.{tree_in_range, tree_typed}
 use Rattle.naga_form.proofs.ConstantOrder.{constant_rank, constants_within_types, initialiser_before}
 use Rattle.naga_form.proofs.Leaves.{ConstantsAreTyped}
-use Rattle.naga_form.proofs.WrittenOut.{have_trees, constant_has_tree, constant_named}
+use Rattle.naga_form.proofs.WrittenOut.{constant_has_tree, constant_named}
 
-pub constants_fit : (m : Module) (info : ModuleInfo) → IsTrue (is_accepted m info) → TypesAreDistinguished m → AreComputed m info → (n : ModuleNames) →
+pub constants_fit : (m : Module) (info : ModuleInfo) → IsTrue (is_accepted m info) →
+    TypesAreDistinguished m → (n : ModuleNames) →
     ((i : ℕ) (e : ConstantTree) → slice_get (module_shape m info).initialisers i ≡ Some e → EachWord (OperatesOutside (module_shape m info) n) e) →
     ((i k : ℕ) → i < length (module_shape m info).constant_types → k < length (module_shape m info).constant_types → n.constant i ≡ n.constant k → i ≡ k) →
     ConstantsFit (module_shape m info) n
-constants_fit m info accepted distinguished out n words distinct = record {
+constants_fit m info accepted distinguished n words distinct = record {
   counted = constants_within_types m info;
   rank = constant_rank m info;
   initialisers = λ i e at. record {
     range = initialiser_in_range m info accepted distinguished i e at;
-    type = initialiser_typed m info accepted distinguished
-        (have_trees m info accepted distinguished out) i e at;
+    type = initialiser_typed m info accepted distinguished i e at;
     words = words i e at;
     before = initialiser_before m info accepted distinguished i e at;
   };

@@ -28,6 +28,7 @@ use Rattle.shader_runs.proofs.ScopeRules.{scope_check_is_the_rules}
 use Rattle.text_meaning.specs.Abstraction.{function_read, program_read}
 use Rattle.module_meaning.specs.Accepted.{is_accepted}
 use Rattle.module_meaning.specs.DeclarationForms.{ItemsHaveForms}
+use Rattle.module_meaning.specs.ExpressionContexts.{declared, types_known}
 use Rattle.module_meaning.specs.FunctionNumbers.{all_functions, all_infos}
 use Rattle.module_meaning.specs.FunctionShapes.{function_shape}
 use Rattle.module_meaning.specs.ModuleShapes.{module_shape}
@@ -42,7 +43,7 @@ use Rattle.naga_form.proofs.AcceptedFunctions.{accepted_at, functions_known, of_
 use Rattle.naga_form.proofs.AcceptedGroups.{declarations_are, types_are_fit}
 use Rattle.naga_form.proofs.DistinguishedItems.{types_are_distinguished}
 use Rattle.naga_form.proofs.FunctionsFit.{IsLeft, Tells, all_distinguished, function_fits, one_more}
-use Rattle.naga_form.proofs.FunctionsFit.{regular_at, shape_numbered, worded_at}
+use Rattle.naga_form.proofs.FunctionsFit.{regular_at, shape_numbered, stand_behind, worded_at}
 use Rattle.naga_form.proofs.ModuleFits.{constants_typed, counts}
 use Rattle.naga_form.proofs.NamedFits.{is_free}
 use Rattle.naga_form.proofs.Ordered.{ordered}
@@ -51,7 +52,7 @@ use Rattle.naga_form.proofs.ScopeRules.{functions_of-map, functions_of_namings}
 use Rattle.naga_form.proofs.Splits.{first_of_more, parted_at, reverse_around, turned_at}
 use Rattle.naga_form.proofs.Splits.{turned_first}
 use Rattle.naga_form.proofs.TextItems.{are_forms, forms, items_fit, program}
-use Rattle.naga_form.proofs.WritableModules.{no_case_falls}
+use Rattle.naga_form.proofs.EmptyCases.{no_case_falls}
 use Rattle.naga_form.proofs.WrittenFunctions.{form_at}
 
 module _ (m : Module) (info : ModuleInfo) (accepted : IsTrue (is_accepted m info)) where
@@ -118,8 +119,8 @@ module _ (m : Module) (info : ModuleInfo) (accepted : IsTrue (is_accepted m info
           outer = free.outer;
           earlier = free.earlier;
           words = free.words;
-          worded = worded_at m info accepted false g f es at own.names (omega arith) free.free
-              (have f es both.0 both.1).statements;
+          worded = worded_at m info accepted g f es at p (function_shape m info f es).body own.names
+              false (omega arith) free.free (have f es both.0 both.1).statements;
           distinct = free.distinct;
           scope = free.scope;
         }
@@ -134,7 +135,8 @@ module _ (m : Module) (info : ModuleInfo) (accepted : IsTrue (is_accepted m info
         let own = function_naming (module_names m) (named g) m info g f es in
         function_fits m info accepted (types_are_distinguished m) g f es at
         (constants_typed m info accepted g f es at)
-        (no_case_falls f.body (have f es both.0 both.1).statements) n own.names callees number tells
+        (no_case_falls (declared m info (types_known es)).context f.body
+        (have f es both.0 both.1).statements) n own.names callees number tells
         (left_at g f es at have scope callees number)
 
     -- ---- the first ones
@@ -317,7 +319,6 @@ module _ (m : Module) (info : ModuleInfo) (accepted : IsTrue (is_accepted m info
         one_fits items =
             let is = accepted_at m info accepted g f es at in
             let both = zip_parts (all_functions m) (all_infos info) g (f, es) at in
-            let statements = (have f es both.0 both.1).statements in
             let first = first_shapes_counted count (omega (arith, few, within)) in
             let callees : first_shapes count ≡ functions_of first_namings = sym shapes_first in
             let before : first_shapes g ≡ uncalled ++ functions_of first_namings =
@@ -333,9 +334,10 @@ module _ (m : Module) (info : ModuleInfo) (accepted : IsTrue (is_accepted m info
               own = subst (λ fs. FunctionFits p n fs own) before fits;
               calls =
                   subst (λ fs. AreRegular p fs own own.function.body) callees
-                  (regular_at m info accepted (types_are_distinguished m) g f es at
-                  (no_case_falls f.body statements) own.names (first_shapes count)
-                  (omega (arith, enough, first)) (first_shapes_tell count) (omega arith)
+                  (regular_at m info accepted g f es at p own.function.body own.names
+                  (types_are_distinguished m) (first_shapes count)
+                  (stand_behind m info accepted is.callees (first_shapes count)
+                  (omega (arith, enough, first)) (first_shapes_tell count)) (omega arith)
                   (left_at g f es at have scope (first_shapes g) before_counted).worded);
               all = first_all_fit;
             }

@@ -1,13 +1,13 @@
--- The program of shapes of an accepted module for which texts are written meets, under free names,
--- what the laws of runs ask. So what these laws say of the module's run alone, that one world keeps
--- its types and that it is never stuck, holds whatever the names of a text are.
+-- The program of shapes of every accepted module in which the rules of scope hold meets, with its
+-- cases unfolded and under free names, what the laws of runs ask. So what these laws say of the
+-- module's run alone, that one world keeps its types and that it is never stuck, holds of it,
+-- whether texts are written for it or not.
 --
--- Acceptance takes modules for which no text is written and which are left out here: those with a
--- named constant whose initialiser is an operation, or with a case that does something and falls through.
-use Rattle.module_meaning.specs.Writable.{AreComputed, OnlyEmptyFall}
+-- Throughout, m is a module and info what is known of it, k is the number of a function f, es is
+-- what is known of its expressions, callees are the functions before it and own its names.
 use Rattle.module_meaning.specs.Names.{TypesAreDistinguished}
 use Rattle.std.proofs.Common.{◌≡◌, ℕ, true, List, [], ◌∷◌, length, Some}
-use Rattle.std.proofs.Common.{refl, sym, ap, subst, slice_get}
+use Rattle.std.proofs.Common.{refl, sym, ap, ◌∙◌, subst, slice_get, arith}
 use Rattle.std.specs.Prelude.{IsTrue}
 use Rattle.naga_ir.specs.declared.module.Function as ir_function
 use Rattle.naga_ir.specs.declared.module.Module as ir_module
@@ -15,24 +15,29 @@ use Rattle.naga_info.specs.declared.info.ExpressionInfo.{ExpressionInfo}
 use Rattle.naga_info.specs.declared.info.ModuleInfo.{ModuleInfo}
 use Rattle.module_meaning.specs.Accepted.{is_accepted}
 use Rattle.module_meaning.specs.FunctionShapes.{function_shape}
-use Rattle.module_meaning.specs.Meanings.{HasTypedWorld}
+use Rattle.module_meaning.specs.Meanings.{HasTypedWorld, NoRunIsStuck}
 use Rattle.module_meaning.specs.ModuleShapes.{module_shape}
 use Rattle.module_meaning.specs.Premises.{EachScopeHolds, ScopesHold}
 use Rattle.shader_runs.specs.Program as shapes
-use Rattle.shader_runs.specs.Program.{ConstantTree, function_numbered}
-use Rattle.shader_runs.specs.World.{World, Meaning, Event, Settings}
-use Rattle.shader_runs.specs.Value.{Value, has_types}
-use Rattle.shader_runs.specs.Constants.{run_module}
-use Rattle.shader_runs.specs.Premises.{AllFit, EachWord, IsTyped, SettingsFit, OperatesOutside}
-use Rattle.shader_runs.specs.Correct.{ModuleFits}
+use Rattle.shader_runs.specs.Program.{ConstantTree, handle_type, expression_of}
+use Rattle.shader_runs.specs.World.{Settings}
+use Rattle.shader_runs.specs.Correct.{KeepsTypes, ModuleFits}
+use Rattle.shader_runs.specs.Form.{functions_of}
+use Rattle.shader_runs.specs.Premises.{AllFit, AreRegular, ConstantsFit, EachWord, FunctionFits}
+use Rattle.shader_runs.specs.Premises.{OperatesOutside, SettingsFit}
 use Rattle.shader_runs.specs.Progress.{IsNotStuck}
-use Rattle.shader_runs.specs.Results.{ResultsAreReturnedIn}
+use Rattle.shader_runs.specs.Results.{AllRegular, ResultsAreReturnedIn}
 use Rattle.shader_runs.specs.Scope.{ModuleNames, Names, Naming}
 use Rattle.shader_runs.specs.ScopeRules.{ScopeHolds}
 use Rattle.shader_runs.proofs.Progress.{runs_are_not_stuck}
 use Rattle.shader_runs.proofs.Results.{results_are_returned}
 use Rattle.shader_runs.proofs.ScopeRules.{scope_check_is_the_rules}
 use Rattle.shader_runs.proofs.OneWorld.{has_typed_world}
+use Rattle.shader_runs.proofs.Unfolded.{module_unfolded, typed_unfolded, unfolded_all}
+use Rattle.shader_runs.proofs.Unfolded.{unfolded_counted, unfolded_function, unfolded_functions}
+use Rattle.shader_runs.proofs.Unfolded.{unfolded_module, unfolded_numbered}
+use Rattle.shader_runs.proofs.UnfoldedRules.{constants_unfolded, leaf_unfolded, none_falls}
+use Rattle.shader_runs.proofs.UnfoldedRules.{regular_unfolded, scope_unfolded, well_unfolded}
 use Rattle.naga_form.proofs.AcceptedFunctions.{functions_known, accepted_at, group_at}
 use Rattle.naga_form.proofs.AcceptedGroups.{types_are_counted}
 use Rattle.naga_form.proofs.ConstantInitialisers.{initialiser_of}
@@ -41,16 +46,22 @@ use Rattle.naga_form.proofs.FreeNames.{free_names, free_naming, freely_named, fr
 use Rattle.naga_form.proofs.FreeNames.{free_within, free_distinct, free_functions_distinct}
 use Rattle.naga_form.proofs.FreeNames.{free_constants_distinct, function_not_hidden}
 use Rattle.naga_form.proofs.FreeWords.{free_request}
-use Rattle.naga_form.proofs.FunctionsFit.{AllBehind, IsFree, Tells, all_from, all_distinguished}
-use Rattle.naga_form.proofs.FunctionsFit.{all_fit_freely, named, shape_numbered}
+use Rattle.naga_form.proofs.FunctionsFit.{AllBehind, Tells, all_from, all_distinguished, named}
+use Rattle.naga_form.proofs.FunctionsFit.{regular_at, shape_numbered, stand_behind, worded_at}
+use Rattle.naga_form.proofs.Leaves.{leaves}
 use Rattle.naga_form.proofs.Ordered.{ordered}
+use Rattle.naga_form.proofs.Regular.{StandBehind}
 use Rattle.naga_form.proofs.ShapeWords.{function_words, initialiser_words_outside, operator_asks}
 use Rattle.naga_form.proofs.WellFormed.{all_well_formed}
-use Rattle.naga_form.proofs.WritableModules.{only_at}
+use Rattle.naga_form.proofs.Worded.{AsksFreely}
 
-module _ (m : ir_module.Module) (info : ModuleInfo) (accepted : IsTrue (is_accepted m info)) (distinguished : TypesAreDistinguished m) where
+module _ (m : ir_module.Module) (info : ModuleInfo) (accepted : IsTrue (is_accepted m info))
+    (distinguished : TypesAreDistinguished m) where
   abbrev pub program : shapes.Module
   program = module_shape m info
+
+  abbrev pub unfolded : shapes.Module
+  unfolded = unfolded_module program
 
   abbrev pub names : ModuleNames
   names = free_names free_request
@@ -58,7 +69,109 @@ module _ (m : ir_module.Module) (info : ModuleInfo) (accepted : IsTrue (is_accep
   abbrev pub namings : List Naming
   namings = free_naming free_request program.functions
 
-  -- ---- functions
+  -- ---- one function, behind these, whatever its body is
+  module _ (k : ℕ) (f : ir_function.Function) (es : List ExpressionInfo)
+      (at : slice_get (functions_known m info) k ≡ Some (f, es)) (q : shapes.Module)
+      (body : shapes.Statements) where
+    abbrev shape : shapes.Function
+    shape = record (function_shape m info f es) { body = body }
+
+    abbrev own : Naming
+    own = freely_named free_request k shape
+
+    -- all words ask for events
+    all_ask : AsksFreely true q own
+    all_ask = record {
+      operators = λ op has does sound.
+          operator_asks m info (types_are_counted m info accepted distinguished) q shape k op sound
+          does;
+      callees = λ g lt. function_not_hidden free_request q k shape g;
+    }
+
+    regular_freely : (callees : List shapes.Function) →
+        StandBehind m info (accepted_at m info accepted k f es at).callees callees →
+        AreRegular q callees own (function_shape m info f es).body
+    regular_freely callees behind =
+        regular_at m info accepted k f es at q body own.names distinguished callees behind
+        (omega arith)
+        (worded_at m info accepted k f es at q body own.names true (omega arith) all_ask refl)
+
+  -- so many callees of the module stand behind it, and so they do with their cases unfolded
+  all_behind : (k : ℕ) (f : ir_function.Function) (es : List ExpressionInfo)
+      (at : slice_get (functions_known m info) k ≡ Some (f, es)) (callees : List shapes.Function) →
+      length callees ≡ k → Tells (shape_numbered m info accepted) callees →
+      StandBehind m info (accepted_at m info accepted k f es at).callees callees
+  all_behind k f es at callees number tells =
+      let is = accepted_at m info accepted k f es at in
+      let before = is.before in
+      stand_behind m info accepted is.callees callees (omega (arith, before, number)) tells
+
+  behind_unfolded : (count : ℕ) (callees : List shapes.Function) →
+      StandBehind m info count callees → StandBehind m info count (unfolded_functions callees)
+  behind_unfolded count callees behind = record {
+    shape_of_callee = λ g f lt there.
+        let one = behind.shape_of_callee g f lt there in
+        (one.0, unfolded_all one.1, unfolded_numbered callees g _ one.2);
+  }
+
+  -- ---- results
+  -- the statements of each function are regular
+  named_freely : (fs : List shapes.Function) →
+      AllBehind (λ callees f. f.names ≡ free_within free_request (length callees))
+      (free_naming free_request fs)
+  named_freely [] = tt
+  named_freely (f ∷ fs) =
+      let counted = ap (λ gs. free_within free_request (length gs)) (sym (free_functions free_request fs)) in
+      (counted, named_freely fs)
+
+  each_regular : (k : ℕ) (f : ir_function.Function) (es : List ExpressionInfo) →
+      slice_get (functions_known m info) k ≡ Some (f, es) → (own : Names)
+      (callees : List shapes.Function) → length callees ≡ k →
+      Tells (shape_numbered m info accepted) callees →
+      own ≡ free_within free_request (length callees) →
+      AreRegular program callees (named (function_shape m info f es) own)
+      (function_shape m info f es).body
+  each_regular k f es at own callees number tells is =
+      subst (λ own. AreRegular program callees (named (function_shape m info f es) own)
+      (function_shape m info f es).body) (ap (free_within free_request) (sym number) ∙ sym is)
+      (regular_freely k f es at program (function_shape m info f es).body callees
+      (all_behind k f es at callees number tells))
+
+  regular_of : (fs : List Naming) →
+      AllBehind (λ callees f. AreRegular program callees f f.function.body) fs →
+      AllRegular program fs
+  regular_of [] all = tt
+  regular_of (f ∷ fs) all = (all.0, regular_of fs all.1)
+
+  tells : Tells (shape_numbered m info accepted) (functions_of namings)
+  tells =
+      subst (Tells (shape_numbered m info accepted))
+      (sym (free_functions free_request program.functions)) (all_distinguished m info accepted)
+
+  -- no call misses a result that its callee returns on all paths
+  pub gives_results : ResultsAreReturnedIn program
+  gives_results =
+      results_are_returned program namings (free_functions free_request program.functions)
+      (regular_of namings
+      (all_from m info accepted (λ callees f. f.names ≡ free_within free_request (length callees))
+      (λ callees f. AreRegular program callees f f.function.body) each_regular namings tells
+      (named_freely program.functions)))
+
+  -- ---- constants
+  initialiser_operates : (i : ℕ) (e : ConstantTree) → slice_get program.initialisers i ≡ Some e →
+      EachWord (OperatesOutside program names) e
+  initialiser_operates i e at =
+      let found = initialiser_of m info accepted distinguished i e at in
+      subst (EachWord (OperatesOutside program names)) found.is
+      (initialiser_words_outside m info (types_are_counted m info accepted distinguished) program
+      found.constant)
+
+  constants : ConstantsFit program names
+  constants =
+      constants_fit m info accepted distinguished names initialiser_operates
+      (free_constants_distinct free_request program)
+
+  -- ---- functions, with their cases unfolded
   -- named freely behind these, and its scope holds
   abbrev IsLeftlyNamed : List shapes.Function → Naming → Type 0
   IsLeftlyNamed callees f =
@@ -72,82 +185,102 @@ module _ (m : ir_module.Module) (info : ModuleInfo) (accepted : IsTrue (is_accep
     are_freely_named fs scopes.1,
   )
 
-  -- what acceptance leaves of one function
-  is_left : (k : ℕ) (f : ir_function.Function) (es : List ExpressionInfo) →
+  abbrev unfolded_naming : Naming → Naming
+  unfolded_naming f = named (unfolded_function f.function) f.names
+
+  abbrev unfolded_namings : List Naming → List Naming
+  unfolded_namings [] = []
+  unfolded_namings (f ∷ fs) = unfolded_naming f ∷ unfolded_namings fs
+
+  functions_unfolded : (fs : List Naming) →
+      functions_of (unfolded_namings fs) ≡ unfolded_functions (functions_of fs)
+  functions_unfolded [] = refl
+  functions_unfolded (f ∷ fs) = ap (λ gs. unfolded_function f.function ∷ gs) (functions_unfolded fs)
+
+  abbrev FitsUnfolded : List shapes.Function → Naming → Type 0
+  FitsUnfolded callees f =
+      FunctionFits unfolded names (unfolded_functions callees) (unfolded_naming f)
+
+  fits_unfolded : (k : ℕ) (f : ir_function.Function) (es : List ExpressionInfo) →
       slice_get (functions_known m info) k ≡ Some (f, es) → (own : Names)
       (callees : List shapes.Function) → length callees ≡ k →
       Tells (shape_numbered m info accepted) callees →
       IsLeftlyNamed callees (named (function_shape m info f es) own) →
-      IsFree true program names callees (named (function_shape m info f es) own)
-  is_left k f es at own callees number tells is =
-      let count = length callees in
+      FitsUnfolded callees (named (function_shape m info f es) own)
+  fits_unfolded k f es at own callees number tells is =
       let shape = function_shape m info f es in
-      let own = freely_named free_request count shape in
+      let body = unfolded_all shape.body in
       let types = types_are_counted m info accepted distinguished in
+      let group = group_at m info accepted k f es at in
       let this = accepted_at m info accepted k f es at in
-      subst (λ own. IsFree true program names callees (named shape own)) (sym is.0)
+      let stands = ordered m info this.callees f es this.ranges in
+      subst (λ own. FitsUnfolded callees (named shape own))
+      (ap (free_within free_request) (sym number) ∙ sym is.0)
       (record {
         outer = refl;
-        earlier = refl;
-        words = function_words m info types program f es count;
-        free = record {
-          operators = λ op has does sound. operator_asks m info types program shape count op sound does;
-          callees = λ g lt. function_not_hidden free_request program count shape g;
-        };
-        distinct = free_distinct free_request program count shape;
-        scope = (scope_check_is_the_rules own (ordered m info this.callees f es this.ranges)).1
-            is.1;
+        earlier = sym (unfolded_counted callees ∙ number);
+        ordered = stands;
+        words = function_words m info types unfolded f es body k;
+        leaves = λ h. leaf_unfolded program shape (handle_type shape h) (expression_of shape h)
+            (leaves m info f es types group
+            (constants_are_typed m info accepted distinguished f es group) h);
+        regular = regular_unfolded unfolded (unfolded_functions callees)
+            (freely_named free_request k (unfolded_function shape)) shape.body
+            (regular_freely k f es at unfolded body (unfolded_functions callees)
+            (behind_unfolded this.callees callees (all_behind k f es at callees number tells)));
+        cases = none_falls shape.body;
+        distinct = free_distinct free_request unfolded k (unfolded_function shape);
+        scope = (scope_check_is_the_rules
+            (freely_named free_request k (unfolded_function shape)) stands).1
+            (scope_unfolded shape is.1);
       })
 
-  -- ---- constants
-  initialiser_operates : (i : ℕ) (e : ConstantTree) → slice_get program.initialisers i ≡ Some e →
-      EachWord (OperatesOutside program names) e
-  initialiser_operates i e at =
-      let found = initialiser_of m info accepted distinguished i e at in
-      subst (EachWord (OperatesOutside program names)) found.is
-      (initialiser_words_outside m info (types_are_counted m info accepted distinguished) program found.constant)
+  fit_unfolded : (fs : List Naming) → AllBehind FitsUnfolded fs →
+      AllFit unfolded names (unfolded_namings fs)
+  fit_unfolded [] all = tt
+  fit_unfolded (f ∷ fs) all = (
+    subst (λ callees. FunctionFits unfolded names callees (unfolded_naming f))
+        (sym (functions_unfolded fs)) all.0,
+    fit_unfolded fs all.1,
+  )
 
   -- ---- the module
-  module _ (written : AreComputed m info) (falls : OnlyEmptyFall m) (scopes : ScopesHold m info) where
-    functions_fit : AllFit program names namings
-    functions_fit =
-        all_fit_freely m info accepted distinguished
-        (λ k f es at.
-        constants_are_typed m info accepted distinguished f es
-        (group_at m info accepted k f es at))
-        (only_at m info accepted falls) names namings (free_functions free_request program.functions) true
-        (λ k f es at. refl)
-        (all_from m info accepted IsLeftlyNamed (IsFree true program names) is_left namings
-        (subst (Tells (shape_numbered m info accepted))
-        (sym (free_functions free_request program.functions)) (all_distinguished m info accepted))
-        (are_freely_named program.functions scopes))
-
-    -- under free names it meets what the laws of runs ask
-    pub module_fits_freely : ModuleFits program names namings
-    module_fits_freely = record {
-      functions = free_functions free_request program.functions;
-      distinct = free_functions_distinct free_request program;
-      constants = constants_fit m info accepted distinguished written names initialiser_operates
-          (free_constants_distinct free_request program);
-      all = functions_fit;
+  module _ (scopes : ScopesHold m info) where
+    -- unfolded and under free names it meets what the laws of runs ask
+    fits_freely : ModuleFits unfolded names (unfolded_namings namings)
+    fits_freely = record {
+      functions = functions_unfolded namings
+          ∙ ap unfolded_functions (free_functions free_request program.functions);
+      distinct = free_functions_distinct free_request unfolded;
+      constants = constants_unfolded program names constants;
+      all = fit_unfolded namings
+          (all_from m info accepted IsLeftlyNamed FitsUnfolded fits_unfolded namings tells
+          (are_freely_named program.functions scopes));
     }
+
+    settings_unfolded : (settings : Settings) → SettingsFit program settings →
+        SettingsFit unfolded settings
+    settings_unfolded settings fit = record { overrides = fit.overrides; globals = fit.globals }
 
     -- one world keeps the types
     pub has_world : HasTypedWorld m info
-    has_world = has_typed_world program names namings module_fits_freely
-
-    -- no call misses a result that its callee returns on all paths
-    pub gives_results : ResultsAreReturnedIn program
-    gives_results = results_are_returned program names namings module_fits_freely
+    has_world settings fit meaning typed =
+        let found =
+        has_typed_world unfolded names (unfolded_namings namings) fits_freely settings
+        (settings_unfolded settings fit) meaning (typed_unfolded program meaning typed) in (
+          found.0,
+          λ turns g f there arguments have past.
+              subst KeepsTypes (module_unfolded program settings meaning found.0 turns g arguments past)
+              (found.1 turns g (unfolded_function f) (unfolded_numbered program.functions g f there)
+              arguments have past),
+        )
 
     -- no run of the module is stuck
-    pub never_stuck : (settings : Settings) → SettingsFit program settings → (meaning : Meaning) →
-        IsTyped program meaning → (g : ℕ) (f : shapes.Function) →
-        function_numbered program.functions g ≡ Some f → (arguments : List Value) →
-        IsTrue (has_types program.parts f.argument_types arguments) →
-        (world : World) (turns : ℕ) (past : List Event) →
-        IsNotStuck (run_module program settings world meaning turns g arguments past)
+    pub never_stuck : NoRunIsStuck m info
     never_stuck settings fit meaning typed g f found arguments have world turns past =
-        (runs_are_not_stuck program names namings module_fits_freely
-        (all_well_formed m info accepted) settings fit meaning typed g f found arguments have world
+        subst IsNotStuck (module_unfolded program settings meaning world turns g arguments past)
+        (runs_are_not_stuck unfolded names (unfolded_namings namings) fits_freely
+        (well_unfolded program.functions (all_well_formed m info accepted)) settings
+        (settings_unfolded settings fit) meaning (typed_unfolded program meaning typed) g
+        (unfolded_function f) (unfolded_numbered program.functions g f found) arguments have world
         turns past).0

@@ -2,7 +2,6 @@
 -- their operands stand before, leaves have their types and statements are regular. What is left is
 -- said of names, words, constants and scope.
 use Rattle.module_meaning.specs.StatementForms.{block_has_forms}
-use Rattle.module_meaning.specs.Writable.{only_empty_fall}
 use Rattle.module_meaning.specs.Names.{TypesAreDistinguished}
 use Rattle.std.proofs.Common.{◌≡◌, ℕ, suc, ◌<◌, ◌≤◌, ◌+◌, ◌||◌, Bool, true, false, List, [], ◌∷◌}
 use Rattle.std.proofs.Common.{Option, Some, refl, sym, ap, ◌∙◌, subst, slice_get, length, map}
@@ -23,6 +22,7 @@ use Rattle.module_meaning.specs.ModuleShapes.{module_shape}
 use Rattle.module_meaning.specs.ExpressionContexts.{declared, types_known}
 use Rattle.shader_runs.specs.Form.{functions_of}
 use Rattle.shader_runs.specs.Premises.{FunctionFits, AllFit, WordFits, AreDistinct, AreRegular}
+use Rattle.shader_runs.specs.Premises.{OnlyEmptyFallIn}
 use Rattle.shader_runs.specs.Program as shapes
 use Rattle.shader_runs.specs.Program.{expression_of, function_numbered}
 use Rattle.shader_runs.specs.Scope.{ModuleNames, Names, Naming, fits_function}
@@ -130,48 +130,49 @@ module _ (m : Module) (info : ModuleInfo) (accepted : IsTrue (is_accepted m info
     shape_of_callee = λ g f lt there.
         let known = function_there m info accepted g f (function_among m g f there) in (
           known.0,
+          (function_shape m info f known.0).body,
           tells g (omega (arith, lt, le)) ∙
               (slice_get-map (λ p. function_shape m info p.0 p.1) (functions_known m info) g ∙
               ap (option_map (λ p. function_shape m info p.0 p.1)) known.1),
         );
   }
 
-  -- ---- one function, behind those before it
-  -- its words ask for events, where each statement has a form or all words ask
-  pub worded_at : (all : Bool) (k : ℕ) (f : Function) (es : List ExpressionInfo) →
-      slice_get (functions_known m info) k ≡ Some (f, es) → (names : Names) → k ≤ names.earlier →
-      let own = named (function_shape m info f es) names in
-      AsksFreely all p own → (all || block_has_forms f.body) ≡ true →
-      AreWorded p own own.function.body
-  worded_at all k f es at names earlier free has =
-      let is = accepted_at m info accepted k f es at in
-      let before = is.before in
-      worded all p (named (function_shape m info f es) names) free
-      (declared m info (types_known es)).context is.callees (length f.expressions)
-      (omega (arith, before, earlier)) f.body (ranges_are m is.callees f is.ranges).1 has
+  -- ---- one function, behind those before it, in any module and whatever its body is
+  module _ (k : ℕ) (f : Function) (es : List ExpressionInfo)
+      (at : slice_get (functions_known m info) k ≡ Some (f, es)) (q : shapes.Module)
+      (body : shapes.Statements) (names : Names) where
+    abbrev own : Naming
+    own = named (record (function_shape m info f es) { body = body }) names
 
-  -- its statements are regular
-  pub regular_at : TypesAreDistinguished m → (k : ℕ) (f : Function) (es : List ExpressionInfo) →
-      (at : slice_get (functions_known m info) k ≡ Some (f, es)) → only_empty_fall f.body ≡ true →
-      (names : Names) (callees : List shapes.Function) →
-      (accepted_at m info accepted k f es at).callees ≤ length callees →
-      Tells shape_numbered callees → k ≤ names.earlier →
-      let own = named (function_shape m info f es) names in
-      AreWorded p own own.function.body → AreRegular p callees own own.function.body
-  regular_at distinguished k f es at only names callees enough tells earlier words =
-      let is = accepted_at m info accepted k f es at in
-      let group = group_at m info accepted k f es at in
-      let before = is.before in
-      regular m info f es (types_are_counted m info accepted distinguished) group names is.callees
-      callees
-      (stand_behind is.callees callees enough tells)
-      (omega (arith, before, earlier)) (ranges_are m is.callees f is.ranges).1
-      (soundness_is m f es is.sound).1 only words
+    -- its words ask for events, where each statement has a form or all words ask
+    pub worded_at : (all : Bool) → k ≤ names.earlier → AsksFreely all q own →
+        (all || block_has_forms f.body) ≡ true → AreWorded q own (function_shape m info f es).body
+    worded_at all earlier free has =
+        let is = accepted_at m info accepted k f es at in
+        let before = is.before in
+        worded all q own free
+        (declared m info (types_known es)).context is.callees (length f.expressions)
+        (omega (arith, before, earlier)) f.body (ranges_are m is.callees f is.ranges).1 has
+
+    -- its statements are regular
+    pub regular_at : TypesAreDistinguished m → (callees : List shapes.Function) →
+        StandBehind m info (accepted_at m info accepted k f es at).callees callees →
+        k ≤ names.earlier → AreWorded q own (function_shape m info f es).body →
+        AreRegular q callees own (function_shape m info f es).body
+    regular_at distinguished callees behind earlier words =
+        let is = accepted_at m info accepted k f es at in
+        let group = group_at m info accepted k f es at in
+        let before = is.before in
+        regular m info f es (types_are_counted m info accepted distinguished) group body q names
+        is.callees callees behind
+        (omega (arith, before, earlier)) (ranges_are m is.callees f is.ranges).1
+        (soundness_is m f es is.sound).1 words
 
   -- all that is asked of it
   pub function_fits : TypesAreDistinguished m → (k : ℕ) (f : Function) (es : List ExpressionInfo) →
       slice_get (functions_known m info) k ≡ Some (f, es) → ConstantsAreTyped m info f es →
-      only_empty_fall f.body ≡ true → (n : ModuleNames) (names : Names) (callees : List shapes.Function) →
+      OnlyEmptyFallIn (function_shape m info f es).body →
+      (n : ModuleNames) (names : Names) (callees : List shapes.Function) →
       length callees ≡ k → Tells shape_numbered callees →
       IsLeft p n callees (named (function_shape m info f es) names) →
       FunctionFits p n callees (named (function_shape m info f es) names)
@@ -187,8 +188,10 @@ module _ (m : Module) (info : ModuleInfo) (accepted : IsTrue (is_accepted m info
         words = left.words;
         leaves = leaves m info f es (types_are_counted m info accepted distinguished) group
             constants;
-        regular = regular_at distinguished k f es at only names callees (omega (arith, before, number)) tells
+        regular = regular_at k f es at p (function_shape m info f es).body names distinguished
+            callees (stand_behind is.callees callees (omega (arith, before, number)) tells)
             (omega (arith, number, earlier)) left.worded;
+        cases = only;
         distinct = left.distinct;
         scope = left.scope;
       }
@@ -230,7 +233,8 @@ module _ (m : Module) (info : ModuleInfo) (accepted : IsTrue (is_accepted m info
       (constants : (k : ℕ) (f : Function) (es : List ExpressionInfo) →
       slice_get (functions_known m info) k ≡ Some (f, es) → ConstantsAreTyped m info f es)
       (only : (k : ℕ) (f : Function) (es : List ExpressionInfo) →
-      slice_get (functions_known m info) k ≡ Some (f, es) → only_empty_fall f.body ≡ true)
+      slice_get (functions_known m info) k ≡ Some (f, es) →
+      OnlyEmptyFallIn (function_shape m info f es).body)
       (n : ModuleNames) (fs : List Naming) (same : functions_of fs ≡ p.functions) where
     -- the functions of an accepted module meet what the law of runs asks of them, where this is
     -- shown beside
@@ -257,8 +261,8 @@ module _ (m : Module) (info : ModuleInfo) (accepted : IsTrue (is_accepted m info
           outer = free.outer;
           earlier = free.earlier;
           words = free.words;
-          worded = worded_at all k f es at names (omega (arith, number, earlier)) free.free
-              (has k f es at);
+          worded = worded_at k f es at p (function_shape m info f es).body names all
+              (omega (arith, number, earlier)) free.free (has k f es at);
           distinct = free.distinct;
           scope = free.scope;
         })

@@ -21,7 +21,6 @@ use Rattle.shader_runs.proofs.Constants.{constants_are_computed}
 use Rattle.shader_runs.proofs.Form.{has_type_at}
 use Rattle.module_meaning.specs.Accepted.{is_accepted}
 use Rattle.module_meaning.specs.DeclarationForms.{DeclarationsHaveForms, IsInitialiser}
-use Rattle.module_meaning.proofs.DeclarationForms.{items_have_forms}
 use Rattle.module_meaning.specs.Interface.{global_expression_value}
 use Rattle.module_meaning.specs.ModuleShapes.{module_shape}
 use Rattle.module_meaning.specs.Names.{module_names}
@@ -68,7 +67,7 @@ initialisers_have_values m info accepted declarations settings fit meaning typed
     global_in_range m info accepted k tree.0 (written_within m k written) tree.1 in
     let computed =
     constants_are_computed shape (outer_names (module_names m) m)
-    (constants_fit m info accepted (items_have_forms m declarations)) settings fit meaning typed in
+    (constants_fit m info accepted) settings fit meaning typed in
     let value =
     tree_has_value (slice_get env.constants) meaning (λ i. i < length shape.constant_types)
     (λ i lt.

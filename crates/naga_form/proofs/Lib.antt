@@ -37,6 +37,7 @@ pub mod FunctionsFit
 pub mod DeclaredItems
 pub mod DeclaredNames
 pub mod DeclaredStructs
+pub mod EmptyCases
 pub mod ExpressionNames
 pub mod GivenNames
 pub mod HiddenNames
@@ -107,7 +108,6 @@ pub mod TypeTrees
 pub mod TypedWords
 pub mod WellFormed
 pub mod Worded
-pub mod WritableModules
 pub mod WrittenFunctions
 pub mod WrittenHandles
 pub mod WrittenOut

@@ -1,5 +1,5 @@
--- A module of which all that is declared and written has forms, and in which the rules of scope hold,
--- has a world that keeps the types, and no run of it is stuck.
+-- No run of a module of which all that is declared and written has forms, and in which the rules of
+-- scope hold, is stuck, nor one of its text in a world that keeps the types.
 use Rattle.std.proofs.Common.{Bool, sym, subst}
 use Rattle.std.specs.Prelude.{IsTrue}
 use Rattle.naga_ir.specs.declared.module.Module.{Module}
@@ -9,42 +9,26 @@ use Rattle.shader_runs.specs.Constants.{run_module, follow_module}
 use Rattle.shader_runs.specs.Text.{TextModule}
 use Rattle.shader_runs.specs.Correct.{KeepsTypes}
 use Rattle.shader_runs.specs.Progress.{IsNotStuck}
-use Rattle.shader_runs.specs.Results.{ResultsAreReturnedIn}
 use Rattle.shader_runs.proofs.Progress.{runs_are_not_stuck}
 use Rattle.shader_runs.specs.World.{Vocabulary}
 use Rattle.text_meaning.specs.Abstraction.{program_read}
 use Rattle.module_meaning.specs.Accepted.{is_accepted}
-use Rattle.module_meaning.specs.Meanings.{HasTypedWorld, IsNeverStuck}
+use Rattle.module_meaning.specs.Meanings.{IsNeverStuck}
 use Rattle.module_meaning.specs.ModuleShapes.{module_shape}
 use Rattle.module_meaning.specs.Names.{AreLabelNames, function_name, LabelNames, module_names}
 use Rattle.module_meaning.specs.DeclarationForms.{DeclarationsHaveForms}
-use Rattle.module_meaning.proofs.DeclarationForms.{items_have_forms}
 use Rattle.module_meaning.specs.Premises.{ScopesHold}
 use Rattle.module_meaning.specs.Namings.{namings_under, outer_names}
 use Rattle.module_meaning.specs.Written.{AllWrittenHaveForms}
 use Rattle.naga_form.proofs.DeclaredNames.{one_vocabulary}
-use Rattle.naga_form.proofs.DistinguishedItems.{types_are_distinguished}
-use Rattle.naga_form.proofs.FreeModules as every
 use Rattle.naga_form.proofs.ModuleFits.{module_fits_under}
 use Rattle.naga_form.proofs.Runs.{reads_as_shapes_under}
 use Rattle.naga_form.proofs.ScopeRules.{scopes_are_checked_under}
 use Rattle.naga_form.proofs.WellFormed.{all_well_formed}
-use Rattle.naga_form.proofs.WritableModules.{only_empty}
-use Rattle.naga_form.proofs.WrittenOut.{are_computed}
 
 module _ (m : Module) (info : ModuleInfo) (explicit : Bool) (accepted : IsTrue (is_accepted m info))
     (declarations : DeclarationsHaveForms m) (have : AllWrittenHaveForms explicit m info)
     (scopes : ScopesHold m info) where
-  pub has_world : HasTypedWorld m info
-  has_world =
-      every.has_world m info accepted (types_are_distinguished m)
-      (are_computed m info accepted (types_are_distinguished m) (items_have_forms m declarations)) (only_empty m info accepted explicit have) scopes
-
-  pub gives_results : ResultsAreReturnedIn (module_shape m info)
-  gives_results =
-      every.gives_results m info accepted (types_are_distinguished m)
-      (are_computed m info accepted (types_are_distinguished m) (items_have_forms m declarations)) (only_empty m info accepted explicit have) scopes
-
   -- under whatever names labels may have
   pub never_stuck : (named : LabelNames) → AreLabelNames m named →
       IsNeverStuck m info (program_under named m info explicit)
@@ -64,6 +48,6 @@ module _ (m : Module) (info : ModuleInfo) (explicit : Bool) (accepted : IsTrue (
       (function_name m (module_names m) g) arguments past)))
       (sym (reads_as_shapes_under m info explicit named accepted declarations have))
       (runs_are_not_stuck shape outer (namings_under named (module_names m) m info)
-      (module_fits_under m info accepted (items_have_forms m declarations) explicit have named are
+      (module_fits_under m info accepted explicit have named are
       ((scopes_are_checked_under m info accepted named).1 scopes)) (all_well_formed m info accepted)
       settings fit meaning typed g f found arguments typed_arguments world turns past))

@@ -8,7 +8,6 @@ use Rattle.std.proofs.lemmas.List.{length-reverse}
 use Rattle.std.proofs.lemmas.Bool.{and_from}
 use Rattle.naga_ir.specs.declared.module.Function as ir_function
 use Rattle.naga_ir.specs.declared.module.Module.{Module}
-use Rattle.module_meaning.specs.DeclarationForms.{ItemsHaveForms}
 use Rattle.module_meaning.specs.ModuleShapes.{module_shape}
 use Rattle.naga_info.specs.declared.info.ExpressionInfo.{ExpressionInfo}
 use Rattle.naga_info.specs.declared.info.ModuleInfo.{ModuleInfo}
@@ -31,7 +30,7 @@ use Rattle.module_meaning.specs.Namings.{function_naming, namings_from, namings_
 use Rattle.module_meaning.specs.StatementForms.{block_has_forms}
 use Rattle.module_meaning.specs.Written.{AllWrittenHaveForms}
 use Rattle.naga_form.proofs.Facts.{further, from_start}
-use Rattle.naga_form.proofs.WritableModules.{no_case_falls}
+use Rattle.naga_form.proofs.EmptyCases.{no_case_falls}
 use Rattle.naga_form.proofs.NamedFits.{is_free}
 use Rattle.naga_form.proofs.ConstantsFit.{constants_are_typed}
 use Rattle.naga_form.proofs.FunctionsFit.{IsFree, AllBehind, all_fit_freely}
@@ -41,7 +40,7 @@ use Rattle.module_meaning.specs.Accepted.{is_accepted}
 use Rattle.std.proofs.lemmas.Bool.{and_parts}
 use Rattle.naga_form.proofs.AcceptedGroups.{types_are_fit}
 use Rattle.naga_form.proofs.ScopeRules.{same_functions}
-use Rattle.module_meaning.specs.ExpressionContexts.{global_tree}
+use Rattle.module_meaning.specs.ExpressionContexts.{declared, global_tree, types_known}
 use Rattle.module_meaning.specs.ModuleShapes.{variable_shape}
 use Rattle.shader_runs.specs.Premises.{ConstantInRange, EachWord, ModuleNamesAreDistinct}
 use Rattle.shader_runs.specs.Premises.{OperatesOutside}
@@ -56,7 +55,6 @@ use Rattle.naga_form.proofs.ItemKeys.{CountsItems}
 use Rattle.naga_form.proofs.NamedConstants.{constants_length}
 use Rattle.naga_form.proofs.OutsideWords.{global_words as global_words_outside}
 use Rattle.naga_form.proofs.OutsideWords.{initialiser_words_outside}
-use Rattle.naga_form.proofs.WrittenOut.{are_computed}
 
 -- ---- lists
 -- there are as many shapes as functions
@@ -153,44 +151,43 @@ module _ (m : Module) (info : ModuleInfo) (accepted : IsTrue (is_accepted m info
       EachWord (OperatesOutside p names) e
   global_words = global_words_outside m info (types_are_fit m info accepted) p counts
 
-  module _ (items : ItemsHaveForms m) where
-    -- what is asked of its named constants
-    pub constants : ConstantsFit p names
-    constants =
-        constants_fit m info accepted (types_are_distinguished m) (are_computed m info accepted (types_are_distinguished m) items)
-        names
-        (λ i e at.
-        let found = initialiser_of m info accepted (types_are_distinguished m) i e at in
-        subst (EachWord (OperatesOutside p names)) found.is
-        (initialiser_words_outside m info (types_are_fit m info accepted) p counts found.constant))
-        (constants_tell m p counts)
+  -- what is asked of its named constants
+  pub constants : ConstantsFit p names
+  constants =
+      constants_fit m info accepted (types_are_distinguished m) names
+      (λ i e at.
+      let found = initialiser_of m info accepted (types_are_distinguished m) i e at in
+      subst (EachWord (OperatesOutside p names)) found.is
+      (initialiser_words_outside m info (types_are_fit m info accepted) p counts found.constant))
+      (constants_tell m p counts)
 
-    module _ (explicit : Bool) (have : AllWrittenHaveForms explicit m info) where
-      -- the statements of each function that is known have forms
-      forms_at : (k : ℕ) (f : ir_function.Function) (es : List ExpressionInfo) →
-          slice_get (functions_known m info) k ≡ Some (f, es) → block_has_forms f.body ≡ true
-      forms_at k f es at =
-          let both = zip_parts (all_functions m) (all_infos info) k (f, es) at in
-          (have k f es both.0 both.1).statements
+  module _ (explicit : Bool) (have : AllWrittenHaveForms explicit m info) where
+    -- the statements of each function that is known have forms
+    forms_at : (k : ℕ) (f : ir_function.Function) (es : List ExpressionInfo) →
+        slice_get (functions_known m info) k ≡ Some (f, es) → block_has_forms f.body ≡ true
+    forms_at k f es at =
+        let both = zip_parts (all_functions m) (all_infos info) k (f, es) at in
+        (have k f es both.0 both.1).statements
 
-      -- what the law of runs asks: all is said by acceptance but what names, words and scope show
-      pub module_fits_under : (named : LabelNames) → AreLabelNames m named →
-          IsTrue (scope_holds_under named m info) →
-          ModuleFits (module_shape m info) (outer_names (module_names m) m)
-          (namings_under named (module_names m) m info)
-      module_fits_under named are scope =
-          let listed =
-          namings_from named (module_names m) m 0
-          (function_shapes m info (all_functions m) (all_infos info)) in
-          record {
-            functions = same_functions m info named;
-            distinct = functions_tell;
-            constants = constants;
-            all = all_fit_freely m info accepted (types_are_distinguished m) constants_typed
-                (λ k f es at. no_case_falls f.body (forms_at k f es at)) names
-                (namings_under named (module_names m) m info) (same_functions m info named) false
-                forms_at
-                (all_free named are 0 (all_functions m) (all_infos info)
-                (from_start (all_functions m))
-                (all_reversed fits_function listed [] scope) [] refl tt);
-          }
+    -- what the law of runs asks: all is said by acceptance but what names, words and scope show
+    pub module_fits_under : (named : LabelNames) → AreLabelNames m named →
+        IsTrue (scope_holds_under named m info) →
+        ModuleFits (module_shape m info) (outer_names (module_names m) m)
+        (namings_under named (module_names m) m info)
+    module_fits_under named are scope =
+        let listed =
+        namings_from named (module_names m) m 0
+        (function_shapes m info (all_functions m) (all_infos info)) in
+        record {
+          functions = same_functions m info named;
+          distinct = functions_tell;
+          constants = constants;
+          all = all_fit_freely m info accepted (types_are_distinguished m) constants_typed
+              (λ k f es at. no_case_falls (declared m info (types_known es)).context f.body
+              (forms_at k f es at)) names
+              (namings_under named (module_names m) m info) (same_functions m info named) false
+              forms_at
+              (all_free named are 0 (all_functions m) (all_infos info)
+              (from_start (all_functions m))
+              (all_reversed fits_function listed [] scope) [] refl tt);
+        }

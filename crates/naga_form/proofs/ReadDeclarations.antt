@@ -31,11 +31,11 @@ use Rattle.shader_runs.specs.Form.{constants_from, globals_from, names_from}
 use Rattle.shader_runs.specs.Program as shapes
 use Rattle.shader_runs.specs.Program.{AtPlace, Fixed, Held, pointer_to}
 use Rattle.shader_runs.specs.Scope.{ModuleNames}
-use Rattle.shader_runs.specs.Value.{Truth}
 use Rattle.text_meaning.specs.Abstraction.{constant_read, expression_read, global_pointer_read}
 use Rattle.text_meaning.specs.Abstraction.{module_variable_read}
 use Rattle.module_meaning.specs.DeclarationForms.{IsInitialiser, ItemsHaveForms}
 use Rattle.module_meaning.specs.ExpressionContexts.{global_tree, named_count, override_number}
+use Rattle.module_meaning.specs.ExpressionContexts.{zero_of_type}
 use Rattle.module_meaning.specs.ExpressionTypes.{variable_type}
 use Rattle.module_meaning.specs.InfoSizes.{is_handle_space}
 use Rattle.module_meaning.specs.ModuleShapes.{initialiser, module_shape, named_constants}
@@ -225,7 +225,7 @@ module _ (m : Module) where
               let value : expression_read (global_form m t c.init) ≡
               runs.constant_form outer (initialiser m info c) =
               is.2
-              ∙ ap (λ o. runs.constant_form outer (unwrap_or o (Fixed (Truth false)))) (sym is.1) in
+              ∙ ap (λ o. runs.constant_form outer (unwrap_or o (zero_of_type m c.ty))) (sym is.1) in
               let rest = more (suc number) later in
               λ i. record { name = name i; initialiser = value i } ∷ rest i
             where

@@ -1,9 +1,7 @@
 -- The statements of every accepted function are regular: what is returned has the function's
--- result type, calls pass what an earlier callee wants, results go to result handles, and cases
--- fall through from empty ones alone. What is said of words and names is asked, and so is that only
--- empty cases fall through, which acceptance doesn't say.
-use Rattle.module_meaning.specs.Writable.{only_empty_fall, only_empty_fall_in, only_empty_cases_fall}
-use Rattle.std.proofs.Common.{◌≡◌, ℕ, ◌<◌, ◌≤◌, Bool, true, false, not, ◌&&◌, ◌||◌, List, [], ◌∷◌}
+-- result type, calls pass what an earlier callee wants, results go to result handles, and the last
+-- case doesn't fall through. What is said of words and names is asked.
+use Rattle.std.proofs.Common.{◌≡◌, ℕ, ◌<◌, ◌≤◌, Bool, true, false, List, [], ◌∷◌}
 use Rattle.std.proofs.Common.{Option, Some, None, refl, sym, ap, ◌∙◌, subst, slice_get, length, map}
 use Rattle.std.proofs.Common.{arith, nat_lt, eqb-true}
 use Rattle.std.specs.Option.{option_map, option_map_or, option_and_then, is_some}
@@ -16,7 +14,7 @@ use Rattle.naga_ir.specs.StatementTree.{subgroup_ballot, subgroup_gather}
 use Rattle.naga_ir.specs.StatementTree.{subgroup_collective_operation, cooperative_store}
 use Rattle.naga_ir.specs.StatementTree.{ray_pipeline_function, StatementTree, simple, block, branch}
 use Rattle.naga_ir.specs.StatementTree.{switch, loop, BlockTree, no_statements, statement}
-use Rattle.naga_ir.specs.StatementTree.{CaseTrees, no_cases, case, has_no_statements}
+use Rattle.naga_ir.specs.StatementTree.{CaseTrees, no_cases, case}
 use Rattle.naga_ir.specs.declared.expression.Expression as ir
 use Rattle.naga_ir.specs.declared.expression.Expression.TheVariants as expression
 use Rattle.naga_ir.specs.declared.module.Function.{Function}
@@ -35,7 +33,6 @@ use Rattle.module_meaning.specs.ExpressionShapes.{Declared, shape_of}
 use Rattle.module_meaning.specs.ExpressionTypes.{is_wanted, only, result_type}
 use Rattle.module_meaning.specs.FunctionShapes.{function_shape, statement_shape, statements_shape}
 use Rattle.module_meaning.specs.FunctionShapes.{cases_shape}
-use Rattle.module_meaning.specs.ModuleShapes.{module_shape}
 use Rattle.module_meaning.specs.Ranges.{simple_in_range, statement_in_range, block_in_range}
 use Rattle.module_meaning.specs.Ranges.{cases_in_range, is_below}
 use Rattle.module_meaning.specs.StatementShapes.{simple_shape, store_shape}
@@ -113,17 +110,18 @@ module _ (d : Declared) (es : List ir.Expression) (h : ℕ) where
   subgroup_result _ is = absurd cc
 
 -- ---- callees
--- so many functions of the module stand behind, each with its shape
+-- so many functions of the module stand behind, each with its shape, but perhaps another body
 pub record StandBehind (m : Module) (info : ModuleInfo) (count : ℕ) (callees : List shapes.Function) :
     Type 0 where
   pub shape_of_callee : (g : ℕ) (f : Function) → g < count → slice_get m.functions g ≡ Some f →
-      (es : List ExpressionInfo) ×
-      (function_numbered callees g ≡ Some (function_shape m info f es))
+      (es : List ExpressionInfo) × (body : Statements) ×
+      (function_numbered callees g ≡ Some (record (function_shape m info f es) { body = body }))
 
--- ---- one function
-module _ (m : Module) (info : ModuleInfo) (f : Function) (es : List ExpressionInfo) (are : TypesAreCounted m) (group : IsSoundGroup m info (Some f) (function_group f es)) where
+-- ---- one function, whatever its body is
+module _ (m : Module) (info : ModuleInfo) (f : Function) (es : List ExpressionInfo)
+    (are : TypesAreCounted m) (group : IsSoundGroup m info (Some f) (function_group f es)) (its : Statements) where
   abbrev shape : shapes.Function
-  shape = function_shape m info f es
+  shape = record (function_shape m info f es) { body = its }
 
   abbrev known : List TypeResolution
   known = map (λ e. e.ty) es
@@ -197,12 +195,10 @@ module _ (m : Module) (info : ModuleInfo) (f : Function) (es : List ExpressionIn
           ap Some (ap (type_of_values m) found.2 ∙ sym one.2)
       by _ at is = absurd cc
 
-  module _ (n : Names) (count : ℕ) (callees : List shapes.Function) (behind : StandBehind m info count callees) (earlier : count ≤ n.earlier) where
+  module _ (p : shapes.Module) (n : Names) (count : ℕ) (callees : List shapes.Function)
+      (behind : StandBehind m info count callees) (earlier : count ≤ n.earlier) where
     abbrev own : Naming
     own = record { function = shape; names = n }
-
-    abbrev p : shapes.Module
-    p = module_shape m info
 
     call_at : (g : ℕ) (xs : List ℕ) (r : Option ℕ) → g < count → is_call m f known g xs r ≡ true →
         IsNoName p own (n.outer.function g) → ActionFits p callees own (Called g) xs r × ResultFits shape r
@@ -211,7 +207,7 @@ module _ (m : Module) (info : ModuleInfo) (f : Function) (es : List ExpressionIn
         let two =
         and_parts (are_passed m.types known one.0.arguments.items xs) (is_answered one.0 g f r) one.2 in
         let callee = behind.shape_of_callee g one.0 lt one.1 in (
-          (omega (arith, lt, earlier), no_name, subst (λ o. CallFits shape o xs r) (sym callee.1) (passed one.0.arguments.items xs two.0, answered one.0 g one.1 r two.1)),
+          (omega (arith, lt, earlier), no_name, subst (λ o. CallFits shape o xs r) (sym callee.2) (passed one.0.arguments.items xs two.0, answered one.0 g one.1 r two.1)),
           by one.0 r two.1,
         )
       where
@@ -257,26 +253,24 @@ module _ (m : Module) (info : ModuleInfo) (f : Function) (es : List ExpressionIn
     line_at breaks continues (ray_pipeline_function fun) within fits worded = (worded, tt)
     line_at breaks continues _ within fits worded = tt
 
-    -- a case that falls through is empty, and not the last one
-    falls_at : (falls : Bool) (b : BlockTree) (cs : CaseTrees) → (not falls || has_no_statements b) ≡ true →
-        last_falls_through falls cs ≡ false →
-        FallsFrom falls (statements_shape context.context b) (cases_shape context.context cs)
-    falls_at false b cs only last = tt
-    falls_at true no_statements no_cases only last = absurd cc
-    falls_at true no_statements (case v b falls cs) only last = tt
-    falls_at true (statement s b) cs only last = absurd cc
+    -- the last case doesn't fall through
+    falls_at : (falls : Bool) (cs : CaseTrees) → last_falls_through falls cs ≡ false →
+        FallsFrom falls (cases_shape context.context cs)
+    falls_at false cs last = tt
+    falls_at true no_cases last = absurd cc
+    falls_at true (case v b falls cs) last = tt
 
     mutual
       statement_at : (breaks continues : Bool) (s : StatementTree) →
           statement_in_range count (length f.expressions) s ≡ true →
-          statement_is_sound m f known breaks continues s ≡ true → only_empty_fall_in s ≡ true →
+          statement_is_sound m f known breaks continues s ≡ true →
           IsWorded p own (statement_shape context.context s) →
           IsRegular p callees own (statement_shape context.context s)
-      statement_at breaks continues (simple s) within fits only worded =
+      statement_at breaks continues (simple s) within fits worded =
           line_at breaks continues s within fits worded
-      statement_at breaks continues (block b) within fits only worded =
-          block_at breaks continues b within fits only worded
-      statement_at breaks continues (branch condition accept reject) within fits only worded =
+      statement_at breaks continues (block b) within fits worded =
+          block_at breaks continues b within fits worded
+      statement_at breaks continues (branch condition accept reject) within fits worded =
           let ranges = and_parts (nat_lt condition (length f.expressions)) _ within in
           let both =
           and_parts (block_in_range count (length f.expressions) accept)
@@ -284,20 +278,19 @@ module _ (m : Module) (info : ModuleInfo) (f : Function) (es : List ExpressionIn
           let one = and_parts (is_condition m.types known condition) _ fits in
           let two =
           and_parts (block_is_sound m f known breaks continues accept)
-          (block_is_sound m f known breaks continues reject) one.1 in
-          let empty = and_parts (only_empty_fall accept) (only_empty_fall reject) only in (
-            block_at breaks continues accept both.0 two.0 empty.0 worded.0,
-            block_at breaks continues reject both.1 two.1 empty.1 worded.1,
+          (block_is_sound m f known breaks continues reject) one.1 in (
+            block_at breaks continues accept both.0 two.0 worded.0,
+            block_at breaks continues reject both.1 two.1 worded.1,
           )
-      statement_at breaks continues (switch selector cs) within fits only worded =
+      statement_at breaks continues (switch selector cs) within fits worded =
           let ranges =
           and_parts (nat_lt selector (length f.expressions))
           (cases_in_range count (length f.expressions) cs) within in
           let one =
           and_parts (is_selection m.types known selector cs)
           (cases_are_sound m f known true continues cs) fits in
-          cases_at continues false cs ranges.1 one.1 only (last_stays m.types known selector cs one.0) worded
-      statement_at breaks continues (loop body continuing break_if) within fits only worded =
+          cases_at continues false cs ranges.1 one.1 (last_stays m.types known selector cs one.0) worded
+      statement_at breaks continues (loop body continuing break_if) within fits worded =
           let ranges = and_parts (block_in_range count (length f.expressions) body) _ within in
           let both =
           and_parts (block_in_range count (length f.expressions) continuing)
@@ -305,55 +298,50 @@ module _ (m : Module) (info : ModuleInfo) (f : Function) (es : List ExpressionIn
           let one = and_parts (block_is_sound m f known true true body) _ fits in
           let two =
           and_parts (block_is_sound m f known false false continuing)
-          (option_map_or (is_condition m.types known) break_if true) one.1 in
-          let empty = and_parts (only_empty_fall body) (only_empty_fall continuing) only in (
-            block_at true true body ranges.0 one.0 empty.0 worded.0,
-            block_at false false continuing both.0 two.0 empty.1 worded.1,
+          (option_map_or (is_condition m.types known) break_if true) one.1 in (
+            block_at true true body ranges.0 one.0 worded.0,
+            block_at false false continuing both.0 two.0 worded.1,
           )
 
       block_at : (breaks continues : Bool) (b : BlockTree) →
           block_in_range count (length f.expressions) b ≡ true →
-          block_is_sound m f known breaks continues b ≡ true → only_empty_fall b ≡ true →
+          block_is_sound m f known breaks continues b ≡ true →
           AreWorded p own (statements_shape context.context b) →
           AreRegular p callees own (statements_shape context.context b)
-      block_at breaks continues no_statements within fits only worded = tt
-      block_at breaks continues (statement s b) within fits only worded =
+      block_at breaks continues no_statements within fits worded = tt
+      block_at breaks continues (statement s b) within fits worded =
           let ranges =
           and_parts (statement_in_range count (length f.expressions) s)
           (block_in_range count (length f.expressions) b) within in
           let one =
           and_parts (statement_is_sound m f known breaks continues s)
-          (block_is_sound m f known breaks continues b) fits in
-          let empty = and_parts (only_empty_fall_in s) (only_empty_fall b) only in (
-            statement_at breaks continues s ranges.0 one.0 empty.0 worded.0,
-            block_at breaks continues b ranges.1 one.1 empty.1 worded.1,
+          (block_is_sound m f known breaks continues b) fits in (
+            statement_at breaks continues s ranges.0 one.0 worded.0,
+            block_at breaks continues b ranges.1 one.1 worded.1,
           )
 
       cases_at : (continues before : Bool) (cs : CaseTrees) →
           cases_in_range count (length f.expressions) cs ≡ true →
-          cases_are_sound m f known true continues cs ≡ true → only_empty_cases_fall cs ≡ true →
+          cases_are_sound m f known true continues cs ≡ true →
           last_falls_through before cs ≡ false →
           CasesAreWorded p own (cases_shape context.context cs) →
           CasesAreRegular p callees own (cases_shape context.context cs)
-      cases_at continues before no_cases within fits only last worded = tt
-      cases_at continues before (case v b falls cs) within fits only last worded =
+      cases_at continues before no_cases within fits last worded = tt
+      cases_at continues before (case v b falls cs) within fits last worded =
           let ranges =
           and_parts (block_in_range count (length f.expressions) b)
           (cases_in_range count (length f.expressions) cs)
           (and_parts (label_fits_32_bits v) _ within).1 in
           let one =
           and_parts (block_is_sound m f known true continues b)
-          (cases_are_sound m f known true continues cs) fits in
-          let empty =
-          and_parts (not falls || has_no_statements b) (only_empty_fall b && only_empty_cases_fall cs) only in
-          let rest = and_parts (only_empty_fall b) (only_empty_cases_fall cs) empty.1 in (
-            falls_at falls b cs empty.0 last,
-            block_at true continues b ranges.0 one.0 rest.0 worded.0,
-            cases_at continues falls cs ranges.1 one.1 rest.1 last worded.1,
+          (cases_are_sound m f known true continues cs) fits in (
+            falls_at falls cs last,
+            block_at true continues b ranges.0 one.0 worded.0,
+            cases_at continues falls cs ranges.1 one.1 last worded.1,
           )
 
     -- all statements of the function
     pub regular : block_in_range count (length f.expressions) f.body ≡ true →
-        body_is_sound m f known ≡ true → only_empty_fall f.body ≡ true →
-        AreWorded p own shape.body → AreRegular p callees own shape.body
-    regular within fits only worded = block_at false false f.body within fits only worded
+        body_is_sound m f known ≡ true → AreWorded p own (function_shape m info f es).body →
+        AreRegular p callees own (function_shape m info f es).body
+    regular within fits worded = block_at false false f.body within fits worded

@@ -115,7 +115,7 @@ bodies_resolve m info explicit named are accepted declarations have scope =
     let names = module_names m in
     ap text_targets (reads_as_shapes_under m info explicit named accepted declarations have)
     ∙ resolves_as_meant (module_shape m info) (outer_names names m) (namings_under named names m info)
-    (module_fits_under m info accepted (items_have_forms m declarations) explicit have named are
+    (module_fits_under m info accepted explicit have named are
     ((scopes_are_checked_under m info accepted named).1 scope))
     (leaves_stand m info named accepted 0 (all_functions m) (all_infos info)
     (from_start (all_functions m)) [] tt)

@@ -118,7 +118,7 @@ runs_as_under m info explicit named are accepted declarations have scope g setti
     (function_name m (module_names m) g) arguments past)
     (reads_as_shapes_under m info explicit named accepted declarations have)
     ∙ runs_alike shape outer (namings_under named (module_names m) m info)
-    (module_fits_under m info accepted (items_have_forms m declarations) explicit have named are
+    (module_fits_under m info accepted explicit have named are
     ((scopes_are_checked_under m info accepted named).1 scope)) settings fit meaning typed g f found
     arguments typed_arguments world turns past keeps)
 

@@ -126,13 +126,16 @@ module _ (m : Module) (info : ModuleInfo) (are : TypesAreCounted m) (p : shapes.
   shapes_words known all n (e ∷ es) zero = shape_words known all n e
   shapes_words known all n (e ∷ es) (suc h) = shapes_words known all (n + 1) es h
 
--- in a function of the module
+-- in a function of the module, whatever its body is
 pub function_words : (m : Module) (info : ModuleInfo) → TypesAreCounted m →
-    (p : shapes.Module) (f : ir_function.Function) (es : List ExpressionInfo) (earlier h : ℕ) →
-    WordFits p (freely_named free_request earlier (function_shape m info f es))
+    (p : shapes.Module) (f : ir_function.Function) (es : List ExpressionInfo)
+    (body : shapes.Statements) (earlier h : ℕ) →
+    WordFits p
+    (freely_named free_request earlier (record (function_shape m info f es) { body = body }))
     (expression_of (function_shape m info f es) h)
-function_words m info are p f es earlier h =
-    shapes_words m info are p (function_shape m info f es) earlier (types_known es) f.expressions 0 f.expressions h
+function_words m info are p f es body earlier h =
+    shapes_words m info are p (record (function_shape m info f es) { body = body }) earlier
+    (types_known es) f.expressions 0 f.expressions h
 
 -- outside functions
 pub operator_operates_outside : (p : shapes.Module) (o : Operator) → TypeIsSound o → asks o ≡ false → OperatesOutside p (free_names free_request) (run_word o)

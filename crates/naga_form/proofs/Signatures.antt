@@ -1,9 +1,10 @@
 -- What the program of shapes of an accepted module spells: each signature is that of an expression,
--- in a function, in an entry point or among the module's own.
+-- in a function, in an entry point or among the module's own, or of the zero value that a named
+-- constant without a tree counts as.
 use Rattle.std.proofs.Common.{[], ◌∷◌, ◌++◌, refl}
 use Rattle.shader_runs.specs.Typing.{IsOneOf, first_of, later_of}
 use Rattle.shader_runs.proofs.Typing.{no_signature}
-use Rattle.std.proofs.Common.{◌≡◌, ℕ, false, List, Option, Some, slice_get, map}
+use Rattle.std.proofs.Common.{◌≡◌, ℕ, false, List, Option, Some, None, slice_get, map}
 use Rattle.std.specs.List.{flat_map}
 use Rattle.std.specs.Prelude.{take}
 use Rattle.naga_ir.specs.Operands.{expression_operands}
@@ -25,6 +26,7 @@ use Rattle.module_meaning.specs.ExpressionShapes.{Declared, part_selector, lette
 use Rattle.module_meaning.specs.OperatorTable.{Operator, run_word, asks}
 use Rattle.module_meaning.specs.ExpressionContexts.{expression_context, declared}
 use Rattle.module_meaning.specs.TypeIdentity.{vector_number}
+use Rattle.module_meaning.specs.Types.{type_of_values}
 use Rattle.naga_form.proofs.AcceptedGroups.{IsSoundGroup}
 use Rattle.naga_form.proofs.AgreeingUses.{value_at}
 
@@ -77,3 +79,11 @@ module _ (m : Module) (info : ModuleInfo) where
     pub called : IsCalled group expression x.word
     pub operands : x.operands ≡ map (value_at m info group.known) (expression_operands expression)
     pub result : x.result ≡ value_at m info group.known handle
+
+  -- the signature of the zero value of a type
+  pub record IsOfZero (x : Signature) : Type 0 where
+    pub ty : ℕ
+    pub word : x.word
+        ≡ Spelled (run_word (constructor (expression_context m (λ h. None)) (Handle ty) 0))
+    pub operands : x.operands ≡ []
+    pub result : x.result ≡ type_of_values m (Handle ty)

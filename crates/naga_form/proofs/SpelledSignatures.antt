@@ -1,9 +1,10 @@
--- What the program of shapes of an accepted module spells: each signature is that of an expression.
+-- What the program of shapes of an accepted module spells: each signature is that of an expression,
+-- or of a zero value in an initialiser.
 -- What is said of trees of constants, and of the initialisers of named ones, is a premise here.
 use Rattle.module_meaning.specs.Names.{TypesAreDistinguished}
 use Rattle.naga_form.proofs.Signatures.{either_signature, only_signature}
 use Rattle.std.proofs.Common.{◌≡◌, ℕ, Bool, true, false, List, [], ◌∷◌, ◌++◌, refl, sym, ap, ◌∙◌, subst}
-use Rattle.std.proofs.Common.{Option, Some, None, slice_get, if◌then◌else◌}
+use Rattle.std.proofs.Common.{Option, Some, None, ◌⊎◌, inl, slice_get, if◌then◌else◌}
 use Rattle.std.specs.Prelude.{IsTrue, ◌||◌, unwrap_or, take}
 use Rattle.std.specs.List.{flat_map}
 use Rattle.std.specs.Option.{option_map, option_map_or, option_and_then, option_to_list, is_some}
@@ -48,7 +49,7 @@ use Rattle.shader_runs.proofs.Typing.{no_signature}
 use Rattle.naga_form.proofs.AcceptedGroups.{IsSoundGroup}
 use Rattle.naga_form.proofs.ModulePlaces.{function_at, expression_is, handle_type_is, handle_types_are}
 use Rattle.naga_form.proofs.Signatures.{declared_for, IsCalled, by_operator, by_index}
-use Rattle.naga_form.proofs.Signatures.{by_part, by_letters, IsOfExpression}
+use Rattle.naga_form.proofs.Signatures.{by_part, by_letters, IsOfExpression, IsOfZero}
 
 -- an operator over operands spells one signature, whether or not it is a short circuit
 operator_spells : (p : Module) (f : Function) (k : ValueType) (o : TableOperator) (hs : List ℕ) →
@@ -237,11 +238,13 @@ module _ (m : ir_module.Module) (info : ModuleInfo)
       (of_initialisers : (i : ℕ) (e : ConstantTree) →
       slice_get (module_shape m info).initialisers i ≡ Some e →
       (x : Signature) → IsOneOf x (constant_signatures (module_shape m info) e) →
-      IsOfExpression m info x) where
-    -- each signature that is spelled is that of an expression
-    pub of_spelled : (x : Signature) → IsSpelled (module_shape m info) x → IsOfExpression m info x
+      IsOfExpression m info x ⊎ IsOfZero m info x) where
+    -- each signature that is spelled is that of an expression, or of a zero value in an initialiser
+    pub of_spelled : (x : Signature) → IsSpelled (module_shape m info) x →
+        IsOfExpression m info x ⊎ IsOfZero m info x
     of_spelled x (in_initialiser i e there among) = of_initialisers i e there x among
     of_spelled x (in_function place f there h among) =
         let k = function_at m info accepted distinguished place f there in
-        spelled_at k.function k.known k.sound h x
-        (subst (λ f. IsOneOf x (signatures_of p f (handle_type f h) (expression_of f h))) k.same among)
+        inl (spelled_at k.function k.known k.sound h x
+        (subst (λ f. IsOneOf x (signatures_of p f (handle_type f h) (expression_of f h))) k.same
+        among))

@@ -79,7 +79,7 @@ module _ (m : Module) (info : ModuleInfo) (explicit : Bool) (named : LabelNames)
       items_fit =
           subst (λ fs. ItemsFit p n (reverse (map function_read fs))) (sym are_forms) (record {
             distinct = functions_tell m info accepted;
-            constants = constants m info accepted items;
+            constants = constants m info accepted;
             named = forms_named 0 (all_functions m) (all_infos info) [] refl tt;
             counted = length-reverse (map function_read forms)
                 ∙ (length-map forms function_read

@@ -151,7 +151,7 @@ module _ (m : Module) (info : ModuleInfo) (P : List ℕ → Type 0)
   or_false_words (Some t) all = all t refl
 
   pub initialiser_words : (c : ir_constant.Constant) → EachWord P (initialiser m info c)
-  initialiser_words c = or_false_words (global_tree m info c.init) (global_words c.init)
+  initialiser_words c = or_zero_words c.ty (global_tree m info c.init) (global_words c.init)
 
   -- a value of a type without parts
   pub zero_words : (known : ℕ → Option TypeResolution) (h ty : ℕ) (t : ConstantTree) →

@@ -1,14 +1,12 @@
--- Each constant of an accepted module has a tree. So has what is written out of the module's own
--- expressions, as a literal, a constant, an override, a zero value, a composition or a splat of such;
--- and so the initialisers of the constants with a name, where all that a module declares has a form.
-use Rattle.module_meaning.specs.Writable.{AreComputed, written_out_within, written_out_over}
+-- The own expressions of an accepted module stand together as those of a function do: what they
+-- name is there and stands before them. Each constant has a tree.
 use Rattle.module_meaning.specs.Names.{TypesAreDistinguished}
-use Rattle.std.proofs.Common.{◌≡◌, ℕ, zero, suc, ◌<◌, ◌+◌, Bool, true, false, List, [], ◌∷◌, refl, sym, ap, ◌∙◌, length, subst}
+use Rattle.std.proofs.Common.{◌≡◌, ℕ, ◌<◌, ◌+◌, true, sym, ap, ◌∙◌, length}
 use Rattle.std.proofs.Common.{Option, Some, None, slice_get, arith, nat_lt, ◌&&◌}
 use Rattle.std.specs.List.{list_all}
-use Rattle.std.specs.Prelude.{IsTrue, ◌||◌}
-use Rattle.std.specs.Option.{option_map, option_map_or, option_and_then, is_none, is_some}
-use Rattle.std.proofs.lemmas.Bool.{and_from, and_parts, ltb-true}
+use Rattle.std.specs.Prelude.{IsTrue}
+use Rattle.std.specs.Option.{option_map}
+use Rattle.std.proofs.lemmas.Bool.{and_parts, ltb-true}
 use Rattle.naga_ir.specs.Operands.{expression_operands}
 use Rattle.naga_ir.specs.declared.expression.Expression.{Expression}
 use Rattle.naga_ir.specs.declared.expression.Expression.TheVariants as expression
@@ -18,14 +16,11 @@ use Rattle.naga_ir.specs.declared.module.Module.{Module}
 use Rattle.naga_info.specs.declared.info.ModuleInfo.{ModuleInfo}
 use Rattle.naga_info.specs.declared.info.TypeResolution.TheVariants.{Handle}
 use Rattle.naga_info.proofs.Options.{map_some}
-use Rattle.shader_runs.specs.Program.{ConstantTree, Constructed}
+use Rattle.shader_runs.specs.Program.{ConstantTree}
 use Rattle.module_meaning.specs.Accepted.{is_accepted}
 use Rattle.module_meaning.specs.AgreeingOperators.{Group, module_operators_agree}
-use Rattle.module_meaning.specs.ExpressionOperators.{constructor}
-use Rattle.module_meaning.specs.ExpressionShapes.{Declared, trees, tree_then, trees_of, built, tree_over, computed_over}
 use Rattle.module_meaning.specs.ExpressionTypes as types
 use Rattle.module_meaning.specs.InfoSizes.{sizes_fit, type_is_fit, all_known}
-use Rattle.module_meaning.specs.OperatorTable.{Operator, Splat}
 use Rattle.module_meaning.specs.Ranges.{module_ranges_fit, module_in_range, declarations_in_range}
 use Rattle.module_meaning.specs.Ranges.{types_in_range, special_types_fit, constant_in_range}
 use Rattle.module_meaning.specs.Ranges.{override_in_range, global_in_range}
@@ -34,102 +29,16 @@ use Rattle.module_meaning.specs.Ranges.{initialiser_before, names_in_range, all_
 use Rattle.module_meaning.specs.Ranges.{resolution_fits, is_below, function_in_range}
 use Rattle.module_meaning.specs.Ranges.{entry_point_in_range}
 use Rattle.module_meaning.specs.Soundness.{module_is_sound}
-use Rattle.module_meaning.specs.ExpressionContexts.{constant_over, declared_over, global_tree, global_tree_within, global_types_known, written_constant}
-use Rattle.module_meaning.specs.DeclarationForms.{ItemsHaveForms, IsInitialiser}
-use Rattle.module_meaning.specs.Undeclared.{is_spellable}
-use Rattle.module_meaning.specs.ExpressionForms.{global_is_written_over, global_is_written_within}
-use Rattle.module_meaning.proofs.Lists.{all_pass, list_all_at}
+use Rattle.module_meaning.specs.ExpressionContexts.{constant_over, global_tree, written_constant}
+use Rattle.module_meaning.proofs.Lists.{list_all_at}
 use Rattle.module_meaning.proofs.Lists.{placed_at}
 use Rattle.naga_form.proofs.AcceptedGroups.{IsSoundGroup, own_known, own_group, declarations_are}
-use Rattle.naga_form.proofs.ConstantInitialisers.{HaveTrees, named_stands}
-use Rattle.naga_form.proofs.ComputedTrees.{computed_as_written}
 use Rattle.naga_form.proofs.ConstantTrees.{wanted_there, availability_tree}
-use Rattle.naga_form.proofs.Signatures.{group_context}
 
 abbrev HasTree : Option ConstantTree → Type 0
 HasTree o = (t : ConstantTree) × (o ≡ Some t)
 
-trees_there : (tree_of : ℕ → Option ConstantTree) (is_written : ℕ → Bool) (bound : ℕ) → ((h : ℕ) → h < bound → is_written h ≡ true → HasTree (tree_of h)) →
-    (hs : List ℕ) → all_below bound hs ≡ true → list_all is_written hs ≡ true → (ts : List ConstantTree) × (trees_of tree_of hs ≡ Some ts)
-trees_there tree_of is_written bound have [] below all = ([], refl)
-trees_there tree_of is_written bound have (h ∷ hs) below all =
-    let low = and_parts (nat_lt h bound) (all_below bound hs) below in
-    let is = and_parts (is_written h) (list_all is_written hs) all in
-    let one = have h (ltb-true h bound low.0) is.0 in
-    let more = trees_there tree_of is_written bound have hs low.1 is.1 in
-    (one.0 ∷ more.0, λ i. tree_then (one.1 i) (more.1 i))
-
--- ---- of a module whose declarations have forms
-module _ (m : Module) where
-  -- what has a form is written out
-  form_is_out : (levels h : ℕ) → global_is_written_within levels m h ≡ true →
-      written_out_within levels m.global_expressions h ≡ true
-  form_is_out zero h is = absurd cc
-  form_is_out (suc levels) h is = by (slice_get m.global_expressions h) is (form_is_out levels)
-    where
-      own : ℕ → Bool
-      own = global_is_written_within levels m
-
-      out : ℕ → Bool
-      out = written_out_within levels m.global_expressions
-
-      all_out : ((x : ℕ) → own x ≡ true → out x ≡ true) → (xs : List ℕ) →
-          list_all own xs ≡ true → list_all out xs ≡ true
-      all_out each [] is = refl
-      all_out each (x ∷ xs) is =
-          let both = and_parts (own x) (list_all own xs) is in
-          and_from (out x) (list_all out xs) (each x both.0) (all_out each xs both.1)
-
-      over : ((x : ℕ) → own x ≡ true → out x ≡ true) → (e : Expression) →
-          global_is_written_over m own e ≡ true → written_out_over out e ≡ true
-      over each (expression.Literal value) is = refl
-      over each (expression.Constant handle) is = refl
-      over each (expression.Override handle) is = refl
-      over each (expression.ZeroValue ty) is = refl
-      over each (expression.Compose ty components) is =
-          all_out each components.items
-          (and_parts (is_spellable m (Handle ty)) (list_all own components.items) is).1
-      over each (expression.Splat size value) is = each value is
-      over each _ is = absurd cc
-
-      by : (o : Option Expression) →
-          option_map_or (global_is_written_over m own) o false ≡ true →
-          ((x : ℕ) → own x ≡ true → out x ≡ true) →
-          option_map_or (written_out_over out) o false ≡ true
-      by None is each = absurd cc
-      by (Some e) is each = over each e is
-
 module _ (m : Module) (info : ModuleInfo) where
-  -- ---- of expressions that stand together
-  module _ (f : Option Function) (g : Group) (is : IsSoundGroup m info f g) (written : ℕ → Option ConstantTree) where
-    abbrev inside : Declared
-    inside = declared_over m written (λ h. slice_get g.known h)
-
-    built_there : (h : ℕ) (e : Expression) → slice_get g.expressions h ≡ Some e → (o : Operator) (ts : List ConstantTree) → HasTree (built inside h o ts)
-    built_there h e at o ts =
-        let own = own_known m info f g is h e at in
-        (_, ap (option_map (λ r. Constructed _ (inside.value_type r) (trees ts))) own.1)
-
-    over_there : (tree_of : ℕ → Option ConstantTree) (is_written : ℕ → Bool) (h : ℕ) (e : Expression) → slice_get g.expressions h ≡ Some e →
-        ((k : ℕ) → k < h → is_written k ≡ true → HasTree (tree_of k)) →
-        ((c : ℕ) → e ≡ expression.Constant c → HasTree (written c)) →
-        written_out_over is_written e ≡ true → HasTree (tree_over inside tree_of h e)
-    over_there tree_of is_written h (expression.Literal v) at have named out = (_, refl)
-    over_there tree_of is_written h (expression.Constant c) at have named out = named c refl
-    over_there tree_of is_written h (expression.Override o) at have named out = (_, refl)
-    over_there tree_of is_written h (expression.ZeroValue ty) at have named out = built_there h (expression.ZeroValue ty) at (constructor (group_context m info g) (Handle ty) 0) []
-    over_there tree_of is_written h (expression.Compose ty components) at have named out =
-        let o = constructor (group_context m info g) (Handle ty) (length components.items) in
-        let ts = trees_there tree_of is_written h have components.items (is.below h (expression.Compose ty components) at) out in
-        let t = built_there h (expression.Compose ty components) at o ts.0 in
-        (t.0, ap (option_and_then (built inside h o)) ts.1 ∙ t.1)
-    over_there tree_of is_written h (expression.Splat size v) at have named out =
-        let below = and_parts (nat_lt v h) true (is.below h (expression.Splat size v) at) in
-        let one = have v (ltb-true v h below.0) out in
-        let t = built_there h (expression.Splat size v) at (Splat size) (one.0 ∷ []) in
-        (t.0, ap (option_and_then (λ t. built inside h (Splat size) (t ∷ []))) one.1 ∙ t.1)
-    over_there tree_of is_written h _ at have named out = absurd cc
-
   module _ (accepted : IsTrue (is_accepted m info)) where
     -- ---- the module's own expressions stand behind the initialisers that they name
     ranges : module_ranges_fit m info ≡ true
@@ -207,45 +116,3 @@ module _ (m : Module) (info : ModuleInfo) where
 
       pub constant_has_tree : (h : ℕ) (c : Constant) → slice_get m.constants h ≡ Some c → HasTree (written_constant m info h)
       constant_has_tree = constant_stands (global_tree m info)
-
-      -- what is written out has a tree, among the module's own expressions
-      global_there : (levels h : ℕ) → written_out_within levels m.global_expressions h ≡ true → HasTree (global_tree_within levels m info h)
-      global_there zero h out = absurd cc
-      global_there (suc levels) h out = by (slice_get m.global_expressions h) refl out (global_there levels)
-        where
-          global : ℕ → Option ConstantTree
-          global = global_tree_within levels m info
-
-          by : (o : Option Expression) → slice_get m.global_expressions h ≡ o → option_map_or (written_out_over (written_out_within levels m.global_expressions)) o false ≡ true →
-              ((k : ℕ) → written_out_within levels m.global_expressions k ≡ true → HasTree (global k)) →
-              HasTree (option_and_then (computed_over (declared_over m (constant_over m global) (global_types_known info)) global h) o)
-          by None at out have = absurd cc
-          by (Some e) at out have =
-              subst HasTree
-              (sym (computed_as_written (declared_over m (constant_over m global) (global_types_known info)) global h (written_out_within levels m.global_expressions) e out))
-              (over_there None Own own_is (constant_over m global) global (written_out_within levels m.global_expressions) h e at (λ k lt. have k)
-              (λ c same. let item = constant_named None Own own_is h c (at ∙ ap Some same) in constant_stands global c item.0 item.1) out)
-
-      -- so each initialiser of a named one has, where all that is declared has a form
-      pub are_computed : ItemsHaveForms m → AreComputed m info
-      are_computed items =
-          all_pass (λ c. is_none c.name || is_some (global_tree m info c.init)) m.constants
-          (λ i c at. by c.name (λ named.
-          let out = form_is_out m (suc c.init) c.init (items.initialisers c.init (IsInitialiser.OfConstant i c at named)) in
-          ap is_some (global_there (suc c.init) c.init out).1))
-        where
-          by : {X : Type 0} {b : Bool} (name : Option X) → (is_some name ≡ true → b ≡ true) → (is_none name || b) ≡ true
-          by None has = refl
-          by (Some name) has = has refl
-
-      -- and where all are computed, each has its tree
-      pub have_trees : AreComputed m info → HaveTrees m info accepted distinguished
-      have_trees computed i c named =
-          let k = named_stands m.constants i c named in
-          by c.name (global_tree m info c.init) k.2
-          (list_all_at (λ c. is_none c.name || is_some (global_tree m info c.init)) m.constants k.0 c computed k.1)
-        where
-          by : {X : Type 0} (name : Option X) (o : Option ConstantTree) → is_some name ≡ true → (is_none name || is_some o) ≡ true → HasTree o
-          by (Some name) (Some t) named is = (t, refl)
-          by (Some name) None named is = absurd cc
-          by None o named is = absurd cc

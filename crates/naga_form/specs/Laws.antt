@@ -48,7 +48,6 @@ use Rattle.module_meaning.specs.Layouts.{KeepsLayouts, TellsLayouts}
 use Rattle.module_meaning.specs.Literals.{literal_value}
 use Rattle.module_meaning.specs.Meanings.{OperatorsAreConsistent, HasTypedMeaning, HasTypedWorld}
 use Rattle.module_meaning.specs.Meanings.{IsNeverStuck, NoRunIsStuck}
-use Rattle.module_meaning.specs.Writable.{IsWritable}
 use Rattle.module_meaning.specs.ExpressionLabels.{name_of_label}
 use Rattle.module_meaning.specs.Names.{AreLabelNames, expression_name, item_labels, LabelNames}
 use Rattle.module_meaning.specs.Names.{ItemsAreDistinguished, labels_named_in, module_names}
@@ -90,8 +89,8 @@ OfAcceptedInScope Holds =
 abbrev pub NamesAreLabelNames : Type 0
 NamesAreLabelNames = (m : Module) → AreLabelNames m (expression_name m)
 
--- and so they are where those of one function are named behind any others, in front of which those of
--- the module's items are named
+-- and so they are where those of one function are named behind any others, in front of which those
+-- of the module's items are named
 abbrev pub NamesBehindAreLabelNames : Type 0
 NamesBehindAreLabelNames =
     (m : Module) (number : ℕ) (later : List (List ℕ)) →
@@ -119,8 +118,8 @@ KeepsTheLayouts = OfAccepted (λ named m info explicit. KeepsLayouts m)
 abbrev pub TellsTheLayouts : Type 0
 TellsTheLayouts = OfAccepted (λ named m info explicit. TellsLayouts m)
 
--- Each initialiser of the module has a value, under all values of overrides of their types and every
--- typed meaning of operators, so that the interface tells one.
+-- Each initialiser of the module has a value, under all values of overrides of their types and
+-- every typed meaning of operators, so that the interface tells one.
 abbrev pub InitialisersHaveValues : Type 0
 InitialisersHaveValues =
     (m : Module) (info : ModuleInfo) → IsTrue (is_accepted m info) → DeclarationsHaveForms m →
@@ -139,9 +138,9 @@ ResolvesAsMeant = OfAcceptedInScope ResolvesUnder
 abbrev pub BindsAsCounted : Type 0
 BindsAsCounted = OfAccepted BindsUnder
 
--- what is written of a function, of which what is written has a form, is read as its shape is written,
--- whatever the module declares, whatever type is known of each of its expressions and of the module's,
--- and under whatever names front ends gave
+-- what is written of a function, of which what is written has a form, is read as its shape is
+-- written, whatever the module declares, whatever type is known of each of its expressions and of
+-- the module's, and under whatever names front ends gave
 abbrev pub FunctionsAreRead : Type 0
 FunctionsAreRead =
     (explicit : Bool) (named : ℕ → List ℕ) (m : Module) (info : ModuleInfo) (g : ℕ) (f : Function) →
@@ -180,8 +179,8 @@ OfOne Holds =
     IsTrue (is_accepted m info) → AreLabelNames m named → ItemsHaveForms m →
     (number : ℕ) → Holds named explicit m info number
 
--- its identifiers and words, and the module's, stand for what they were written for, where the rules
--- of scope hold in it
+-- its identifiers and words, and the module's, stand for what they were written for, where the
+-- rules of scope hold in it
 abbrev pub OneResolves : Type 0
 OneResolves = OfOne (λ named explicit m info number.
     WrittenHaveFormsAt explicit m info number → ScopeHoldsIn m info number →
@@ -216,23 +215,19 @@ HasAMeaning =
 abbrev pub NamesTell : Type 0
 NamesTell = (m : Module) → ItemsAreDistinguished m
 
--- one world answers by the right types in every run of the module
+-- What holds of every accepted module in which the rules of scope hold, whether a text is written
+-- for it or not.
+abbrev pub OfEveryInScope : (Module → ModuleInfo → Type 0) → Type 0
+OfEveryInScope Holds =
+    (m : Module) (info : ModuleInfo) → IsTrue (is_accepted m info) → ScopesHold m info →
+    Holds m info
+
+-- One world answers by the right types in every run of the module. The only modules that are left
+-- break a rule of scope. A loop whose turns make no event may count them there: what a turn leaves
+-- to the next one is then more than what is in scope. So with more turns of the loop a run may ask
+-- for something behind the same events, and no number of turns is enough to tell whether it does.
 abbrev pub HasAWorld : Type 0
-HasAWorld =
-    (m : Module) (info : ModuleInfo) (explicit : Bool) → IsTrue (is_accepted m info) →
-    DeclarationsHaveForms m → AllWrittenHaveForms explicit m info → ScopesHold m info →
-    HasTypedWorld m info
-
--- what holds of every accepted module that holds nothing that no text is ever written for, and in
--- which the rules of scope hold
-abbrev pub OfEveryWritable : (Module → ModuleInfo → Type 0) → Type 0
-OfEveryWritable Holds =
-    (m : Module) (info : ModuleInfo) → IsTrue (is_accepted m info) → IsWritable m info →
-    ScopesHold m info → Holds m info
-
--- one world answers by the right types
-abbrev pub EveryHasAWorld : Type 0
-EveryHasAWorld = OfEveryWritable HasTypedWorld
+HasAWorld = OfEveryInScope HasTypedWorld
 
 -- neither the module's runs nor those of its program are stuck
 abbrev pub IsNotStuck : Type 0
@@ -240,26 +235,23 @@ IsNotStuck = OfAcceptedInScope (λ named. IsNeverStuck)
 
 -- no run of the module is
 abbrev pub EveryIsNotStuck : Type 0
-EveryIsNotStuck = OfEveryWritable NoRunIsStuck
+EveryIsNotStuck = OfEveryInScope NoRunIsStuck
 
 -- In each function and entry point, after those before it and in front of the later ones, both runs
--- pass the same points: there a handle in scope that is bound has the module's value under its name,
--- and what is written for any other handle in scope gives that value.
+-- pass the same points: there a handle in scope that is bound has the module's value under its
+-- name, and what is written for any other handle in scope gives that value.
 abbrev pub PointsAgreeThere : Type 0
 PointsAgreeThere = OfAcceptedInScope (λ named m info program.
     (later : List Naming) (f : Naming) (fs : List Naming) →
     namings_under named (module_names m) m info ≡ later ++ (f ∷ fs) →
     PointsAgreeIn (module_shape m info) (outer_names (module_names m) m) later f fs)
 
--- where each function with a result returns a value on all paths, no call misses a result
-abbrev pub WrittenGiveResults : Type 0
-WrittenGiveResults =
-    (m : Module) (info : ModuleInfo) (explicit : Bool) → IsTrue (is_accepted m info) →
-    DeclarationsHaveForms m → AllWrittenHaveForms explicit m info → ScopesHold m info →
+-- where each function with a result returns a value on all paths, no call of an accepted module
+-- misses a result, whatever is in scope there
+abbrev pub GivesResults : Type 0
+GivesResults =
+    (m : Module) (info : ModuleInfo) → IsTrue (is_accepted m info) →
     ResultsAreReturnedIn (module_shape m info)
-
-abbrev pub EveryGivesResults : Type 0
-EveryGivesResults = OfEveryWritable (λ m info. ResultsAreReturnedIn (module_shape m info))
 
 -- two types without a spelling have values of one type only where they are told by the same
 abbrev pub UnspelledAreDistinguished : Type 0
@@ -268,8 +260,8 @@ UnspelledAreDistinguished =
     spelled_resolution (type_names m) a ≡ None → spelled_resolution (type_names m) b ≡ None →
     type_of_values m a ≡ type_of_values m b → identity m.types a ≡ identity m.types b
 
--- two types that an accepted module may know of its expressions have values of one type exactly where
--- acceptance takes them for alike
+-- two types that an accepted module may know of its expressions have values of one type exactly
+-- where acceptance takes them for alike
 abbrev pub AlikeAreDistinguished : Type 0
 AlikeAreDistinguished =
     (m : Module) (info : ModuleInfo) → IsTrue (is_accepted m info) →
@@ -356,8 +348,8 @@ AlikeThrough =
     (types : List Type_) (a b c : TypeResolution) → AreAlike types a b → AreAlike types b c →
     AreAlike types a c
 
--- where types have a form that they may have, they are alike by their numbers exactly where they are
--- alike by what they are read as
+-- where types have a form that they may have, they are alike by their numbers exactly where they
+-- are alike by what they are read as
 abbrev pub AlikeByNumbers : Type 0
 AlikeByNumbers =
     (types : List Type_) (a b : TypeResolution) → IsTrue (list_all type_is_fit types) →

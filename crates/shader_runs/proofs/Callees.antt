@@ -1,10 +1,10 @@
--- The run of a call hangs on what its callees do, and not on which are told as its callees; and what
--- its statements do doesn't hang on which body they stand in.
+-- The run of a call hangs on what its callees do, and not on which are told as its callees; and
+-- what its statements do doesn't hang on which body they stand in.
 --
--- Throughout, c is the call and n bounds the turns of loops, h is a handle and o is of an expression
--- or of a handle, hs and xs are handles, kept are the kept values and t the events so far, v is a
--- value and vs are several, a is an action and r its result, ss are statements and cs cases, and x is
--- a label.
+-- Throughout, c is the call and n bounds the turns of loops, h is a handle and o is of an
+-- expression or of a handle, hs and xs are handles, kept are the kept values and t the events so
+-- far, v is a value and vs are several, a is an action and r its result, ss are statements and cs
+-- cases, and x is a label.
 use Rattle.std.proofs.Common.{◌≡◌, ℕ, zero, suc, cond, List, [], ◌∷◌, Option, Some, None, refl, ap}
 use Rattle.std.proofs.Common.{◌∙◌, length, option_map}
 use Rattle.shader_runs.specs.Value.{Value}

@@ -182,7 +182,7 @@ module _ (l : Words) (names : Scope) (n : ModuleNames) (known : ℕ → Option V
         let rest = value_of l (constant_form n i) names in
         ap (λ q. index_into l.parts l.meaning q rest) (tree_gives b w.0 r.0 t)
         ∙ indexed_denoted l.parts l.meaning (tree_value known l.meaning b) (tree_value known l.meaning i) t rest
-            (valued i t (tree_gives i w.1 r.1 t))
+        (valued i t (tree_gives i w.1 r.1 t))
     tree_gives (Picking x ty b) w r t =
         ap (part_picked l.parts l.world l.meaning x) (tree_gives b w r t)
         ∙ picked_denoted l.parts l.world l.meaning x (tree_value known l.meaning b) t
@@ -190,7 +190,7 @@ module _ (l : Words) (names : Scope) (n : ModuleNames) (known : ℕ → Option V
         let rest = value_of l (constant_form n b) names in
         ap (λ q. logical_reached l.meaning j q rest) (valued a t (tree_gives a w.0 r.0 t))
         ∙ joined_denoted l.meaning j (tree_value known l.meaning a) (tree_value known l.meaning b) t rest
-            (valued b t (tree_gives b w.1 r.1 t))
+        (valued b t (tree_gives b w.1 r.1 t))
 
     pub trees_give : (es : ConstantTrees) → EachWordOf Q es → EachLeafOf IsLiteral P es → (t : List Event) → evaluate_all l (constant_forms n es) names t ≡ reach (tree_values known l.meaning es) t
     trees_give no_constant w r t = refl

@@ -1,9 +1,9 @@
 -- A case that falls through does what a case does in which its statements and those of the next one
 -- stand as two blocks. So a module runs as one in which no case falls through.
 --
--- Throughout, c is a call and n bounds the turns of loops, s is a statement, b and ss are several and
--- cs are cases, x is a label or a selector, kept are the kept values and t the events so far, f is a
--- function and fs are several, g is a function's number, p a module and m the meaning, e an
+-- Throughout, c is a call and n bounds the turns of loops, s is a statement, b and ss are several
+-- and cs are cases, x is a label or a selector, kept are the kept values and t the events so far, f
+-- is a function and fs are several, g is a function's number, p a module and m the meaning, e an
 -- expression or a tree of constants and es are several, and o is an outcome.
 use Rattle.std.proofs.Common.{◌≡◌, ℕ, zero, suc, Bool, true, false, cond, ◌||◌, List, [], ◌∷◌}
 use Rattle.std.proofs.Common.{length, Option, Some, None, refl, sym, ap, ◌∙◌, subst, nat_eq}
@@ -85,8 +85,10 @@ labels_stay x (case l b falls cs) = ap (λ c. same_label x l || c) (labels_stay 
 module _ (c : Call) (n : ℕ) where
   -- a case, and what it falls to
   followed_on : (falls : Bool) (b : Statements) (cs : Cases) →
-      ((kept : KeptValues) (t : List Event) → run_all c n (unfolded_all b) kept t ≡ run_all c n b kept t) →
-      ((kept : KeptValues) (t : List Event) → run_all c n (unfolded_on cs) kept t ≡ run_on c n cs kept t) →
+      ((kept : KeptValues) (t : List Event) →
+      run_all c n (unfolded_all b) kept t ≡ run_all c n b kept t) →
+      ((kept : KeptValues) (t : List Event) →
+      run_all c n (unfolded_on cs) kept t ≡ run_on c n cs kept t) →
       (kept : KeptValues) (t : List Event) →
       run_all c n (followed falls (unfolded_all b) (unfolded_on cs)) kept t
       ≡ and_then (run_all c n b kept t)
@@ -145,7 +147,8 @@ pub unfolded_numbered : (fs : List Function) (g : ℕ) (f : Function) →
     function_numbered (unfolded_functions fs) g ≡ Some (unfolded_function f)
 unfolded_numbered [] g f at = absurd cc
 unfolded_numbered (f1 ∷ fs) g f at =
-    ap (λ k. cond (nat_eq g k) (Some (unfolded_function f1)) (function_numbered (unfolded_functions fs) g))
+    ap (λ k. cond (nat_eq g k) (Some (unfolded_function f1))
+    (function_numbered (unfolded_functions fs) g))
     (unfolded_counted fs)
     ∙ by (nat_eq g (length fs)) at (unfolded_numbered fs g f)
   where

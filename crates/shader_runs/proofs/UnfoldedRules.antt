@@ -1,9 +1,9 @@
 -- What is asked of a function holds of it with its cases unfolded, so that none falls through: the
 -- rules of scope, what is regular, and what is well-formed. Only an empty case falls through there.
 --
--- Throughout, f is a function and fs are several, st is a statement, b and ss are several and cs are
--- cases, h is a handle and hs are several, gs are the handles that were given, at is a point, e an
--- expression or a tree of constants and es are several, k is a type, p a module and n are names.
+-- Throughout, f is a function and fs are several, st is a statement, b and ss are several and cs
+-- are cases, h is a handle and hs are several, gs are the handles that were given, at is a point, e
+-- an expression or a tree of constants and es are several, k is a type, p a module and n are names.
 use Rattle.std.proofs.Common.{◌≡◌, ℕ, suc, ◌<◌, Bool, true, false, cond, ◌||◌, List, [], ◌∷◌}
 use Rattle.std.proofs.Common.{Option, Some, None, refl, sym, ap, ◌∙◌, subst}
 use Rattle.std.specs.Prelude.{IsTrue, IsFalse}
@@ -12,8 +12,8 @@ use Rattle.shader_runs.specs.Program.{ConstantTree, Fixed, NamedConstant, Constr
 use Rattle.shader_runs.specs.Program.{Picking, Joining, ConstantTrees, no_constant, constant}
 use Rattle.shader_runs.specs.Program.{Expression, Constant, Argument, Local, Global, Load, Request}
 use Rattle.shader_runs.specs.Program.{Swizzle, Statement, Emit, Store}
-use Rattle.shader_runs.specs.Program.{Block, If, Switch, Loop, Break, Continue, Return, Kill, Barrier}
-use Rattle.shader_runs.specs.Program.{Act, Statements, end, then}
+use Rattle.shader_runs.specs.Program.{Block, If, Switch, Loop, Break, Continue, Return, Kill}
+use Rattle.shader_runs.specs.Program.{Barrier, Act, Statements, end, then}
 use Rattle.shader_runs.specs.Program.{Cases, no_case, case, Function, Module, expression_of}
 use Rattle.shader_runs.specs.Program.{binds_as, from, holds_continue}
 use Rattle.shader_runs.specs.Program.{any_continue, some_case_continues}
@@ -135,7 +135,8 @@ module _ (f : Function) (body : Statements) where
   emitted_alike : (hs : List ℕ) (gs : List IntroducedHandle) →
       with_emitted other hs gs ≡ with_emitted f hs gs
   emitted_alike [] gs = refl
-  emitted_alike (h ∷ hs) gs = ap (with_emitted other hs) (one_alike h gs) ∙ emitted_alike hs (with_one f h gs)
+  emitted_alike (h ∷ hs) gs =
+      ap (with_emitted other hs) (one_alike h gs) ∙ emitted_alike hs (with_one f h gs)
 
   -- behind a statement, unfolded or not
   statement_gives : (st : Statement) (gs : List IntroducedHandle) →
@@ -169,7 +170,8 @@ module _ (f : Function) (body : Statements) where
           ≡ with_statements f (cond b end (then st (statements_before_continue ss))) gs
       by true later = refl
       by false later =
-          ap (with_statements other (statements_before_continue (unfolded_all ss))) (statement_gives st gs)
+          ap (with_statements other (statements_before_continue (unfolded_all ss)))
+          (statement_gives st gs)
           ∙ later (with_statement f st gs)
 
   behind_alike : (st : Statement) (at : Point) → behind other (unfolded st) at ≡ behind f st at
@@ -233,7 +235,8 @@ module _ (f : Function) (body : Statements) where
     statement_holds at (Loop b d e) holds =
         let continuing = behind_turn f b at in
         let here = turn_alike f body b at in
-        let last = ap (behind_turn (other f body) (unfolded_all d)) here ∙ turn_alike f body d continuing in (
+        let last =
+        ap (behind_turn (other f body) (unfolded_all d)) here ∙ turn_alike f body d continuing in (
           statements_hold at b holds.0,
           subst (λ at. StatementsHold (other f body) at (unfolded_all d)) (sym here)
               (statements_hold continuing d holds.1),
@@ -249,7 +252,8 @@ module _ (f : Function) (body : Statements) where
     statements_hold at end holds = tt
     statements_hold at (then st ss) holds = (
       statement_holds at st holds.0,
-      subst (λ at. StatementsHold (other f body) at (unfolded_all ss)) (sym (behind_alike f body st at))
+      subst (λ at. StatementsHold (other f body) at (unfolded_all ss))
+          (sym (behind_alike f body st at))
           (statements_hold (behind f st at) ss holds.1),
     )
 

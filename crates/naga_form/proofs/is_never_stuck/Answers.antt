@@ -8,6 +8,5 @@ returns-clause-written c = λ m info explicit named are accepted declarations ha
     never_stuck m info explicit accepted declarations have scopes named are
 
 pub returns-clause-every : goal.returns-clause-every
-returns-clause-every c = λ m info accepted writable scopes.
-    every.never_stuck m info accepted (types_are_distinguished m) writable.constants writable.cases
-    scopes
+returns-clause-every c = λ m info accepted scopes.
+    every.never_stuck m info accepted (types_are_distinguished m) scopes

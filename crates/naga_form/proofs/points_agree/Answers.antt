@@ -1,5 +1,4 @@
 use Rattle.std.proofs.Common.{subst}
-use Rattle.module_meaning.proofs.DeclarationForms.{items_have_forms}
 use Rattle.module_meaning.specs.ModuleShapes.{module_shape}
 use Rattle.module_meaning.specs.Names.{module_names}
 use Rattle.module_meaning.specs.Namings.{outer_names}
@@ -15,5 +14,5 @@ returns c = λ m info explicit named are accepted declarations have scopes later
     let outer = outer_names (module_names m) m in
     points_agree shape outer later f fs
     (subst (ModuleFits shape outer) split
-    (module_fits_under m info accepted (items_have_forms m declarations) explicit have named are
+    (module_fits_under m info accepted explicit have named are
     ((scopes_are_checked_under m info accepted named).1 scopes)))
