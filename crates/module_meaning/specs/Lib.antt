@@ -47,5 +47,5 @@ pub mod TypeIdentity
 pub mod TypeParts
 pub mod Types
 pub mod Undeclared
-pub mod Writable
+pub mod WrittenOut
 pub mod Written

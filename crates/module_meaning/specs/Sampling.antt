@@ -10,7 +10,7 @@ use Rattle.naga_ir.specs.declared.expression.SampleLevel.{SampleLevel}
 use Rattle.naga_ir.specs.declared.expression.SwizzleComponent.{SwizzleComponent}
 use Rattle.module_meaning.specs.ExpressionOperators.{level_of}
 use Rattle.module_meaning.specs.OperatorTable.{gather_word, sample_word}
-use Rattle.module_meaning.specs.Writable.{is_written_out}
+use Rattle.module_meaning.specs.WrittenOut.{is_written_out}
 
 -- A gather is at level zero, told or not, and is not clamped. What is clamped is at level zero, and
 -- compares nothing.

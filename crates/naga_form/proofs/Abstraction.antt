@@ -11,7 +11,7 @@ use Rattle.naga_info.specs.declared.info.TypeResolution.TheVariants.{Handle}
 use Rattle.naga_form.proofs.Operators.{spelled_as_trees, SpellsTypes}
 use Rattle.module_meaning.proofs.ExpressionForms.{spelled_of_spellable, has_form_parts}
 use Rattle.module_meaning.specs.Sampling.{offset_is_written}
-use Rattle.module_meaning.specs.Writable.{is_written_out}
+use Rattle.module_meaning.specs.WrittenOut.{is_written_out}
 use Rattle.naga_form.proofs.ConstantForms.{IsReadAs, constants_read, names_are_read, read_out}
 use Rattle.naga_form.specs.ConstantForms.{written_constant_form}
 use Rattle.naga_form.proofs.Images.{offset_alone}

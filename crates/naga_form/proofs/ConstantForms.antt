@@ -37,7 +37,7 @@ use Rattle.module_meaning.specs.ExpressionContexts.{zero_of_type}
 use Rattle.module_meaning.specs.Types.{type_names}
 use Rattle.naga_info.specs.declared.info.ExpressionInfo.{ExpressionInfo}
 use Rattle.naga_info.specs.declared.info.ModuleInfo.{ModuleInfo}
-use Rattle.module_meaning.specs.Writable.{written_out_over, written_out_within}
+use Rattle.module_meaning.specs.WrittenOut.{written_out_over, written_out_within}
 use Rattle.naga_form.proofs.NamedConstants.{constant_numbered, override_numbered}
 use Rattle.naga_form.proofs.SameValues.{or_nothing}
 use Rattle.naga_form.proofs.WrittenHandles.{all_map}

@@ -34,7 +34,7 @@ use Rattle.naga_form.proofs.ConstantInitialisers.{initialiser_of}
 use Rattle.naga_form.proofs.ComputedTrees.{HoldsOfMade, of_computed}
 use Rattle.naga_form.proofs.ConstantTrees.{availability_tree}
 use Rattle.naga_form.proofs.NamedConstants.{constants_counted, named_at, types_count, types_of_constants}
-use Rattle.naga_form.proofs.WrittenOut.{Own, own_is, constant_named, initialiser_stands_before}
+use Rattle.naga_form.proofs.OwnExpressions.{Own, own_is, constant_named, initialiser_stands_before}
 
 abbrev AnyValue : Value → Type 0
 AnyValue v = Unit {0}

@@ -18,7 +18,7 @@ use Rattle.naga_form.proofs.ConstantInitialisers.{initialiser_in_range, initiali
 use Rattle.naga_form.proofs.ConstantInitialisers.{tree_in_range, tree_typed}
 use Rattle.naga_form.proofs.ConstantOrder.{constant_rank, constants_within_types, initialiser_before}
 use Rattle.naga_form.proofs.Leaves.{ConstantsAreTyped}
-use Rattle.naga_form.proofs.WrittenOut.{constant_has_tree, constant_named}
+use Rattle.naga_form.proofs.OwnExpressions.{constant_has_tree, constant_named}
 
 pub constants_fit : (m : Module) (info : ModuleInfo) → IsTrue (is_accepted m info) →
     TypesAreDistinguished m → (n : ModuleNames) →

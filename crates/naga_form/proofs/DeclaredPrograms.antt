@@ -72,7 +72,7 @@ use Rattle.naga_form.proofs.SameValues.{TypesAreFit, constant_identifier, global
 use Rattle.naga_form.proofs.SameValues.{override_identifier, tree_is}
 use Rattle.naga_form.proofs.TypeTrees.{storage_is}
 use Rattle.naga_form.proofs.WrittenFunctions.{entry_point_at}
-use Rattle.naga_form.proofs.WrittenOut.{declared_in_range, global_names_in_range}
+use Rattle.naga_form.proofs.OwnExpressions.{declared_in_range, global_names_in_range}
 use Rattle.naga_form.proofs.WrittenSizes.{written_size_fits}
 use Rattle.naga_form.proofs.WrittenTypes.{is_type_at, tree_there}
 use Rattle.naga_form.specs.Attributes.{stage_attributes}

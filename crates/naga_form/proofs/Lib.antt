@@ -73,6 +73,7 @@ pub mod OperatingWords
 pub mod Operators
 pub mod Ordered
 pub mod OutsideWords
+pub mod OwnExpressions
 pub mod PartTypes
 pub mod PartsFit
 pub mod PlaceParts
@@ -110,6 +111,5 @@ pub mod WellFormed
 pub mod Worded
 pub mod WrittenFunctions
 pub mod WrittenHandles
-pub mod WrittenOut
 pub mod WrittenSizes
 pub mod WrittenTypes

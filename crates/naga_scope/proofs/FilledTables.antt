@@ -24,7 +24,7 @@ use Rattle.module_meaning.specs.Undeclared.{handle_names_undeclared, is_undeclar
 use Rattle.module_meaning.specs.Undeclared.{names_undeclared_by, names_undeclared_within}
 use Rattle.naga_form.proofs.AcceptedGroups.{types_range}
 use Rattle.naga_form.proofs.AlikeParts.{at_depth, parts_stand}
-use Rattle.naga_form.proofs.WrittenOut.{declared_in_range}
+use Rattle.naga_form.proofs.OwnExpressions.{declared_in_range}
 use Rattle.naga_info.specs.declared.info.ModuleInfo.{ModuleInfo}
 use Rattle.naga_info.specs.declared.info.TypeResolution.{TypeResolution}
 use Rattle.naga_info.specs.declared.info.TypeResolution.TheVariants.{Handle, Value}

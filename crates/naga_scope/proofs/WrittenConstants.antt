@@ -13,15 +13,15 @@ use Rattle.std.proofs.lemmas.Option.{slice_get_past, slice_get_within}
 use Rattle.module_meaning.proofs.Stepwise.{by_those_before}
 use Rattle.module_meaning.specs.Accepted.{is_accepted}
 use Rattle.naga_form.proofs.Ordered.{each_below}
-use Rattle.naga_form.proofs.WrittenOut.{Own, constant_named, initialiser_stands_before}
-use Rattle.naga_form.proofs.WrittenOut.{initialiser_within, own_is}
+use Rattle.naga_form.proofs.OwnExpressions.{Own, constant_named, initialiser_stands_before}
+use Rattle.naga_form.proofs.OwnExpressions.{initialiser_within, own_is}
 use Rattle.naga_info.specs.declared.info.ModuleInfo.{ModuleInfo}
 use Rattle.module_meaning.specs.Undeclared.{is_spellable}
 use Rattle.module_meaning.specs.ExpressionForms.{constant_is_written, constant_is_written_over}
 use Rattle.module_meaning.specs.ExpressionForms.{global_is_written, global_is_written_over}
 use Rattle.module_meaning.specs.ExpressionForms.{global_is_written_within}
 use Rattle.module_meaning.specs.Premises.{OperandsStandBefore}
-use Rattle.module_meaning.specs.Writable.{is_written_out, written_out_over, written_out_within}
+use Rattle.module_meaning.specs.WrittenOut.{is_written_out, written_out_over, written_out_within}
 use Rattle.naga_ir.specs.Operands.{expression_operands}
 use Rattle.naga_ir.specs.declared.expression.Expression.{Expression}
 use Rattle.naga_ir.specs.declared.expression.Expression.TheVariants as expression

@@ -4,7 +4,7 @@ use Rattle.std.specs.Prelude.{IsFalse, IsSomeAnd, IsTrue, None, Option, Some, sl
 use Rattle.std.specs.List.{list_any}
 use Rattle.module_meaning.specs.ExpressionForms.{global_is_written}
 use Rattle.module_meaning.specs.Premises.{OperandsStandBefore}
-use Rattle.module_meaning.specs.Writable.{is_written_out}
+use Rattle.module_meaning.specs.WrittenOut.{is_written_out}
 use Rattle.module_meaning.specs.Written.{IsWritten}
 use Rattle.naga_ir.specs.declared.expression.Expression.{Expression}
 use Rattle.naga_ir.specs.declared.expression.Expression.TheVariants as expression

@@ -12,7 +12,7 @@ ghost use Rattle.naga_names.specs.Keys.{names_in};
 ghost use Rattle.module_meaning.specs.Names.{HasNamesOf};
 ghost use Rattle.module_meaning.specs.Premises.{OperandsStandBefore};
 ghost use Rattle.module_meaning.specs.Sampling.{own_offset_is_written};
-ghost use Rattle.module_meaning.specs.Writable.{written_out_over};
+ghost use Rattle.module_meaning.specs.WrittenOut.{written_out_over};
 ghost use Rattle.module_meaning.specs.Written.{block_roots, cases_roots, function_roots};
 ghost use Rattle.module_meaning.specs.Written.{statement_roots};
 ghost use Rattle.module_meaning.specs.ExpressionForms.{expression_has_form};

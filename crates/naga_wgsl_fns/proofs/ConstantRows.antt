@@ -17,7 +17,7 @@ use Rattle.module_meaning.specs.ExpressionForms.{is_written_literal}
 use Rattle.module_meaning.specs.ExpressionContexts.{expression_context}
 use Rattle.naga_form.proofs.Operators.{constructor_called, typed_notation}
 use Rattle.naga_form.proofs.SameValues.{or_nothing}
-use Rattle.naga_form.proofs.WrittenOut.{global_names_in_range}
+use Rattle.naga_form.proofs.OwnExpressions.{global_names_in_range}
 use Rattle.naga_form.proofs.WrittenTypes.{tree_there}
 use Rattle.naga_form.specs.ConstantForms.{built_form, constant_form_by, constant_form_over}
 use Rattle.naga_form.specs.ConstantForms.{global_form, global_form_within, no_constant_form}

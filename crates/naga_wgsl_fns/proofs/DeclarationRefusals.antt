@@ -11,7 +11,7 @@ use Rattle.module_meaning.specs.InfoSizes.{sizes_fit, type_is_fit}
 use Rattle.module_meaning.specs.Ranges.{constant_in_range, declarations_in_range, global_in_range}
 use Rattle.module_meaning.specs.Ranges.{is_below, module_in_range, module_ranges_fit}
 use Rattle.module_meaning.specs.Ranges.{override_in_range, special_types_fit, types_in_range}
-use Rattle.naga_form.proofs.WrittenOut.{initialiser_within}
+use Rattle.naga_form.proofs.OwnExpressions.{initialiser_within}
 use Rattle.naga_info.specs.declared.info.ModuleInfo.{ModuleInfo}
 use Rattle.naga_ir.specs.declared.module.Module.{Module}
 

@@ -10,7 +10,7 @@ use Rattle.std.proofs.lemmas.List.{append-nil}
 use Rattle.module_meaning.specs.ExpressionOperators.{level_of, query_operator}
 use Rattle.module_meaning.specs.ExpressionOperators.{sample_operator, texel_of}
 use Rattle.module_meaning.specs.OperatorTable.{Sample, Splat, Texel, if_word, run_word}
-use Rattle.module_meaning.specs.Writable.{is_written_out, written_out_over, written_out_within}
+use Rattle.module_meaning.specs.WrittenOut.{is_written_out, written_out_over, written_out_within}
 use Rattle.naga_form.proofs.Operators.{query_is_called}
 use Rattle.naga_form.specs.ConstantForms.{constant_form_over, constant_form_within, no_constant_form}
 use Rattle.naga_form.specs.ConstantForms.{built_form}
