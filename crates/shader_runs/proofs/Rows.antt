@@ -180,6 +180,7 @@ rows_hold =
       unreturned = record { fits = refl; text = refl; module_run = refl; text_run = refl };
       switch = record { fits = refl; text = refl; module_run = refl; text_run = refl };
       joined = record { fits = refl; text = refl; module_run = refl; text_run = refl };
+      fallen = record { module_run = refl; two_blocks = refl; one_case = refl };
       loop = (record { fits = refl; text = refl; module_run = refl; text_run = refl }, record { fits = refl; text = refl; module_run = refl; text_run = refl });
       barrier = record { fits = refl; text = refl; module_run = refl; text_run = refl };
       select = record { fits = refl; text = refl; module_run = refl; text_run = refl };

@@ -2,8 +2,8 @@
 -- other writers would give, which do something else.
 --
 -- Throughout, t are the events so far, vs are arguments, and f and e a function and an expression.
-use Rattle.std.specs.Prelude.{◌≡◌, pos, Bool, true, false, List, [], ◌∷◌, ◌++◌, Option, Some, None}
-use Rattle.std.specs.Prelude.{codes}
+use Rattle.std.specs.Prelude.{◌≡◌, ℕ, pos, Bool, true, false, List, [], ◌∷◌, ◌++◌, Option, Some}
+use Rattle.std.specs.Prelude.{None, codes}
 use Rattle.shader_runs.specs.Value.{Bytes, Rooted, LocalRoot, Place, ValueType, BooleanType, Value}
 use Rattle.shader_runs.specs.Value.{Truth, Pointer}
 use Rattle.shader_runs.specs.World.{Event, Entry, Ask, Read, Write}
@@ -14,8 +14,8 @@ use Rattle.shader_runs.specs.Program.{Statements, Emit, Store, If, Switch, Loop,
 use Rattle.shader_runs.specs.Program.{Return, Act, Barrier, end, then, no_case, case, Function}
 use Rattle.shader_runs.specs.Program.{Statement}
 use Rattle.shader_runs.specs.Text.{Tree, Name, LiteralOf, Deref, Index, Let, Assign, IfElse}
-use Rattle.shader_runs.specs.Text.{SwitchOn, LoopOf, ContinueLine, Lines, last, before, no_group}
-use Rattle.shader_runs.specs.Text.{group, Variable, TextFunction, Line}
+use Rattle.shader_runs.specs.Text.{Braces, SwitchOn, LoopOf, ContinueLine, Lines, last, before}
+use Rattle.shader_runs.specs.Text.{no_group, group, Variable, TextFunction, Line}
 use Rattle.shader_runs.specs.Constants.{run_module}
 use Rattle.shader_runs.specs.Scope.{Naming, fits_function}
 use Rattle.shader_runs.specs.Premises.{SettingsFit}
@@ -457,6 +457,46 @@ JoinedRow =
     IsShownAlone (only (codes "s") (x_name ∷ []) [] function) text (number 1 ∷ []) (
     Gives (Some (number 1)) (entered_with (number 1 ∷ []) []))
 
+-- case 1 stores 1 and falls through to the default, which stores 2
+abbrev pub fallen_function : Function
+fallen_function =
+    let next = case Default (statements (Store 1 3 ∷ [])) false no_case in
+    function_with (i32 ∷ []) None ((local_i32, None) ∷ []) (
+    row (Argument 0) i32 1
+    ∷ row (Local 0) i32_pointer 2
+    ∷ row (literal 1) i32 1
+    ∷ row (literal 2) i32 1 ∷ []) (
+    Switch 0 (case (Numbered (pos 1)) (statements (Store 1 2 ∷ [])) true next) ∷ [])
+
+-- the lines of a case that stores this
+abbrev pub storing_lines : ℕ → Lines
+storing_lines k = lines (Assign (Name a_name) (digits k) ∷ [])
+
+-- a text of it, with these lines in case 1
+abbrev pub fallen_text : Lines → TextFunction
+fallen_text own =
+    let next = group (Default ∷ []) (storing_lines 2) no_group in
+    text_of (codes "s") (x_name ∷ []) (local_a ∷ []) (lines (
+    SwitchOn (Name x_name) (group (Numbered (pos 1) ∷ []) own next) ∷ []))
+
+-- [fallen]: no text is written for the module, whose run stores twice. So does a text with a block
+-- for each of the two cases, and not one with the lines of case 1 alone
+pub record FallenRow : Type 0 where
+  pub module_run :
+      let vs = number 1 ∷ [] in
+      run_module (functions_alone (fallen_function ∷ [])) nothing row_world row_meaning 3 0 vs []
+      ≡ Gives None (
+      Write a_place (number 2) ∷ Write a_place (number 1) ∷ entered_with vs (None ∷ []))
+  pub two_blocks :
+      let vs = number 1 ∷ [] in
+      let blocks = Braces (storing_lines 1) ∷ Braces (storing_lines 2) ∷ [] in
+      Follows (fallen_text (lines blocks)) vs (Gives None (
+      Write a_place (number 2) ∷ Write a_place (number 1) ∷ entered_with vs (None ∷ [])))
+  pub one_case :
+      let vs = number 1 ∷ [] in
+      Follows (fallen_text (storing_lines 1)) vs (Gives None (
+      Write a_place (number 1) ∷ entered_with vs (None ∷ [])))
+
 -- a loop that a condition leaves
 abbrev pub loop_function : Function
 loop_function =
@@ -710,6 +750,7 @@ pub record RowsHold : Type 0 where
   pub unreturned : UnreturnedRow
   pub switch : SwitchRow
   pub joined : JoinedRow
+  pub fallen : FallenRow
   pub loop : LoopRow
   pub barrier : BarrierRow
   pub select : SelectRow
