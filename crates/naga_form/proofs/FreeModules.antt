@@ -116,13 +116,18 @@ module _ (m : ir_module.Module) (info : ModuleInfo) (accepted : IsTrue (is_accep
 
   -- ---- results
   -- the statements of each function are regular
+  counted : (fs : List shapes.Function) →
+      free_within free_request (length fs)
+      ≡ free_within free_request (length (functions_of (free_naming free_request fs)))
+  counted fs =
+      ap (λ gs. free_within free_request (length gs)) (sym (free_functions free_request fs))
+
   named_freely : (fs : List shapes.Function) →
       AllBehind (λ callees f. f.names ≡ free_within free_request (length callees))
       (free_naming free_request fs)
   named_freely [] = tt
   named_freely (f ∷ fs) =
-      let counted = ap (λ gs. free_within free_request (length gs)) (sym (free_functions free_request fs)) in
-      (counted, named_freely fs)
+      (counted fs, named_freely fs)
 
   each_regular : (k : ℕ) (f : ir_function.Function) (es : List ExpressionInfo) →
       slice_get (functions_known m info) k ≡ Some (f, es) → (own : Names)
@@ -181,7 +186,7 @@ module _ (m : ir_module.Module) (info : ModuleInfo) (accepted : IsTrue (is_accep
       AllBehind IsLeftlyNamed (free_naming free_request fs)
   are_freely_named [] scopes = tt
   are_freely_named (f ∷ fs) scopes = (
-    (ap (λ gs. free_within free_request (length gs)) (sym (free_functions free_request fs)), scopes.0),
+    (counted fs, scopes.0),
     are_freely_named fs scopes.1,
   )
 
@@ -270,7 +275,8 @@ module _ (m : ir_module.Module) (info : ModuleInfo) (accepted : IsTrue (is_accep
         (settings_unfolded settings fit) meaning (typed_unfolded program meaning typed) in (
           found.0,
           λ turns g f there arguments have past.
-              subst KeepsTypes (module_unfolded program settings meaning found.0 turns g arguments past)
+              subst KeepsTypes
+              (module_unfolded program settings meaning found.0 turns g arguments past)
               (found.1 turns g (unfolded_function f) (unfolded_numbered program.functions g f there)
               arguments have past),
         )

@@ -22,7 +22,8 @@ use Rattle.shader_runs.specs.Program.{no_case, case, Function, argument_count, f
 use Rattle.shader_runs.specs.Program.{Module, constant_count, expression_of, handle_type}
 use Rattle.shader_runs.specs.Program.{operands_of}
 use Rattle.shader_runs.specs.ProgramRun.{Call, KeptValues, has_label, label_if, leave, run, run_all}
-use Rattle.shader_runs.specs.ProgramRun.{run_body, run_call, run_cases, run_if_arguments_fit, run_on}
+use Rattle.shader_runs.specs.ProgramRun.{run_body, run_call, run_cases, run_if_arguments_fit}
+use Rattle.shader_runs.specs.ProgramRun.{run_on}
 use Rattle.shader_runs.specs.ProgramRun.{same_label, used_value}
 use Rattle.shader_runs.specs.Constants.{all_found, environment_of, found_after, found_with}
 use Rattle.shader_runs.specs.Constants.{global_values, known_value, run_module}
@@ -166,7 +167,8 @@ module _ (env : Environment) (w : World) (m : Meaning) (n : ℕ) where
   call_unfolded [] g vs t = refl
   call_unfolded (f ∷ fs) g vs t =
       λ i. cond (nat_eq g (unfolded_counted fs i))
-      (run_if_arguments_fit (nat_eq (length vs) (argument_count f)) (own (λ i g vs t. call_unfolded fs g vs t i) i) t)
+      (run_if_arguments_fit (nat_eq (length vs) (argument_count f))
+      (own (λ i g vs t. call_unfolded fs g vs t i) i) t)
       (call_unfolded fs g vs t i)
     where
       over : List Function → (ℕ → List Value → List Event → ReachedOrHalted (Option Value)) →
@@ -183,14 +185,17 @@ module _ (env : Environment) (w : World) (m : Meaning) (n : ℕ) where
       }
 
       own : run_call env w m n (unfolded_functions fs) ≡ run_call env w m n fs →
-          run_body (over (unfolded_functions fs) (run_call env w m n (unfolded_functions fs)) (unfolded_function f)) n
-          (length (unfolded_functions fs)) vs t
+          run_body
+          (over (unfolded_functions fs) (run_call env w m n (unfolded_functions fs))
+          (unfolded_function f)) n (length (unfolded_functions fs)) vs t
           ≡ run_body (over fs (run_call env w m n fs) f) n (length fs) vs t
       own earlier =
           (λ i. run_body (over (unfolded_functions fs) (earlier i) (unfolded_function f)) n
           (unfolded_counted fs i) vs t)
-          ∙ sym (body_runs (over fs (run_call env w m n fs) f) (unfolded_functions fs) (unfolded_all f.body) n
-          (λ kept t. sym (all_unfolded (over fs (run_call env w m n fs) f) n f.body kept t)) (length fs) vs t)
+          ∙ sym (body_runs (over fs (run_call env w m n fs) f) (unfolded_functions fs)
+          (unfolded_all f.body) n
+          (λ kept t. sym (all_unfolded (over fs (run_call env w m n fs) f) n f.body kept t))
+          (length fs) vs t)
 
 -- ---- the module
 -- the types of handles, whatever the body is
@@ -247,7 +252,8 @@ module _ (p : Module) where
       constant_typed (Fixed v) typed = tt
       constant_typed (NamedConstant i) typed = tt
       constant_typed (Constructed w ty es) typed = (
-        λ vs have. typed.0 vs (subst (λ ks. IsTrue (has_types parts ks vs)) (same_types_of es) have),
+        λ vs have.
+            typed.0 vs (subst (λ ks. IsTrue (has_types parts ks vs)) (same_types_of es) have),
         constants_typed es typed.1,
       )
       constant_typed (Indexing ty b i) typed = (

@@ -423,7 +423,8 @@ module _ (p : Module) where
     operates w outside = record {
       asks_nothing = outside.asks_nothing;
       operates = outside.operates;
-      functions = λ g lt. outside.functions g (subst (λ k. g < k) (unfolded_counted p.functions) lt);
+      functions = λ g lt.
+          outside.functions g (subst (λ k. g < k) (unfolded_counted p.functions) lt);
       constants = outside.constants;
       globals = outside.globals;
     }
