@@ -73,4 +73,13 @@ constant_rows_hold =
       calls_function = refl;
       calls_nothing = refl;
       unknown_name = refl;
+      indexed = refl;
+      indexed_text = refl;
+      part = refl;
+      part_text = refl;
+      other_part = refl;
+      decided_run = refl;
+      decided_text = refl;
+      undecided_run = refl;
+      undecided_text = refl;
     }

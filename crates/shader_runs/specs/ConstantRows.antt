@@ -1,18 +1,19 @@
 -- A module with named constants and an override: what both
 -- sides compute, and what texts with other initialisers do.
 --
--- Throughout, b is the value of the override.
+-- Throughout, b is the value of the override, i the tree of the initialiser of N.
 use Rattle.std.specs.Prelude.{◌≡◌, ℕ, ◌+◌, ◌*◌, pos, cond, [], ◌∷◌, get_or, Option, Some, None}
-use Rattle.std.specs.Prelude.{codes}
+use Rattle.std.specs.Prelude.{codes, true, false, nat_eq}
 use Rattle.shader_runs.specs.Value.{Bytes, same_bytes, OtherType, Value, Whole, Opaque}
-use Rattle.shader_runs.specs.Value.{Spelled}
+use Rattle.shader_runs.specs.Value.{BooleanType, MemberNamed, ShortCircuitAnd, Truth}
+use Rattle.shader_runs.specs.Value.{Spelled, PartWord, IndexWord}
 use Rattle.shader_runs.specs.World.{Entry, Meaning, Settings, Vocabulary}
 use Rattle.shader_runs.specs.Outcome.{ReachedOrHalted, Gives, Halts, Stuck}
 use Rattle.shader_runs.specs.Program.{ConstantTree, Fixed, NamedConstant, Constructed, no_constant}
 use Rattle.shader_runs.specs.Program.{constant, Constant, Return, end, then, Function, Module}
-use Rattle.shader_runs.specs.Program.{AtPlace}
+use Rattle.shader_runs.specs.Program.{AtPlace, Indexing, Picking, Joining}
 use Rattle.shader_runs.specs.Text.{Tree, Name, LiteralOf, Apply, no_more, more, ReturnLine, last}
-use Rattle.shader_runs.specs.Text.{before, TextModule}
+use Rattle.shader_runs.specs.Text.{before, Index, PartOf, LogicalOf, TextModule}
 use Rattle.shader_runs.specs.Constants.{run_module, follow_module}
 use Rattle.shader_runs.specs.Scope.{ModuleNames, Naming}
 use Rattle.shader_runs.specs.Form.{form_module}
@@ -32,10 +33,17 @@ private_pair = codes "ptr<private, vec2<i32>>"
 abbrev pub pair : ℕ → ℕ → Value
 pair a b = Opaque pair_word (10 * a + b)
 
--- the meaning of these rows: a pair of digits
+-- the digits of the pair of 3 and 4, which is 34; other pairs have zeros
+abbrev pub digit : (pair place : ℕ) → ℕ
+digit n i = cond (nat_eq n 34) (get_or (3 ∷ 4 ∷ []) i 0) 0
+
+-- the meaning of these rows: a pair of digits, and the digits of one
 abbrev pub pair_meaning : Meaning
 pair_meaning (Spelled w) (Whole s (pos a) ∷ Whole r (pos b) ∷ []) =
     cond (same_bytes w pair_word) (pair a b) (number 0)
+pair_meaning IndexWord (Opaque w n ∷ Whole s (pos i) ∷ []) = number (digit n i)
+pair_meaning (PartWord (MemberNamed x)) (Opaque w n ∷ []) =
+    number (digit n (cond (same_bytes x (codes "x")) 0 1))
 pair_meaning w vs = number 0
 
 -- returns the first constant
@@ -61,15 +69,19 @@ pair_initialiser =
 
 -- the constant P; the constant N, which P names and which
 -- is declared behind it; the override m; a variable v
-abbrev pub pair_module : Module
-pair_module =
+abbrev pub module_of : ConstantTree → Module
+module_of i =
     record {
       constant_types = OtherType pair_word ∷ i32 ∷ i32 ∷ [];
-      initialisers = pair_initialiser ∷ Fixed (number 6) ∷ [];
+      initialisers = pair_initialiser ∷ i ∷ [];
       globals = AtPlace private_pair ∷ [];
       parts = no_parts;
       functions = pair_function ∷ [];
     }
+
+-- N is 6
+abbrev pub pair_module : Module
+pair_module = module_of (Fixed (number 6))
 
 -- the words: that of a pair is an operator
 abbrev pub pair_vocabulary : Vocabulary
@@ -122,15 +134,48 @@ pair_text initialiser =
 abbrev pub with_override : ℕ → Settings
 with_override b = record { overrides = number b ∷ []; globals = None ∷ [] }
 
--- what the module does
+-- what the module does, with this initialiser and where N is 6
+abbrev pub run_of : ConstantTree → ℕ → ReachedOrHalted (Option Value)
+run_of i b = run_module (module_of i) (with_override b) row_world pair_meaning 1 0 [] []
+
 abbrev pub run_pair : ℕ → ReachedOrHalted (Option Value)
-run_pair b = run_module pair_module (with_override b) row_world pair_meaning 1 0 [] []
+run_pair = run_of (Fixed (number 6))
 
 -- what the text with this initialiser does
 abbrev pub follow_pair : Tree → ℕ → ReachedOrHalted (Option Value)
 follow_pair initialiser b =
     follow_module (pair_text initialiser) no_parts (with_override b) row_world pair_meaning
     pair_vocabulary 1 (codes "f") [] []
+
+-- ---- initialisers that apply operators to others
+-- the pair of 3 and 4, as a tree and in a text
+abbrev pub three_four : ConstantTree
+three_four =
+    Constructed pair_word (OtherType pair_word)
+    (constant (Fixed (number 3)) (constant (Fixed (number 4)) no_constant))
+
+abbrev pub three_four_text : Tree
+three_four_text =
+    Apply pair_word (more (LiteralOf (number 3)) (more (LiteralOf (number 4)) no_more))
+
+-- its digit at the place that the override tells, and its second one
+abbrev pub at_override : ConstantTree
+at_override = Indexing i32 three_four (NamedConstant 2)
+
+abbrev pub second : ConstantTree
+second = Picking (MemberNamed (codes "y")) i32 three_four
+
+-- `false && P`, of which the right side leads back to this one and has no value
+abbrev pub decided : ConstantTree
+decided = Joining ShortCircuitAnd BooleanType (Fixed (Truth false)) (NamedConstant 0)
+
+-- `true && P`
+abbrev pub undecided : ConstantTree
+undecided = Joining ShortCircuitAnd BooleanType (Fixed (Truth true)) (NamedConstant 0)
+
+-- such a text
+abbrev pub joined_text : Value → Tree
+joined_text v = LogicalOf ShortCircuitAnd (LiteralOf v) (Name (codes "P"))
 
 -- a pair is returned, and nothing is read
 abbrev pub returns_pair : ℕ → ℕ → ReachedOrHalted (Option Value)
@@ -160,3 +205,16 @@ pub record ConstantRowsHold : Type 0 where
   pub calls_function : follow_pair (Apply (codes "f") no_more) 7 ≡ without_value
   pub calls_nothing : follow_pair (Apply (codes "frobnicate") no_more) 7 ≡ without_value
   pub unknown_name : follow_pair (Name (codes "q")) 7 ≡ without_value
+  -- an index and a part of a value that operators made
+  pub indexed : run_of at_override 1 ≡ returns_pair 4 1
+  pub indexed_text : follow_pair (Index three_four_text (Name (codes "m"))) 1 ≡ returns_pair 4 1
+  pub part : run_of second 7 ≡ returns_pair 4 7
+  pub part_text : follow_pair (PartOf (MemberNamed (codes "y")) three_four_text) 7 ≡ returns_pair 4 7
+  pub other_part : follow_pair (PartOf (MemberNamed (codes "x")) three_four_text) 7 ≡ returns_pair 3 7
+  -- the right side of `&&` counts only where the left one leaves it open. What `&&` gives is no
+  -- number, so that the pair of it is 0
+  pub decided_run : run_of decided 7 ≡ Gives (Some (number 0)) (Entry 0 [] [] ∷ [])
+  pub decided_text :
+      follow_pair (joined_text (Truth false)) 7 ≡ Gives (Some (number 0)) (Entry 0 [] [] ∷ [])
+  pub undecided_run : run_of undecided 7 ≡ without_value
+  pub undecided_text : follow_pair (joined_text (Truth true)) 7 ≡ without_value
