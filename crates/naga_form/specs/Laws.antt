@@ -90,8 +90,8 @@ OfAcceptedInScope Holds =
 abbrev pub NamesAreLabelNames : Type 0
 NamesAreLabelNames = (m : Module) → AreLabelNames m (expression_name m)
 
--- and so they are where those of one function are named behind any others, in front of which those of
--- the module's items are named
+-- and so they are where those of one function are named behind any others, in front of which those
+-- of the module's items are named
 abbrev pub NamesBehindAreLabelNames : Type 0
 NamesBehindAreLabelNames =
     (m : Module) (number : ℕ) (later : List (List ℕ)) →
@@ -119,8 +119,8 @@ KeepsTheLayouts = OfAccepted (λ named m info explicit. KeepsLayouts m)
 abbrev pub TellsTheLayouts : Type 0
 TellsTheLayouts = OfAccepted (λ named m info explicit. TellsLayouts m)
 
--- Each initialiser of the module has a value, under all values of overrides of their types and every
--- typed meaning of operators, so that the interface tells one.
+-- Each initialiser of the module has a value, under all values of overrides of their types and
+-- every typed meaning of operators, so that the interface tells one.
 abbrev pub InitialisersHaveValues : Type 0
 InitialisersHaveValues =
     (m : Module) (info : ModuleInfo) → IsTrue (is_accepted m info) → DeclarationsHaveForms m →
@@ -139,9 +139,9 @@ ResolvesAsMeant = OfAcceptedInScope ResolvesUnder
 abbrev pub BindsAsCounted : Type 0
 BindsAsCounted = OfAccepted BindsUnder
 
--- what is written of a function, of which what is written has a form, is read as its shape is written,
--- whatever the module declares, whatever type is known of each of its expressions and of the module's,
--- and under whatever names front ends gave
+-- what is written of a function, of which what is written has a form, is read as its shape is
+-- written, whatever the module declares, whatever type is known of each of its expressions and of
+-- the module's, and under whatever names front ends gave
 abbrev pub FunctionsAreRead : Type 0
 FunctionsAreRead =
     (explicit : Bool) (named : ℕ → List ℕ) (m : Module) (info : ModuleInfo) (g : ℕ) (f : Function) →
@@ -180,8 +180,8 @@ OfOne Holds =
     IsTrue (is_accepted m info) → AreLabelNames m named → ItemsHaveForms m →
     (number : ℕ) → Holds named explicit m info number
 
--- its identifiers and words, and the module's, stand for what they were written for, where the rules
--- of scope hold in it
+-- its identifiers and words, and the module's, stand for what they were written for, where the
+-- rules of scope hold in it
 abbrev pub OneResolves : Type 0
 OneResolves = OfOne (λ named explicit m info number.
     WrittenHaveFormsAt explicit m info number → ScopeHoldsIn m info number →
@@ -243,8 +243,8 @@ abbrev pub EveryIsNotStuck : Type 0
 EveryIsNotStuck = OfEveryWritable NoRunIsStuck
 
 -- In each function and entry point, after those before it and in front of the later ones, both runs
--- pass the same points: there a handle in scope that is bound has the module's value under its name,
--- and what is written for any other handle in scope gives that value.
+-- pass the same points: there a handle in scope that is bound has the module's value under its
+-- name, and what is written for any other handle in scope gives that value.
 abbrev pub PointsAgreeThere : Type 0
 PointsAgreeThere = OfAcceptedInScope (λ named m info program.
     (later : List Naming) (f : Naming) (fs : List Naming) →
@@ -268,8 +268,8 @@ UnspelledAreDistinguished =
     spelled_resolution (type_names m) a ≡ None → spelled_resolution (type_names m) b ≡ None →
     type_of_values m a ≡ type_of_values m b → identity m.types a ≡ identity m.types b
 
--- two types that an accepted module may know of its expressions have values of one type exactly where
--- acceptance takes them for alike
+-- two types that an accepted module may know of its expressions have values of one type exactly
+-- where acceptance takes them for alike
 abbrev pub AlikeAreDistinguished : Type 0
 AlikeAreDistinguished =
     (m : Module) (info : ModuleInfo) → IsTrue (is_accepted m info) →
@@ -356,8 +356,8 @@ AlikeThrough =
     (types : List Type_) (a b c : TypeResolution) → AreAlike types a b → AreAlike types b c →
     AreAlike types a c
 
--- where types have a form that they may have, they are alike by their numbers exactly where they are
--- alike by what they are read as
+-- where types have a form that they may have, they are alike by their numbers exactly where they
+-- are alike by what they are read as
 abbrev pub AlikeByNumbers : Type 0
 AlikeByNumbers =
     (types : List Type_) (a b : TypeResolution) → IsTrue (list_all type_is_fit types) →
