@@ -40,9 +40,9 @@ no_leaf_operator op xs =
     operator_any (λ e. is_constant_leaf (Some e) ≡ false) op xs (λ j l r. refl) refl
 
 pub operator_bound : (f : Function) (h : ℕ) (op : TableOperator) (xs : List ℕ) →
-    binds_as f h (Some (operator_shape op xs)) ≡ is_counted f 2 h
+    binds_as f h (Some (operator_shape op xs)) ≡ is_counted f h
 operator_bound f h op xs =
-    operator_any (λ e. binds_as f h (Some e) ≡ is_counted f 2 h) op xs (λ j l r. refl) refl
+    operator_any (λ e. binds_as f h (Some e) ≡ is_counted f h) op xs (λ j l r. refl) refl
 
 pub operator_usable : (f : Function) (op : TableOperator) (xs : List ℕ) (s : Availability) →
     usable_as f (Some (operator_shape op xs)) s ≡ is_present s

@@ -134,7 +134,7 @@ module _ (members : Vec StructMember Global) (handles : Vec ℕ Global) where
 
   -- an expression with its type
   abbrev of_type : ValueType → ir.Expression → TableRow
-  of_type type e = row (shape_of declared [] 0 e) type 1
+  of_type type e = row (shape_of declared [] 0 e) type
 
   abbrev pointer : List ℕ → ValueType
   pointer base = PointerType (codes "ptr<function, " ++ (base ++ codes ">"))

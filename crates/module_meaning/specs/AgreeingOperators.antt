@@ -5,8 +5,8 @@
 --
 -- Throughout, types are the module's types, known are the types of the expressions of one function,
 -- of an entry point or of the module itself, by handle, e is one of these expressions (es are all),
--- f a function (fs are several), r a type, h a handle, g a group of expressions that stand together,
--- m a module and info what is known of it, or of its functions.
+-- f a function (fs are several), r a type, h a handle, g a group of expressions that stand
+-- together, m a module and info what is known of it, or of its functions.
 use Rattle.std.specs.Prelude.{ℕ, suc, Bool, false, List, [], ◌∷◌, ◌++◌, map, Option}
 use Rattle.std.specs.Prelude.{Some, None, if◌then◌else◌, slice_get, nat_lt}
 use Rattle.std.specs.List.{flat_map, enumerate_from}
@@ -37,8 +37,8 @@ use Rattle.module_meaning.specs.Conversions.{conversion_target, keeps_bits}
 use Rattle.module_meaning.specs.TypeIdentity.{kind_number, level, truth_number, vector_number}
 use Rattle.module_meaning.specs.TypeParts.{known_inner}
 
--- What tells an operator, as numbers: those that WGSL spells alike over as many operands are told by
--- the same numbers. The word of a constructor is its type, and so is that of a conversion, with
+-- What tells an operator, as numbers: those that WGSL spells alike over as many operands are told
+-- by the same numbers. The word of a constructor is its type, and so is that of a conversion, with
 -- whether this keeps bits; all others have a kind and up to five numbers. What WGSL has no form for
 -- is an operator by itself, told by its fields.
 abbrev pub typed_key : List Type_ → (bits : Bool) → TypeResolution → List ℕ

@@ -1,15 +1,15 @@
 -- Types are alike where WGSL spells them alike, each struct and each override standing for its
 -- handle. So arrays that differ in stride alone are alike, pointers to storage whose access has one
--- word, and a pointer to a vector in memory and one to a vector of the module. A type without a form
--- is a type of its own, alike only to what is the same by itself. That the numbers here tell types as
--- their spellings do is a law about types without pointers into the space of handles, which no
--- accepted module has.
+-- word, and a pointer to a vector in memory and one to a vector of the module. A type without a
+-- form is a type of its own, alike only to what is the same by itself. That the numbers here tell
+-- types as their spellings do is a law about types without pointers into the space of handles,
+-- which no accepted module has.
 --
 -- What tells a type is a list of numbers. That of a type with a form has a level, six numbers, for
 -- the type itself and behind it those of the type that it is over, where it is over one.
 --
--- Throughout, types are a module's types, f tells the form of the type at a handle, h is a handle, t
--- a type of the module, it a type by itself, s a scalar, r a type of an expression (a and b are
+-- Throughout, types are a module's types, f tells the form of the type at a handle, h is a handle,
+-- t a type of the module, it a type by itself, s a scalar, r a type of an expression (a and b are
 -- two), o a type that may be missing, and tag says what the type is.
 use Rattle.std.specs.Prelude.{ℕ, zero, suc, Bool, false, List, ◌++◌}
 use Rattle.std.specs.Prelude.{Option, Some, None, if◌then◌else◌, slice_get, unwrap_or}

@@ -1,25 +1,22 @@
--- The counts by which a `let` binds a function's expressions.
-use Rattle.std.specs.Prelude.{ℕ, Bool, true, false, List, ◌∷◌, map, nat_le, if◌then◌else◌}
-use Rattle.std.specs.Option.{is_none}
+-- Which of a function's expressions a `let` binds by how often they are used: each that is used so
+-- often as its kind asks.
+use Rattle.std.specs.Prelude.{ℕ, Bool, List, map, nat_le}
+use Rattle.std.specs.List.{zip}
 use Rattle.naga_ir.specs.declared.expression.Expression as ir
 use Rattle.naga_ir.specs.declared.expression.Expression.TheVariants as expression
 use Rattle.naga_info.specs.declared.info.ExpressionInfo.{ExpressionInfo}
-use Rattle.module_meaning.specs.ExpressionShapes.{Declared, part_selector}
-use Rattle.shader_runs.specs.Program.{greatest_count}
+use Rattle.naga_back.specs.Baking.{count_to_bind}
 
--- whether an expression is a part at a known index of what has no parts
-abbrev pub is_partless : Declared → ir.Expression → Bool
-is_partless d (expression.AccessIndex base index) = is_none (part_selector d base index)
-is_partless d e = false
+-- how many uses an expression's kind asks for: naga's number, but one for the load of a cooperative
+-- matrix too, since that reads memory
+abbrev pub uses_to_bind : ir.Expression → ℕ
+uses_to_bind (expression.CooperativeLoad columns rows role place) = 1
+uses_to_bind e = count_to_bind e
 
--- Such a part is to the runs an operator, which a `let` binds from two uses on. As any part it is
--- to be bound only at a count that can't be raised any more, and below that it counts as unused.
-abbrev pub binding_count : (partless : Bool) → ℕ → ℕ
-binding_count true n = if nat_le greatest_count n then n else 0
-binding_count false n = n
+-- it is used so often
+abbrev pub is_bound_by_uses : ir.Expression → (uses : ℕ) → Bool
+is_bound_by_uses e uses = nat_le (uses_to_bind e) uses
 
--- the counts of these expressions, of which this is known
-abbrev pub binding_counts : Declared → List ir.Expression → List ExpressionInfo → List ℕ
-binding_counts d (e ∷ xs) (i ∷ es) =
-    binding_count (is_partless d e) i.ref_count ∷ binding_counts d xs es
-binding_counts d _ es = map (λ e. e.ref_count) es
+-- the same of each of these expressions, of which this is known
+abbrev pub are_bound_by_uses : List ir.Expression → List ExpressionInfo → List Bool
+are_bound_by_uses es known = map (λ p. is_bound_by_uses p.0 p.1.ref_count) (zip es known)

@@ -1,7 +1,7 @@
 -- Which `let`s a function's text has, and the types that they tell.
 --
--- Throughout, m is a module, info what is known of it, named tells the names of the labels that front
--- ends gave, and explicit says whether types are to be told.
+-- Throughout, m is a module, info what is known of it, named tells the names of the labels that
+-- front ends gave, and explicit says whether types are to be told.
 use Rattle.std.specs.Prelude.{◌≡◌, ℕ, List, [], ◌∷◌, map, slice_get, Bool, Option}
 use Rattle.naga_ir.specs.declared.module.Module.{Module}
 use Rattle.naga_info.specs.declared.info.ExpressionInfo.{ExpressionInfo}
@@ -48,8 +48,8 @@ lets_read p =
     }
 
 -- those of a module: of its handles that are bound, in their order, each under its handle's name.
--- Each tells its handle's type where types are to be told, but for one that no text can name, and else
--- none does
+-- Each tells its handle's type where types are to be told, but for one that no text can name, and
+-- else none does
 abbrev pub module_lets : LabelNames → Module → ModuleInfo → (explicit : Bool) → Lets
 module_lets named m info explicit =
     record {

@@ -89,7 +89,8 @@ stage_has_form p stage.ClosestHit = is_some p.incoming_ray_payload
 stage_has_form p stage.Miss = is_some p.incoming_ray_payload
 stage_has_form p _ = true
 
--- What a function takes and gives has a form, and so has its stage, if it is that of an entry point.
+-- What a function takes and gives has a form, and so has its stage, if it is that of an entry
+-- point.
 pub record HeadHasForm (m : Module) (number : ℕ) : Type 0 where
   pub bindings : (f : Function) → slice_get (all_functions m) number ≡ Some f → (b : Binding) →
       IsPassed f b → IsTrue (binding_has_form b)
@@ -103,8 +104,8 @@ pub record ItemsHaveForms (m : Module) : Type 0 where
       IsTrue (is_spellable m (Handle v.ty))
   pub initialisers : (handle : ℕ) → IsInitialiser m handle → IsTrue (global_is_written m handle)
 
--- All that the module declares has a form, and no fault stands against a struct that is concerned: a
--- member that can't be left where it is, or an array of another stride than WGSL gives it.
+-- All that the module declares has a form, and no fault stands against a struct that is concerned:
+-- a member that can't be left where it is, or an array of another stride than WGSL gives it.
 pub record DeclarationsHaveForms (m : Module) : Type 0 where
   pub types : (ty : ℕ) → IsDeclaredType m ty → IsTrue (is_spellable m (Handle ty))
   pub initialisers : (handle : ℕ) → IsInitialiser m handle → IsTrue (global_is_written m handle)

@@ -1,8 +1,8 @@
 -- What a module means by the names of its declarations: in types, in initialisers, and with them
 -- by the words there, and in the attributes of entry points.
 --
--- Throughout, m is a module, of which info is known, h is the handle of a type, it a type by itself,
--- own tells the items of the types that stand before it, e is an entry point, and t a type.
+-- Throughout, m is a module, of which info is known, h is the handle of a type, it a type by
+-- itself, own tells the items of the types that stand before it, e is an entry point, and t a type.
 use Rattle.std.specs.Prelude.{ℕ, zero, suc, List, [], ◌∷◌, ◌++◌, Option, length, map, take}
 use Rattle.std.specs.Prelude.{slice_get}
 use Rattle.std.specs.List.{enumerate_from, filter}

@@ -3,7 +3,8 @@
 --
 -- Throughout, x is an extension, m a module or a member, t a type, s a scalar, v a variable of the
 -- module, p an entry point, a an argument, and r a result.
-use Rattle.std.specs.Prelude.{ℕ, Bool, true, false, not, ◌&&◌, ◌||◌, ◌==◌, List, [], ◌∷◌, codes, map}
+use Rattle.std.specs.Prelude.{ℕ, Bool, true, false, not, ◌&&◌, ◌||◌, ◌==◌, List, [], ◌∷◌, codes}
+use Rattle.std.specs.Prelude.{map}
 use Rattle.std.specs.List.{filter, list_any}
 use Rattle.std.specs.Option.{is_none, is_some, option_map_or}
 use Rattle.naga_ir.specs.declared.binding.Binding.{Binding}
@@ -24,8 +25,8 @@ use Rattle.naga_ir.specs.declared.types.ScalarKind.TheVariants as kind
 use Rattle.naga_ir.specs.declared.types.TypeInner.{TypeInner}
 use Rattle.naga_ir.specs.declared.types.TypeInner.TheVariants as inner
 
--- An extension by its word, and what it is needed for: types, bindings of struct members and of what
--- passes in or out of entry points, stages of entry points, and address spaces of the module's
+-- An extension by its word, and what it is needed for: types, bindings of struct members and of
+-- what passes in or out of entry points, stages of entry points, and address spaces of the module's
 -- variables.
 pub record Extension : Type 0 where
   pub word : List ℕ
@@ -112,7 +113,8 @@ abbrev pub primitive_index : Extension
 primitive_index =
     record unneeded { word = codes "primitive_index"; for_binding = is_builtin is_primitive_index }
 
--- the values of all vertices, of what is neither a source of blending nor given once for a primitive
+-- the values of all vertices, of what is neither a source of blending nor given once for a
+-- primitive
 abbrev pub is_interpolated_per_vertex : Interpolation → Bool
 is_interpolated_per_vertex interpolation.PerVertex = true
 is_interpolated_per_vertex _ = false
@@ -226,8 +228,8 @@ extensions =
     f16 ∷ int16 ∷ dual_source_blending ∷ clip_distances ∷ mesh_shader ∷ binding_array ∷
     draw_index ∷ primitive_index ∷ cooperative_matrix ∷ ray_tracing_pipeline ∷ per_vertex ∷ []
 
--- The type of a module needs it: any struct, whether a text declares it or not, for the binding of a
--- member.
+-- The type of a module needs it: any struct, whether a text declares it or not, for the binding of
+-- a member.
 abbrev pub type_needs : Extension → TypeInner → Bool
 type_needs x (inner.Struct members span) =
     list_any (λ m. option_map_or x.for_binding m.binding false) members.items

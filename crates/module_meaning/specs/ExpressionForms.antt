@@ -1,5 +1,5 @@
--- Which expressions have a form: those of functions, and the module's own, of which initialisers are
--- made.
+-- Which expressions have a form: those of functions, and the module's own, of which initialisers
+-- are made.
 --
 -- Throughout, m is a module, f a function, es are its expressions, e is one, k is what is known of
 -- one, h is a handle, a an argument, r a result, s are scalars, and t is a type.
@@ -80,14 +80,15 @@ loads_matrix types columns rows role it =
     (scalar_behind types it) false
 
 -- ---- constants
--- A constant is written by its name, and one without a name where its initialiser is, by what is said
--- of the module's own expressions.
+-- A constant is written by its name, and one without a name where its initialiser is, by what is
+-- said of the module's own expressions.
 abbrev pub constant_is_written_over : Module → (own : ℕ → Bool) → (handle : ℕ) → Bool
 constant_is_written_over m own h =
     option_map_or (λ c. is_some c.name || own c.init) (slice_get m.constants h) false
 
--- One of the module's own expressions is written, over which of those in front of it are: a literal,
--- a constant, an override, a zero value, a value of a type from its parts, or a vector of one value.
+-- One of the module's own expressions is written, over which of those in front of it are: a
+-- literal, a constant, an override, a zero value, a value of a type from its parts, or a vector of
+-- one value.
 abbrev pub global_is_written_over : Module → (own : ℕ → Bool) → Expression → Bool
 global_is_written_over m own (Literal value) = is_written_literal value
 global_is_written_over m own (Constant handle) = constant_is_written_over m own handle

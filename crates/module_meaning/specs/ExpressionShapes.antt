@@ -7,7 +7,7 @@ use Rattle.std.specs.Prelude.{length, slice_get, Option, Some, None, if◌then�
 use Rattle.std.specs.Prelude.{unwrap_or}
 use Rattle.std.specs.List.{flat_map}
 use Rattle.std.specs.Option.{option_map, option_map_or, option_and_then, is_some, option_to_list}
-use Rattle.naga_ir.specs.Operands.{expression_operands}
+use Rattle.naga_ir.specs.Operands.{expression_operands, level_operands}
 use Rattle.naga_ir.specs.declared.expression.Expression as ir
 use Rattle.naga_ir.specs.declared.expression.Expression.TheVariants as expression
 use Rattle.naga_ir.specs.declared.expression.SampleLevel.{SampleLevel}
@@ -257,22 +257,29 @@ computed_over d tree_of h e =
 abbrev pub zero_level : ConstantTree
 zero_level = Fixed (Opaque (codes "f32") 0)
 
--- Level zero is written as a number where nothing is gathered, compared or clamped.
-abbrev pub written_zero : SampleLevel → (unwritten : Bool) → List ConstantTree
+-- level zero as that number; where a sampling gathers, compares or clamps, it is at level zero by
+-- the name of its built-in, which has no parameter for it
+abbrev pub written_zero : SampleLevel → (by_name : Bool) → List ConstantTree
 written_zero level.Zero false = zero_level ∷ []
-written_zero _ unwritten = []
+written_zero _ by_name = []
 
--- an offset that is a constant is written out behind all operands; any other one is an operand
-abbrev pub offset_left : (written : Option ConstantTree) → (offset : Option ℕ) → Option ℕ
-offset_left None offset = offset
-offset_left (Some t) offset = None
-
--- a request of these operands, and of a level and an offset that are written out
-abbrev pub sample_shape : (operands : List ℕ) → (levels : List ConstantTree) →
-    (offset : Option ConstantTree) → Option TableOperator → Expression
-sample_shape operands levels offset (Some operator) =
-    Request (asking operator) (run_word operator) operands (trees (levels ++ option_to_list offset))
-sample_shape operands levels offset None = Result
+-- A sampling asks its built-in, with operands in the order of the built-in's parameters: the image
+-- for `t`, the sampler for `s` and the coordinate for `coords`; the layer for `array_index` and
+-- what is compared for `depth_ref`, where it has these; for `level`, `bias`, or `ddx` and `ddy`
+-- what its level tells; and the offset for `offset`. Level zero and an offset that is a constant,
+-- which has this tree, are written out, and stand after all that have handles.
+abbrev pub sample_shape :
+    ir.Expression → (offset_tree : Option ConstantTree) → Option TableOperator → Expression
+sample_shape
+    (expression.ImageSample
+    image sampler gather coordinate array_index offset level depth_ref clamp) tree
+    (Some operator) =
+    Request (asking operator) (run_word operator)
+    (image ∷ sampler ∷ coordinate ∷ option_to_list array_index ++ option_to_list depth_ref ++
+    level_operands level ++ (if is_some tree then [] else option_to_list offset))
+    (trees
+    (written_zero level (is_some gather || (is_some depth_ref || clamp)) ++ option_to_list tree))
+sample_shape e tree operator = Result
 
 -- ---- expressions
 -- What the expression with this handle evaluates, in a function with these expressions. What is
@@ -296,15 +303,7 @@ shape_of d es h (expression.Load pointer) =
 shape_of d es h
     (expression.ImageSample
     image sampler gather coordinate array_index offset level depth_ref clamp) =
-    let unwritten = is_some gather || (is_some depth_ref || clamp) in
-    let written = option_and_then (constant_tree d es) offset in
-    let left = offset_left written offset in
-    sample_shape
-    (expression_operands
-    (expression.ImageSample
-    image sampler gather coordinate array_index left level depth_ref clamp))
-    (written_zero level unwritten) written
-    (applied_operator d.context
-    (expression.ImageSample
-    image sampler gather coordinate array_index offset level depth_ref clamp))
+    let e = expression.ImageSample
+    image sampler gather coordinate array_index offset level depth_ref clamp in
+    sample_shape e (option_and_then (constant_tree d es) offset) (applied_operator d.context e)
 shape_of d es h e = applied_or Result (expression_operands e) (applied_operator d.context e)

@@ -40,8 +40,8 @@ pub record HasInterfaceOf (m : Module) (info : ModuleInfo) (program : Program) :
 -- What holds of each run of the function or entry point g of the module and the run of the program
 -- beside it: under all values of overrides and arguments of their types and every typed meaning of
 -- operators, in every world, with every bound on loop turns and behind any history. Each side
--- computes its named constants by itself. What places are made of is told to both alike: the structs
--- of the program have the members of the module's, as its interface tells.
+-- computes its named constants by itself. What places are made of is told to both alike: the
+-- structs of the program have the members of the module's, as its interface tells.
 abbrev pub OfEachRunAt : Module → ModuleInfo → Program → (g : ℕ) →
     ((module_run text_run : ReachedOrHalted (Option Value)) → Type 0) → Type 0
 OfEachRunAt m info program g Holds =
@@ -63,8 +63,8 @@ abbrev pub OfEachRun : Module → ModuleInfo → Program →
     ((module_run text_run : ReachedOrHalted (Option Value)) → Type 0) → Type 0
 OfEachRun m info program Holds = (g : ℕ) → OfEachRunAt m info program g Holds
 
--- In every world that keeps the types the program makes in this function the module's events in their
--- order, with their operands, ends as in the module and returns the same.
+-- In every world that keeps the types the program makes in this function the module's events in
+-- their order, with their operands, ends as in the module and returns the same.
 abbrev pub RunsAt : Module → ModuleInfo → Program → (g : ℕ) → Type 0
 RunsAt m info program g =
     OfEachRunAt m info program g

@@ -1,5 +1,5 @@
--- The functions of a module and, behind them, those of its entry points: each has one number, by which
--- runs, names and labels know it.
+-- The functions of a module and, behind them, those of its entry points: each has one number, by
+-- which runs, names and labels know it.
 --
 -- Throughout, m is a module and info what is known of it.
 use Rattle.std.specs.Prelude.{ℕ, ◌+◌, ◌-◌, ◌<◌, List, ◌++◌, length, map, nat_lt, if◌then◌else◌}

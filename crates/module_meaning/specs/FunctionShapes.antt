@@ -15,7 +15,7 @@ use Rattle.naga_ir.specs.declared.module.Function as ir_function
 use Rattle.naga_ir.specs.declared.module.Module as ir_module
 use Rattle.naga_info.specs.declared.info.ExpressionInfo.{ExpressionInfo}
 use Rattle.naga_info.specs.declared.info.ModuleInfo.{ModuleInfo}
-use Rattle.module_meaning.specs.BindingCounts.{binding_counts}
+use Rattle.module_meaning.specs.BindingCounts.{are_bound_by_uses}
 use Rattle.module_meaning.specs.ExpressionOperators.{ExpressionContext}
 use Rattle.module_meaning.specs.ExpressionShapes.{Declared, shape_of}
 use Rattle.module_meaning.specs.Shapes.{label_shape, named_from}
@@ -64,7 +64,7 @@ function_shape m info f es =
       local_pointers = map (λ l. local_pointer m l.ty) f.local_variables;
       expressions = shapes_from d f.expressions 0 f.expressions;
       types = map (λ e. type_of_values m e.ty) es;
-      counts = binding_counts d f.expressions es;
+      bound_by_uses = are_bound_by_uses f.expressions es;
       named_expressions = named_from (keys f.named_expressions) 0 f.expressions;
       body = statements_shape d.context f.body;
     }

@@ -3,9 +3,9 @@
 -- types have a form that they may have there: a type by itself is no struct, since a struct is told
 -- by its handle, and no type is a pointer in the space of handles, where nothing has an address.
 --
--- Throughout, m is a module, f a function (fs are several), p an entry point, es is what is known of
--- a function's expressions (ess are those of several functions), k what is known of an expression,
--- t a type, and r a type that is known.
+-- Throughout, m is a module, f a function (fs are several), p an entry point, es is what is known
+-- of a function's expressions (ess are those of several functions), k what is known of an
+-- expression, t a type, and r a type that is known.
 use Rattle.std.specs.Prelude.{Bool, true, false, ◌&&◌, ◌==◌, not, List, length}
 use Rattle.std.specs.List.{list_all, zip}
 use Rattle.naga_ir.specs.declared.module.EntryPoint.{EntryPoint}

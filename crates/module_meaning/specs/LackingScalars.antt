@@ -1,9 +1,9 @@
--- Which scalar without a word keeps a type from having a form: that of a type over scalars, and what
--- is lacking of the type that a pointer or an array is over. A type may have no form for other
+-- Which scalar without a word keeps a type from having a form: that of a type over scalars, and
+-- what is lacking of the type that a pointer or an array is over. A type may have no form for other
 -- reasons, and then lacks no scalar.
 --
--- Throughout, types are a module's types, f tells what the type at a handle lacks, h is a handle, it
--- a type by itself, s a scalar and r a type of an expression.
+-- Throughout, types are a module's types, f tells what the type at a handle lacks, h is a handle,
+-- it a type by itself, s a scalar and r a type of an expression.
 use Rattle.std.specs.Prelude.{ℕ, zero, suc, List, Option, Some, None, if◌then◌else◌, slice_get}
 use Rattle.std.specs.Option.{is_some, option_and_then, option_map_or}
 use Rattle.naga_ir.specs.declared.image.ImageClass.{ImageClass}

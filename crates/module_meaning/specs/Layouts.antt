@@ -94,7 +94,8 @@ pub record HasOtherStride (m : Module) (h ty : ℕ) : Type 0 where
 -- WGSL's rules, applied to the structs of a text alone, leave the members of the struct of this
 -- name at these offsets, and give it the span that it has in the module, where that has room for
 -- all members and is a multiple of the struct's alignment.
-pub record KeepsLayout (structs : List Struct) (name : List ℕ) (span : ℕ) (ks : List Placed) : Type 0
+pub record KeepsLayout (structs : List Struct) (name : List ℕ) (span : ℕ) (ks : List Placed) :
+    Type 0
   where
     pub offsets : offsets_read structs name ≡ Some (map (λ k. k.offset) ks)
     pub size : IsTrue (has_room_for_all span ks) → size_of_struct_read structs name ≡ Some span

@@ -1,5 +1,6 @@
 -- The names that a module's items and expressions have in its WGSL text.
-use Rattle.std.specs.Prelude.{◌≡◌, ◌≢◌, ℕ, Bool, true, false, ◌<◌, ◌≤◌, ◌==◌, ◌^◌, List, [], ◌∷◌, ◌++◌}
+use Rattle.std.specs.Prelude.{◌≡◌, ◌≢◌, ℕ, Bool, true, false, ◌<◌, ◌≤◌, ◌==◌, ◌^◌, List, [], ◌∷◌}
+use Rattle.std.specs.Prelude.{◌++◌}
 use Rattle.std.specs.Prelude.{length, replicate, slice_get, nat_lt, None, Some, codes, decimal}
 use Rattle.std.specs.Prelude.{unwrap_or, IsFalse, IsTrue, if◌then◌else◌, take}
 use Rattle.std.specs.FinSet as set
@@ -97,9 +98,9 @@ expression_name m g = name_of_label wgsl_names (labels_before m g) (labels_named
 abbrev pub LabelNames : Type 0
 LabelNames = (function label : ℕ) → List ℕ
 
--- What is asked of the names of the labels of one function: each is an identifier, no two labels have
--- one name, and neither an item of the module nor a handle has it. The members of structs, which are
--- named by themselves, may have it.
+-- What is asked of the names of the labels of one function: each is an identifier, no two labels
+-- have one name, and neither an item of the module nor a handle has it. The members of structs,
+-- which are named by themselves, may have it.
 pub record AreLabelNamesOf (m : Module) (f : ir_function.Function) (named : (label : ℕ) → List ℕ) :
     Type 0 where
   pub identifiers : (k : ℕ) → k < length (expression_labels f) → IsIdentifier (named k)
@@ -142,9 +143,9 @@ pub record ItemsAreDistinguished (m : Module) : Type 0 where
       name_in (module_names m) (key.StructMember h i) ≡
       name_in (module_names m) (key.StructMember h j) → i ≡ j
 
--- The map has the name of each type and of each member of a struct, of each function and entry point,
--- of each argument, whose numbers are no greater than the greatest `u32`, of each local, and of each
--- variable, constant and override of the module.
+-- The map has the name of each type and of each member of a struct, of each function and entry
+-- point, of each argument, whose numbers are no greater than the greatest `u32`, of each local, and
+-- of each variable, constant and override of the module.
 pub record HasNamesOf (m : Module) (names : NameMap) : Type 0 where
   pub types : (h : ℕ) (t : Type_) → slice_get m.types h ≡ Some t →
       names (key.Type_ h) ≡ Some (name_in (module_names m) (key.Type_ h))

@@ -24,7 +24,8 @@ use Rattle.shader_runs.specs.Program.{Function}
 use Rattle.shader_runs.specs.Scope.{ModuleNames, Names, Naming}
 use Rattle.text_meaning.specs.Vocabulary.{vocabulary_of}
 
--- the handles of those of these constants that have a name, in their order, where h is the first one's
+-- the handles of those of these constants that have a name, in their order, where h is the first
+-- one's
 abbrev pub named_handles : (h : ℕ) → List ir_constant.Constant → List ℕ
 named_handles h [] = []
 named_handles h (c ∷ cs) =

@@ -1,6 +1,6 @@
 -- What the places of a module are made of, by the rules of types: how a pointer to a place is
--- spelled tells the parts of the place, and how a pointer to each of them is spelled. So a place has
--- its type whether or not an expression of the module leads to it.
+-- spelled tells the parts of the place, and how a pointer to each of them is spelled. So a place
+-- has its type whether or not an expression of the module leads to it.
 --
 -- Throughout, m is a module, info is what is known of it, whole is how a pointer is spelled, at is
 -- a space, base the handle of what is there, index and ty are a member's number and type, word is
@@ -160,8 +160,10 @@ parts_behind m info whole (inner.ValuePointer (Some n) s at) =
     Components (vector_number n) (word_of_values m (Value (inner.ValuePointer None s at)))
 parts_behind m info whole _ = NoParts
 
--- The parts of what a pointer spelled so points to: those of the first of the module's pointers, as
--- all that are spelled alike have the same. What no pointer is spelled as has none.
+-- The parts of what a pointer spelled so points to: those of the first such pointer of the module.
+-- All that are spelled so have the same parts, and pointers to one part are spelled alike, but for
+-- a member without a form: pointers to it into storage of other bits are spelled otherwise
+-- (`pointer_to_member`). What no pointer is spelled as has none.
 abbrev pub place_parts : Module → ModuleInfo → PartTypes
 place_parts m info whole =
     option_map_or

@@ -1,5 +1,5 @@
--- Whether all that a module and what is known of it name is there, and stands where it may be named:
--- handles, `Emit` ranges and argument numbers lie in their arenas and lists; an expression's
+-- Whether all that a module and what is known of it name is there, and stands where it may be
+-- named: handles, `Emit` ranges and argument numbers lie in their arenas and lists; an expression's
 -- operands and a type's parts stand before it, and a callee before its caller; a global expression
 -- names no argument and no local, and stands behind the initialiser of each constant and override
 -- that it names; and each number is one of its type: a literal's value, and those of Numbers.
@@ -7,8 +7,8 @@
 -- Throughout, m is a module, t is a type, h a handle, here the handle of what is looked at, e an
 -- expression, l a local, f a function, p an entry point, s a statement, b the rest of a block, k an
 -- item of a module or what is known of an expression. A name of several things, as types or
--- expressions, is how many of them there are, and callees is how many functions may be called: those
--- with smaller handles.
+-- expressions, is how many of them there are, and callees is how many functions may be called:
+-- those with smaller handles.
 use Rattle.std.specs.Prelude.{ℕ, Bool, true, ◌&&◌, List, length, Option}
 use Rattle.std.specs.Prelude.{nat_lt, nat_le, slice_get}
 use Rattle.std.specs.List.{list_all, enumerate_from}

@@ -74,8 +74,8 @@ words_of_members names h t =
 
 -- No text declares the structs that WGSL has of itself, such as the result of `modf`, nor those of
 -- external textures. A text names the members of the first by the words that the module's members
--- have. Such a word stands for its member: among the words of the struct's members, the first that is
--- the same stands at the member's place.
+-- have. Such a word stands for its member: among the words of the struct's members, the first that
+-- is the same stands at the member's place.
 abbrev pub OwnMembersResolve : Module → Type 0
 OwnMembersResolve m =
     (h : ℕ) (t : Type_) → slice_get m.types h ≡ Some t →

@@ -1,5 +1,5 @@
--- The kind of what an expression evaluates, in the words that sort the module's expressions. A shape
--- has the kind of its expression, but that the load of an atomic is a request
+-- The kind of what an expression evaluates, in the words that sort the module's expressions. A
+-- shape has the kind of its expression, but that the load of an atomic is a request
 -- (`proofs/ExpressionShapes`). A handle without an expression counts as a result.
 use Rattle.std.specs.Prelude.{Option, Some, None}
 use Rattle.naga_ir.specs.declared.kind.ExpressionKind.{ExpressionKind}

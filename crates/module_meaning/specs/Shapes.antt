@@ -1,5 +1,5 @@
--- What the shapes of expressions, statements and functions are made of: an operator over operands, the
--- label of a case, and which handles a front end named.
+-- What the shapes of expressions, statements and functions are made of: an operator over operands,
+-- the label of a case, and which handles a front end named.
 use Rattle.std.specs.Prelude.{ℕ, pos, ◌+◌, Bool, List, [], ◌∷◌}
 use Rattle.std.specs.List.{list_any}
 use Rattle.std.specs.Bool.{nat_eq}

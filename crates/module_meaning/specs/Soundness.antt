@@ -1,11 +1,11 @@
--- Whether what stands in a module gets what it wants: each expression has its type and operands that
--- it takes, initialisers have the types of their items, and statements get what they want; in
+-- Whether what stands in a module gets what it wants: each expression has its type and operands
+-- that it takes, initialisers have the types of their items, and statements get what they want; in
 -- functions, entry points and global expressions. Whether what they name is there is asked
 -- elsewhere.
 --
--- Throughout, m is a module, f a function (none for the module's own expressions), p an entry point,
--- es are expressions that stand together, known are their types by handle, and info is what is known
--- of a function's expressions, or of the module.
+-- Throughout, m is a module, f a function (none for the module's own expressions), p an entry
+-- point, es are expressions that stand together, known are their types by handle, and info is what
+-- is known of a function's expressions, or of the module.
 use Rattle.std.specs.Prelude.{Bool, ◌&&◌, List, map, Option, Some, None}
 use Rattle.naga_ir.specs.declared.expression.Expression.{Expression}
 use Rattle.naga_ir.specs.declared.module.EntryPoint.{EntryPoint}

@@ -1,6 +1,6 @@
--- Which statements a text has a form for: all but a step of a ray query, a texel that is compared and
--- exchanged, a scan of a subgroup that WGSL has no word for, and a case with statements that falls
--- through. The labels of an empty case that falls through are joined with the next one's.
+-- Which statements a text has a form for: all but a step of a ray query, a texel that is compared
+-- and exchanged, a scan of a subgroup that WGSL has no word for, and a case with statements that
+-- falls through. The labels of an empty case that falls through are joined with the next one's.
 --
 -- Throughout, b is the rest of a block, and cs are the further cases.
 use Rattle.std.specs.Prelude.{Bool, true, false, ◌&&◌, ◌||◌, not}
@@ -45,9 +45,11 @@ abbrev mutual
   pub statement_has_form : StatementTree → Bool
   statement_has_form (simple s) = simple_has_form s
   statement_has_form (block b) = block_has_forms b
-  statement_has_form (branch condition accept reject) = block_has_forms accept && block_has_forms reject
+  statement_has_form (branch condition accept reject) =
+      block_has_forms accept && block_has_forms reject
   statement_has_form (switch selector cs) = cases_have_forms cs
-  statement_has_form (loop body continuing break_if) = block_has_forms body && block_has_forms continuing
+  statement_has_form (loop body continuing break_if) =
+      block_has_forms body && block_has_forms continuing
 
   pub block_has_forms : BlockTree → Bool
   block_has_forms no_statements = true

@@ -5,10 +5,10 @@
 --
 -- Throughout, types are the types of the module m, f is the function, known are the types of its
 -- expressions by handle; r is what is known of an expression, wanted the type that is wanted, h a
--- handle, x a value (xs are several), it a type by itself, a an argument, s a scalar or a statement,
--- v and w labels, cs the further cases and b the rest of a block. A statement may leave the nearest
--- loop or switch by `break` if it breaks, and go on with the nearest loop's `continuing` if it
--- continues.
+-- handle, x a value (xs are several), it a type by itself, a an argument, s a scalar or a
+-- statement, v and w labels, cs the further cases and b the rest of a block. A statement may leave
+-- the nearest loop or switch by `break` if it breaks, and go on with the nearest loop's
+-- `continuing` if it continues.
 use Rattle.std.specs.Prelude.{ℕ, Bool, true, false, ◌&&◌, ◌||◌, ◌==◌, not, List, [], ◌∷◌}
 use Rattle.std.specs.Prelude.{Option, Some, None, slice_get}
 use Rattle.std.specs.Option.{option_map_or, is_some}

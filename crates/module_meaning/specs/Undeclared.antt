@@ -1,11 +1,13 @@
--- Structs that no text declares: those that WGSL's own functions give, and those of external textures.
--- A text can't name them, so that no type over one is spellable, though each has a form by its handle.
+-- Structs that no text declares: those that WGSL's own functions give, and those of external
+-- textures. A text can't name them, so that no type over one is spellable, though each has a form
+-- by its handle.
 --
 -- Throughout, s are the special types of a module m, types are its types, h is the handle of one, p
 -- is one beside its handle, it a type by itself, r a type of an expression, names are those of the
 -- module's items, es is what is known of a function's expressions, base is the handle of one, and
 -- index the number of a part.
-use Rattle.std.specs.Prelude.{ℕ, zero, suc, Bool, true, false, not, ◌&&◌, ◌||◌, List, [], ◌∷◌, codes}
+use Rattle.std.specs.Prelude.{ℕ, zero, suc, Bool, true, false, not, ◌&&◌, ◌||◌, List, [], ◌∷◌}
+use Rattle.std.specs.Prelude.{codes}
 use Rattle.std.specs.Prelude.{None, Option, Some, nat_eq, nat_lt, length, slice_get, if◌then◌else◌}
 use Rattle.std.specs.List.{enumerate_from, filter_map, list_any}
 use Rattle.std.specs.Option.{option_and_then, option_map_or}
@@ -89,8 +91,8 @@ abbrev pub member_words : List (List ℕ)
 member_words =
     codes "fract" ∷ codes "whole" ∷ codes "exp" ∷ codes "old_value" ∷ codes "exchanged" ∷ []
 
--- A struct's member is written: it is there, and a text declares the struct, or the member has one of
--- these words for its name.
+-- A struct's member is written: it is there, and a text declares the struct, or the member has one
+-- of these words for its name.
 abbrev pub member_is_written : Module → (h : ℕ) → List StructMember → (index : ℕ) → Bool
 member_is_written m h members index =
     nat_lt index (length members) &&

@@ -1,10 +1,10 @@
--- What is written of a function: what its statements write by themselves, which are their operands and
--- the handles that a `let` binds where they are emitted, the first values of its locals, and the
--- operands of what is written. And which types its text spells.
+-- What is written of a function: what its statements write by themselves, which are their operands
+-- and the handles that a `let` binds where they are emitted, the first values of its locals, and
+-- the operands of what is written. And which types its text spells.
 --
--- Throughout, binds says of each handle whether a `let` binds it, st is a statement, b the rest of a
--- block, cases are those of a switch, f is a function and es its expressions, known is what is known
--- of these, h and x are handles, e is an expression,
+-- Throughout, binds says of each handle whether a `let` binds it, st is a statement, b the rest of
+-- a block, cases are those of a switch, f is a function and es its expressions, known is what is
+-- known of these, h and x are handles, e is an expression,
 -- r a type, and explicit says whether `let`s tell types.
 use Rattle.std.specs.Prelude.{◌≡◌, ℕ, ◌<◌, Bool, true, List, [], ◌∷◌, ◌++◌, ◌-◌, Some, slice_get}
 use Rattle.std.specs.Prelude.{IsFalse, IsTrue}
@@ -73,8 +73,8 @@ IsWrittenIn m info f known h =
     IsWritten f.expressions (function_roots (binds (function_shape m info f known)) f) h
 
 -- ---- types
--- the handles that the `let`s of a statement without blocks name: of an `Emit` those that are bound,
--- else its result
+-- the handles that the `let`s of a statement without blocks name: of an `Emit` those that are
+-- bound, else its result
 abbrev pub simple_lets : (binds : ℕ → Bool) → SimpleStatement → List ℕ
 simple_lets binds (emit first end) = filter binds (from first (end - first))
 simple_lets binds st = option_to_list (simple_result st)
@@ -112,7 +112,8 @@ pub data IsSpelledIn (explicit : Bool) (m : Module) (info : ModuleInfo) (f : Fun
       IsSpelledIn explicit m info f known (Handle v.ty)
   OfLet : (h : ℕ) (k : ExpressionInfo) → explicit ≡ true →
       IsAmong (block_lets (binds (function_shape m info f known)) f.body) h →
-      slice_get known h ≡ Some k → IsFalse (names_undeclared m k.ty) → IsSpelledIn explicit m info f known k.ty
+      slice_get known h ≡ Some k → IsFalse (names_undeclared m k.ty) →
+      IsSpelledIn explicit m info f known k.ty
 
 -- ---- what has a form
 -- Each expression that is written has a form,
@@ -121,8 +122,8 @@ ExpressionsHaveForms m info f known =
     (h : ℕ) (e : Expression) → slice_get f.expressions h ≡ Some e → IsWrittenIn m info f known h →
     IsTrue (expression_has_form m known f.expressions e)
 
--- and so has each statement, and each type that is spelled beside them, which names no struct that no
--- text declares.
+-- and so has each statement, and each type that is spelled beside them, which names no struct that
+-- no text declares.
 pub record WrittenHaveForms (explicit : Bool) (m : Module) (info : ModuleInfo) (f : Function)
     (known : List ExpressionInfo) : Type 0 where
   pub expressions : ExpressionsHaveForms m info f known
@@ -138,7 +139,8 @@ OfFunctionAt m info number Holds =
     (f : Function) (known : List ExpressionInfo) → slice_get (all_functions m) number ≡ Some f →
     slice_get (all_infos info) number ≡ Some known → Holds f known
 
--- so it is in the function with this number, in those before it, and in each function and entry point
+-- so it is in the function with this number, in those before it, and in each function and entry
+-- point
 abbrev pub WrittenHaveFormsAt : (explicit : Bool) → Module → ModuleInfo → (number : ℕ) → Type 0
 WrittenHaveFormsAt explicit m info number =
     OfFunctionAt m info number (WrittenHaveForms explicit m info)

@@ -19,7 +19,8 @@ use Rattle.naga_ir.specs.Operands.{expression_operands, statement_operands, bloc
 use Rattle.naga_ir.specs.Operands.{cases_operands}
 use Rattle.naga_acceptance.specs.Counts.{with_use, with_uses, used_again, with_counts_from}
 use Rattle.naga_acceptance.specs.Counts.{use_count}
-use Rattle.naga_acceptance.specs.Counts.{greatest_count, without_uses, operand_places, with_counts}
+use Rattle.naga_acceptance.specs.Counts.{without_uses, operand_places, with_counts}
+use Rattle.naga_info.specs.UseCounts.{greatest_count}
 use Rattle.naga_acceptance.specs.Counts.{all_with_counts, functions_of}
 
 pub with_use_set : (es : List ExpressionInfo) (handle : ℕ) (d : ExpressionInfo) → handle < length es → slice_set es handle (used_again (slice_index_or es handle d)) ≡ with_use es handle

@@ -1,9 +1,10 @@
 -- How often each expression of a function is used.
-use Rattle.std.specs.Prelude.{ℕ, ◌+◌, ◌-◌, ◌^◌, ◌==◌, min, List, [], ◌∷◌, ◌++◌, map, count_by}
+use Rattle.std.specs.Prelude.{ℕ, ◌+◌, ◌==◌, min, List, [], ◌∷◌, ◌++◌, map, count_by}
 use Rattle.std.specs.List.{flat_map}
 use Prim.Native.Nat.{zero, suc}
 use Rattle.naga_ir.specs.declared.module.Function.{Function}
 use Rattle.naga_ir.specs.declared.module.EntryPoint.{EntryPoint}
+use Rattle.naga_info.specs.UseCounts.{greatest_count}
 use Rattle.naga_info.specs.declared.info.ExpressionInfo.{ExpressionInfo}
 use Rattle.naga_ir.specs.Operands.{expression_operands, block_operands}
 
@@ -14,10 +15,6 @@ operand_places f = flat_map expression_operands f.expressions ++ block_operands 
 -- how many of the places hold the handle
 abbrev pub use_count : List ℕ → ℕ → ℕ
 use_count places handle = count_by (λ held. held == handle) places
-
--- the greatest `usize`
-abbrev pub greatest_count : ℕ
-greatest_count = 2 ^ 64 - 1
 
 -- what is known of expressions, the first of which has the handle `handle`, with these counts
 abbrev pub with_counts_from : (ℕ → ℕ) → (handle : ℕ) → List ExpressionInfo → List ExpressionInfo

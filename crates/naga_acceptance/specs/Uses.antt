@@ -3,9 +3,10 @@
 --
 -- Throughout, types are a module's types, g is a group of expressions that stand together (gs are
 -- the groups of a module, in order), u is a use in the code, v and w are uses (os are several), a
--- site, or a place, tells a group and an expression of it, h is a hash, and steps (n) tell how far a
--- slot is behind that of a use.
-use Rattle.std.specs.Prelude.{ℕ, zero, suc, ◌+◌, ◌*◌, ◌%◌, ◌^◌, ◌<◌, ◌≤◌, ◌≡◌, Bool, true, false, ◌&&◌}
+-- site, or a place, tells a group and an expression of it, h is a hash, and steps (n) tell how far
+-- a slot is behind that of a use.
+use Rattle.std.specs.Prelude.{ℕ, zero, suc, ◌+◌, ◌*◌, ◌%◌, ◌^◌, ◌<◌, ◌≤◌, ◌≡◌, Bool, true, false}
+use Rattle.std.specs.Prelude.{◌&&◌}
 use Rattle.std.specs.Prelude.{List, [], ◌∷◌, ◌++◌, map, Option, Some, None, if◌then◌else◌, length}
 use Rattle.std.specs.Prelude.{slice_get, slice_index_or, nat_lt, nat_le, ◌==◌, ◌||◌}
 use Rattle.std.specs.List.{filter}

@@ -1,20 +1,17 @@
 -- From which number of uses on an expression is bound by a `let`, and the name that it has there.
-use Rattle.std.specs.Prelude.{ℕ, ◌^◌, ◌-◌, List, ◌++◌, codes, decimal}
+use Rattle.std.specs.Prelude.{ℕ, List, ◌++◌, codes, decimal}
+use Rattle.naga_info.specs.UseCounts.{greatest_count}
 use Rattle.naga_ir.specs.declared.expression.Expression.{Expression}
 use Rattle.naga_ir.specs.declared.expression.Expression.TheVariants.{Access, AccessIndex, Load}
 use Rattle.naga_ir.specs.declared.expression.Expression.TheVariants.{ImageSample, ImageLoad}
 use Rattle.naga_ir.specs.declared.expression.Expression.TheVariants.{Derivative}
 
--- the greatest `usize`, which stands for never
-abbrev pub never : ℕ
-never = 2 ^ 64 - 1
-
--- accesses are never bound for their number of uses; what depends on when it is evaluated, so that
--- it must be evaluated at its `Emit`, is bound from one use on; all else from two, so that nothing
--- is computed twice
+-- accesses are bound for no number of uses below the greatest count; what depends on when it is
+-- evaluated, so that it must be evaluated at its `Emit`, is bound from one use on; all else from
+-- two, so that nothing is computed twice
 abbrev pub count_to_bind : Expression → ℕ
-count_to_bind (Access base index) = never
-count_to_bind (AccessIndex base index) = never
+count_to_bind (Access base index) = greatest_count
+count_to_bind (AccessIndex base index) = greatest_count
 count_to_bind
     (ImageSample
     image sampler gather coordinate array_index offset level depth_ref clamp_to_edge) =

@@ -1,7 +1,8 @@
 -- Operands stand before their expressions in the shapes of every accepted function.
 use Rattle.std.proofs.Common.{◌≡◌, ℕ, ◌+◌, true, List, [], ◌∷◌, ◌++◌, Option, Some}
 use Rattle.std.proofs.Common.{None, refl, sym, ap, ◌∙◌, arith, subst, slice_get, length, nat_lt}
-use Rattle.std.specs.Option.{option_to_list}
+use Rattle.std.specs.Option.{is_some, option_to_list}
+use Rattle.std.specs.Prelude.{if◌then◌else◌}
 use Rattle.std.proofs.lemmas.Bool.{and_parts, ltb-true}
 use Rattle.naga_ir.specs.Operands.{expression_operands, level_operands}
 use Rattle.naga_ir.specs.declared.expression.Expression as ir
@@ -10,7 +11,7 @@ use Rattle.naga_ir.specs.declared.module.Function.{Function}
 use Rattle.naga_ir.specs.declared.module.Module.{Module}
 use Rattle.naga_info.specs.declared.info.ExpressionInfo.{ExpressionInfo}
 use Rattle.naga_info.specs.declared.info.ModuleInfo.{ModuleInfo}
-use Rattle.module_meaning.specs.ExpressionShapes.{Declared, shape_of, constant_tree, offset_left}
+use Rattle.module_meaning.specs.ExpressionShapes.{Declared, shape_of, constant_tree}
 use Rattle.module_meaning.specs.FunctionShapes.{function_shape}
 use Rattle.module_meaning.specs.Ranges.{all_below, function_in_range}
 use Rattle.module_meaning.specs.Ranges.{expression_in_range, names_in_range}
@@ -45,10 +46,8 @@ shape_ordered d es h
   where
     by : (o : Option ConstantTree) →
         AllBelow h
-        (expression_operands
-        (expression.ImageSample
-        image sampler gather coordinate array_index (offset_left o (Some offset)) level depth_ref
-        clamp))
+        (image ∷ sampler ∷ coordinate ∷ option_to_list array_index ++ option_to_list depth_ref ++
+        level_operands level ++ (if is_some o then [] else offset ∷ []))
     by None = below
     by (Some t) =
         behind h

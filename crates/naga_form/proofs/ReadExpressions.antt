@@ -20,7 +20,7 @@ use Rattle.module_meaning.specs.Undeclared.{is_undeclared_struct}
 use Rattle.std.specs.Prelude.{◌||◌}
 use Rattle.module_meaning.specs.ExpressionOperators.{is_depth_image, level_of, sample_operator}
 use Rattle.module_meaning.specs.ExpressionOperators.{type_known}
-use Rattle.module_meaning.specs.ExpressionShapes.{constant_tree, offset_left, trees, written_zero}
+use Rattle.module_meaning.specs.ExpressionShapes.{constant_tree, trees, written_zero}
 use Rattle.naga_form.proofs.ConstantForms.{IsReadAs}
 use Rattle.naga_form.proofs.Images.{sampling_read, without_offset}
 use Rattle.naga_form.proofs.Operators.{AllReadLike}
@@ -344,7 +344,7 @@ module _ (m : Module) (n : Naming) (code : Source)
           Apply (run_word op)
           (runs.value_forms_then like
           (image ∷ sampler ∷ coordinate ∷ option_to_list array_index ++ option_to_list depth_ref ++
-          level_operands level ++ option_to_list (offset_left c o))
+          level_operands level ++ (if is_some c then [] else option_to_list o))
           (constant_forms n.names.outer (trees (written_zero level unwritten ++ option_to_list c)))))
       by None out =
           sampling_read operand like n.names.outer gather level (is_some depth_ref) clamp
@@ -360,7 +360,7 @@ module _ (m : Module) (n : Naming) (code : Source)
           (λ c. Apply (run_word op)
           (runs.value_forms_then like
           (image ∷ sampler ∷ coordinate ∷ option_to_list array_index ++ option_to_list depth_ref ++
-          level_operands level ++ option_to_list (offset_left c (Some x)))
+          level_operands level ++ (if is_some c then [] else x ∷ []))
           (constant_forms n.names.outer (trees (written_zero level unwritten ++ option_to_list c)))))
           (sym out.0.1)
   own_reads operand like h (expression.ImageLoad image coordinate array_index x level) same w known =

@@ -1,7 +1,7 @@
 -- The attributes that are written for what a module's declarations have: sizes of members,
--- bindings of inputs and outputs, ids of overrides, resources and decorations of variables, and stages of entry points.
--- What WGSL has no word for, and a stage without what it needs, is refused; here its attribute is
--- left out.
+-- bindings of inputs and outputs, ids of overrides, resources and decorations of variables, and
+-- stages of entry points. What WGSL has no word for, and a stage without what it needs, is refused;
+-- here its attribute is left out.
 --
 -- Throughout, names are those of the module, i is an interpolation, s a sampling, w a word, n a
 -- number, and d are decorations.

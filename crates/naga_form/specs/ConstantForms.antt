@@ -1,8 +1,8 @@
 -- How a constant is written out where no name stands for it: over the forms of its parts.
 --
 -- Throughout, a is the context of expressions es, t are the names that types are spelled with,
--- constant gives the form of a constant of the module, e is an expression, h a handle, c a constant,
--- and m a module.
+-- constant gives the form of a constant of the module, e is an expression, h a handle, c a
+-- constant, and m a module.
 use Rattle.std.specs.Prelude.{ℕ, zero, suc, false, List, [], ◌∷◌, length, map, slice_get, None}
 use Rattle.std.specs.Prelude.{if◌then◌else◌}
 use Rattle.std.specs.Option.{is_some, option_map_or}

@@ -1,8 +1,9 @@
 -- The syntax tree that is written for a module under its names.
 --
--- Throughout, names are those of the module m, t the names that types are spelled with, named tells the
--- names of the labels that front ends gave, and each declaration goes by its first letter and stands
--- beside its handle: member, type of a struct, constant, override, global variable, entry point.
+-- Throughout, names are those of the module m, t the names that types are spelled with, named tells
+-- the names of the labels that front ends gave, and each declaration goes by its first letter and
+-- stands beside its handle: member, type of a struct, constant, override, global variable, entry
+-- point.
 use Rattle.std.specs.Prelude.{ℕ, ◌+◌, Bool, List, [], ◌∷◌, length, map, Option, Some, None}
 use Rattle.std.specs.Prelude.{if◌then◌else◌}
 use Rattle.std.specs.List.{enumerate_from, filter_map}
@@ -131,8 +132,8 @@ entry_points_form explicit names m info number ps ess =
     entry_points_under (expression_name m) explicit names m info number ps ess
 
 -- ---- modules
--- the syntax tree for a module where labels have these names, by what is known of it, with the types of
--- its `let`s told or not
+-- the syntax tree for a module where labels have these names, by what is known of it, with the
+-- types of its `let`s told or not
 abbrev pub program_under : LabelNames → Module → ModuleInfo → (explicit : Bool) → Program
 program_under named m info explicit =
     let names = module_names m in

@@ -1,8 +1,8 @@
 -- The function that is written for a function of a module, under the module's names.
 --
 -- Throughout, m is a module, info what is known of it, f a function with the number g, es what is
--- known of its expressions, t are the names that types are spelled with, and named tells the names of
--- the labels that front ends gave.
+-- known of its expressions, t are the names that types are spelled with, and named tells the names
+-- of the labels that front ends gave.
 use Rattle.std.specs.Prelude.{ℕ, Bool, List, [], ◌∷◌, Option, None, Some, ◌+◌}
 use Rattle.std.specs.Option.{option_map}
 use Rattle.naga_ir.specs.declared.module.Function as ir_function

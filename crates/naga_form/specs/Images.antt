@@ -1,5 +1,5 @@
--- How an image is sampled: a word that is called with the operands, behind them the level `0.0` where
--- it is written, and last an offset.
+-- How an image is sampled: a word that is called with the operands, behind them the level `0.0`
+-- where it is written, and last an offset.
 --
 -- Throughout, op is an operator, and es are the forms of operands.
 use Rattle.std.specs.Prelude.{ℕ, Bool, true, false, List, [], ◌∷◌, ◌++◌, codes, Option, Some, None}
@@ -49,8 +49,8 @@ zero_then true more = ZeroArgument more
 zero_then false more = more
 
 -- the tree of an operator that samples, over operands and, as a constant, an offset if there is one
-abbrev pub sampling_form : Operator → (at_zero : Bool) → List Expression → (offset : List Expression) →
-    Expression
+abbrev pub sampling_form : Operator → (at_zero : Bool) → List Expression →
+    (offset : List Expression) → Expression
 sampling_form op at_zero es offset =
     Call (Named (sampling_word op))
     (component_then (gathered_component op)

@@ -21,8 +21,8 @@ abbrev pub short_form : ℤ → Literal
 short_form (pos n) = SignedShort false n
 short_form (negsuc n) = SignedShort true (suc n)
 
--- how a literal is written. Those of floating-point and abstract types are not written, and stand as
--- `false`
+-- how a literal is written. Those of floating-point and abstract types are not written, and stand
+-- as `false`
 abbrev pub literal_form : ir.Literal → Literal
 literal_form (literal.Bool b) = Truth b
 literal_form (literal.I16 z) = short_form z

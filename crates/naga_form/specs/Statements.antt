@@ -58,7 +58,8 @@ abbrev pub return_line : Naming → Source → Handles → Option ℕ → Statem
 return_line n source s None = Return
 return_line n source s (Some h) = ReturnValue (value_form n source s h)
 
--- what asks for an event or calls a function, by its word: a line of its own, or a `let` of its result
+-- what asks for an event or calls a function, by its word: a line of its own, or a `let` of its
+-- result
 abbrev pub act_line : Naming → (annotated : ℕ → Option TypeSpecifier) → List ℕ → Arguments →
     (outcome : Option ℕ) → Statement
 act_line n annotated word arguments None = CallStatement (Named word) arguments
@@ -105,8 +106,8 @@ abbrev pub simple_form :
 simple_form n annotated source k st s rest =
     shape_form n annotated source k (simple_shape source.declared.context st) s rest
 
--- an `else` or a `continuing` of these lines: it stands where the module's block has a statement, also
--- where none of them gives a line
+-- an `else` or a `continuing` of these lines: it stands where the module's block has a statement,
+-- also where none of them gives a line
 abbrev pub optional_form : BlockTree → Statements → OptionalBlock
 optional_form no_statements lines = NoBlock
 optional_form (statement st b) lines = SomeBlock lines

@@ -14,8 +14,8 @@ use Rattle.wgsl_text.specs.Types.{TypeSpecifier, Named}
 abbrev pub type_form : TypeNames → ℕ → TypeSpecifier
 type_form t ty = unwrap_or (type_tree t ty) (Named [])
 
--- The type that the `let` of a handle tells, if it is to tell one. One that names a struct that no text
--- declares is not told.
+-- The type that the `let` of a handle tells, if it is to tell one. One that names a struct that no
+-- text declares is not told.
 abbrev pub annotated_type :
     (explicit : Bool) → Module → TypeNames → List ExpressionInfo → ℕ → Option TypeSpecifier
 annotated_type true m t es h =

@@ -1,1 +1,2 @@
 pub mod Resolution
+pub mod UseCounts

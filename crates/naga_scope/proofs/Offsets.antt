@@ -4,10 +4,11 @@ use Rattle.std.proofs.Common.{◌≡◌, ℕ, zero, suc, ◌<◌, ◌&&◌, ◌|
 use Rattle.std.proofs.Common.{◌++◌, length, Option, Some, None, refl, sym, ap, ap₂, ◌∙◌}
 use Rattle.std.proofs.Common.{arith, subst, slice_get}
 use Rattle.std.specs.Option.{is_some, option_and_then, option_map_or, option_to_list}
+use Rattle.std.specs.Prelude.{if◌then◌else◌}
 use Rattle.std.proofs.lemmas.Option.{slice_get_within}
 use Rattle.module_meaning.proofs.ExpressionShapes.{shape_operands}
 use Rattle.module_meaning.specs.ExpressionOperators.{constructor}
-use Rattle.module_meaning.specs.ExpressionShapes.{Declared, built, constant_tree, offset_left}
+use Rattle.module_meaning.specs.ExpressionShapes.{Declared, built, constant_tree}
 use Rattle.module_meaning.specs.ExpressionShapes.{shape_of, tree_over, tree_then, tree_within, trees_of}
 use Rattle.module_meaning.specs.FunctionShapes.{function_shape}
 use Rattle.module_meaning.specs.OperatorTable.{Operator, Splat}
@@ -165,7 +166,7 @@ module _ (m : Module) (info : ModuleInfo) (f : ir_function.Function) (es : List 
               usable_all shape s
               (image ∷ sampler ∷ coordinate ∷ option_to_list array_index ++
               option_to_list depth_ref ++ level_operands level ++
-              option_to_list (offset_left o (Some x))) ≡
+              (if is_some o then [] else x ∷ [])) ≡
               usable_all shape s
               (image ∷ sampler ∷ coordinate ∷ option_to_list array_index ++
               option_to_list depth_ref ++ level_operands level ++ x ∷ [])

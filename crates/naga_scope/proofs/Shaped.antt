@@ -1,7 +1,7 @@
 -- The shapes of a function's expressions have the kinds and the operands of these, and a `let` binds
 -- what is used as often as its kind asks.
 use Rattle.std.proofs.Common.{◌≡◌, ℕ, Bool, ◌||◌, true, false, List, [], ◌∷◌, map}
-use Rattle.std.proofs.Common.{length, get_or, nat_le, nat_lt, Option, Some, None, refl, sym, ap, ◌∙◌}
+use Rattle.std.proofs.Common.{length, get_or, nat_lt, Option, Some, None, refl, sym, ap, ◌∙◌}
 use Rattle.std.specs.Prelude.{slice_get, if◌then◌else◌}
 use Rattle.std.specs.Option.{is_some, option_map_or}
 use Rattle.naga_ir.specs.Kinds.{kind_of}
@@ -33,14 +33,13 @@ use Rattle.shader_runs.specs.Program.{no_constant}
 use Rattle.module_meaning.proofs.ExpressionShapes.{cast_asks, constructor_asks}
 use Rattle.module_meaning.specs.ExpressionShapes.{Declared, shape_of, applied_or, applied_shape}
 use Rattle.module_meaning.specs.ExpressionShapes.{part_selector, part_shape}
-use Rattle.module_meaning.specs.BindingCounts.{binding_count, is_partless}
+use Rattle.module_meaning.specs.BindingCounts.{is_bound_by_uses}
 use Rattle.module_meaning.specs.FunctionShapes.{function_shape}
-use Rattle.module_meaning.proofs.BindingCounts.{binding_count_at, bound_as_part}
+use Rattle.module_meaning.proofs.BindingCounts.{bound_by_uses_at}
 use Rattle.module_meaning.specs.OperatorTable.{Operator as TableOperator, AtomicLoad, BinarySign}
 use Rattle.module_meaning.specs.OperatorTable.{CooperativeLoad, MatrixLoad, PartAt, WithoutForm}
 use Rattle.naga_ir.specs.declared.types.CooperativeRole.{CooperativeRole}
 use Rattle.naga_ir.specs.declared.types.CooperativeSize.{CooperativeSize}
-use Rattle.shader_runs.specs.Program.{greatest_count}
 use Rattle.module_meaning.specs.ShapeKinds.{shape_kind}
 use Rattle.module_meaning.specs.ExpressionContexts.{declared, types_known}
 use Rattle.module_meaning.specs.Types.{declared_type}
@@ -52,7 +51,6 @@ use Rattle.naga_form.proofs.ModulePlaces.{expression_at, no_expression_at}
 use Rattle.naga_form.proofs.WellFormed.{applied_any}
 use Rattle.naga_scope.specs.Availabilities.{kind_at, operands_at, is_pure_kind, is_constant_kind}
 use Rattle.naga_scope.specs.Availabilities.{is_emittable_kind, is_image_operation, usable_by}
-use Rattle.naga_scope.specs.Availabilities.{uses_to_bind}
 use Rattle.module_meaning.specs.ExpressionOperators.{is_depth_image, level_of, query_operator}
 use Rattle.module_meaning.specs.ExpressionOperators.{sample_operator}
 use Rattle.naga_ir.specs.Operands.{cooperative_operands, query_operands}
@@ -60,7 +58,6 @@ use Rattle.naga_ir.specs.declared.expression.ImageQuery.{ImageQuery}
 use Rattle.naga_ir.specs.declared.expression.ImageQuery.TheVariants as query
 use Rattle.naga_ir.specs.declared.expression.SwizzleComponent.{SwizzleComponent}
 use Rattle.shader_runs.specs.Program.{is_asked}
-use Rattle.std.specs.Option.{is_none, is_some}
 
 -- ---- the runs' words for shapes are tests of their kind
 pure_shape : (o : Option Expression) → is_pure o ≡ is_pure_kind (shape_kind o)
@@ -250,16 +247,16 @@ module _ (m : Module) (info : ModuleInfo) (f : ir_function.Function) (es : List 
   abbrev named_or : ℕ → Bool → Bool
   named_or h counts = is_some (label_of f h) || counts
 
-  -- what stands in the place of a part is counted as binding takes it, all else by its uses
-  counted_from : (least h : ℕ) {e : ir.Expression} → slice_get f.expressions h ≡ Some e →
-      is_counted shape least h ≡ named_or h (nat_le least (binding_count (is_partless d e) (count h)))
-  counted_from least h {e} at =
-      ap (λ n. is_named shape h || nat_le least n) (binding_count_at d f.expressions es h e at)
-      ∙ ap (λ b. b || nat_le least (binding_count (is_partless d e) (count h))) (named_is m info f es h)
+  -- what counts has a name, or is used as often as its kind asks
+  counted : (h : ℕ) {e : ir.Expression} → slice_get f.expressions h ≡ Some e →
+      is_counted shape h ≡ named_or h (is_bound_by_uses e (count h))
+  counted h {e} at =
+      ap (λ b. is_named shape h || b) (bound_by_uses_at f.expressions es h e at)
+      ∙ ap (λ b. b || is_bound_by_uses e (count h)) (named_is m info f es h)
 
-  -- an operator that asks for nothing is bound from the second use on
+  -- an operator that asks for nothing is bound where it counts
   silent_binds : (h : ℕ) (op : TableOperator) (xs : List ℕ) → asks op ≡ false →
-      binds_as shape h (Some (applied_shape op xs)) ≡ is_counted shape 2 h
+      binds_as shape h (Some (applied_shape op xs)) ≡ is_counted shape h
   silent_binds h op xs silent =
       ap
       (λ b. binds_as shape h
@@ -276,7 +273,7 @@ module _ (m : Module) (info : ModuleInfo) (f : ir_function.Function) (es : List 
   query_bound h query.NumLayers xs = refl
   query_bound h query.NumSamples xs = refl
 
-  -- the load of a matrix is bound from the first use on, whether its type has a form or not
+  -- the load of a matrix is bound where it counts, whether its type has a form or not
   load_binds : (h : ℕ) (columns rows : CooperativeSize) (role : CooperativeRole) (row_major : Bool)
       (o : Option (List ℕ)) (xs : List ℕ) →
       binds_as shape h
@@ -284,7 +281,7 @@ module _ (m : Module) (info : ModuleInfo) (f : ir_function.Function) (es : List 
       (applied_shape
       (option_map_or (CooperativeLoad row_major) o
       (WithoutForm (MatrixLoad columns rows role row_major))) xs)) ≡
-      is_counted shape 1 h
+      is_counted shape h
   load_binds h columns rows role row_major None xs = refl
   load_binds h columns rows role row_major (Some w) xs = refl
 
@@ -292,7 +289,7 @@ module _ (m : Module) (info : ModuleInfo) (f : ir_function.Function) (es : List 
   pub emitted_binds : (h : ℕ) (e : ir.Expression) →
       slice_get f.expressions h ≡ Some e →
       is_emittable_kind (kind_of e) ≡ true →
-      (is_image_operation e || named_or h (nat_le (uses_to_bind e) (count h))) ≡ binds shape h
+      (is_image_operation e || named_or h (is_bound_by_uses e (count h))) ≡ binds shape h
   emitted_binds h e at may =
       sym
       (ap (binds_as shape h) (expression_at m info f es h e at)
@@ -300,7 +297,7 @@ module _ (m : Module) (info : ModuleInfo) (f : ir_function.Function) (es : List 
     where
       own : (e : ir.Expression) → slice_get f.expressions h ≡ Some e → is_emittable_kind (kind_of e) ≡ true →
           binds_as shape h (Some (shape_of d f.expressions h e)) ≡
-          (is_image_operation e || named_or h (nat_le (uses_to_bind e) (count h)))
+          (is_image_operation e || named_or h (is_bound_by_uses e (count h)))
       own (expression.Load pointer) at may = by (is_atomic_pointer d.context pointer)
         where
           by : (atomic : Bool) →
@@ -308,41 +305,35 @@ module _ (m : Module) (info : ModuleInfo) (f : ir_function.Function) (es : List 
               (Some
               (applied_or (Load pointer) (pointer ∷ [])
               (if atomic then Some AtomicLoad else None))) ≡
-              named_or h (nat_le 1 (count h))
-          by true = counted_from 1 h at
-          by false = counted_from 1 h at
-      own (expression.Unary op expr) at may = counted_from 2 h at
+              named_or h (is_bound_by_uses (expression.Load pointer) (count h))
+          by true = counted h at
+          by false = counted h at
+      own (expression.Unary op expr) at may = counted h at
       own (expression.Binary op left right) at may =
-          operator_bound shape h (BinarySign op) (left ∷ right ∷ []) ∙ counted_from 2 h at
+          operator_bound shape h (BinarySign op) (left ∷ right ∷ []) ∙ counted h at
       own (expression.Compose ty components) at may =
           let op = constructor d.context (Handle ty) (length components.items) in
           silent_binds h op components.items (constructor_asks d.context (Handle ty) _)
-          ∙ counted_from 2 h at
+          ∙ counted h at
       own (expression.ZeroValue ty) at may = absurd cc
-      own (expression.Access base index) at may = counted_from greatest_count h at
+      own (expression.Access base index) at may = counted h at
       own (expression.AccessIndex base index) at may =
-          by (part_selector d base index) (λ least. counted_from least h at)
+          by (part_selector d base index) ∙ counted h at
         where
           by : (o : Option Selector) →
-              ((least : ℕ) → is_counted shape least h ≡
-              named_or h (nat_le least (binding_count (is_none o) (count h)))) →
-              binds_as shape h (Some (part_shape base index o)) ≡
-              named_or h (nat_le greatest_count (count h))
-          by (Some x) counted = counted greatest_count
-          by None counted =
-              silent_binds h (WithoutForm (PartAt index)) (base ∷ []) refl
-              ∙ counted 2
-              ∙ ap (named_or h) (bound_as_part (count h))
-      own (expression.Select condition accept reject) at may = counted_from 2 h at
-      own (expression.Splat size value) at may = counted_from 2 h at
-      own (expression.Swizzle size vector pattern) at may = counted_from 2 h at
-      own (expression.Derivative axis how expr) at may = counted_from 1 h at
+              binds_as shape h (Some (part_shape base index o)) ≡ is_counted shape h
+          by (Some x) = refl
+          by None = silent_binds h (WithoutForm (PartAt index)) (base ∷ []) refl
+      own (expression.Select condition accept reject) at may = counted h at
+      own (expression.Splat size value) at may = counted h at
+      own (expression.Swizzle size vector pattern) at may = counted h at
+      own (expression.Derivative axis how expr) at may = counted h at
       own (expression.As operand kind convert) at may =
           let op = cast d.context kind convert (type_known d.context operand) in
           silent_binds h op (operand ∷ []) (cast_asks d.context kind convert _)
-          ∙ counted_from 2 h at
-      own (expression.Math fun arg arg1 arg2 arg3) at may = counted_from 2 h at
-      own (expression.Relational fun argument) at may = counted_from 2 h at
+          ∙ counted h at
+      own (expression.Math fun arg arg1 arg2 arg3) at may = counted h at
+      own (expression.Relational fun argument) at may = counted h at
       own
           (expression.ImageSample
           image sampler gather coordinate array_index offset level depth_ref clamp) at may =
@@ -359,13 +350,13 @@ module _ (m : Module) (info : ModuleInfo) (f : ir_function.Function) (es : List 
           by (Some c) = refl
       own (expression.ImageLoad image coordinate array_index sample level) at may = refl
       own (expression.ImageQuery image query) at may = query_bound h query (image ∷ query_operands query)
-      own (expression.ArrayLength array) at may = counted_from 2 h at
+      own (expression.ArrayLength array) at may = counted h at
       own (expression.CooperativeLoad columns rows role place) at may =
           load_binds h columns rows role place.row_major _ (cooperative_operands place)
-          ∙ counted_from 1 h at
-      own (expression.CooperativeMultiplyAdd x y z) at may = counted_from 2 h at
-      own (expression.RayQueryGetIntersection query committed) at may = counted_from 2 h at
-      own (expression.RayQueryVertexPositions query committed) at may = counted_from 2 h at
+          ∙ counted h at
+      own (expression.CooperativeMultiplyAdd x y z) at may = counted h at
+      own (expression.RayQueryGetIntersection query committed) at may = counted h at
+      own (expression.RayQueryVertexPositions query committed) at may = counted h at
       own (expression.Literal value) at may = absurd cc
       own (expression.FunctionArgument number) at may = absurd cc
       own (expression.LocalVariable handle) at may = absurd cc

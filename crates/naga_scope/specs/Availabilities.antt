@@ -15,7 +15,6 @@ use Rattle.naga_ir.specs.declared.module.Function.{Function}
 use Rattle.shader_runs.specs.Program.{Function as Shape}
 use Rattle.shader_runs.specs.Scope as runs
 use Rattle.module_meaning.specs.Names.{numbered_name}
-use Rattle.naga_back.specs.Baking.{count_to_bind}
 use Rattle.naga_scope.specs.declared.points.BoundName.{BoundName}
 use Rattle.naga_scope.specs.declared.points.BoundName.TheVariants.{Numbered, Named}
 use Rattle.naga_scope.specs.declared.points.Availability.{Availability}
@@ -91,12 +90,6 @@ is_image_operation
 is_image_operation (expression.ImageLoad image coordinate array_index sample level) = true
 is_image_operation (expression.ImageQuery image query) = true
 is_image_operation e = false
-
--- From how many uses on a `let` binds an expression: naga's number, but one for the load of a
--- cooperative matrix too, since that reads memory.
-abbrev pub uses_to_bind : ir.Expression → ℕ
-uses_to_bind (expression.CooperativeLoad columns rows role place) = 1
-uses_to_bind e = count_to_bind e
 
 -- what is in scope at the start of a function is so by these availabilities too
 abbrev pub KeepsStart : Shape → runs.Handles → Type 0

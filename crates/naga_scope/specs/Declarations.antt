@@ -119,7 +119,8 @@ FindsMember m members =
 abbrev pub IsOtherStride : Module → StructMember → (ty : ℕ) → Type 0
 IsOtherStride m s ty = (ty ≡ s.ty) × IsFalse (arrays_are_kept (module_rule m) m.types ty)
 
--- these members as the module places them, if a struct of them is concerned where a text declares it
+-- these members as the module places them, if a struct of them is concerned where a text declares
+-- it
 abbrev pub concerned_among : Module → List StructMember → Option (List Placed)
 concerned_among m members = option_and_then concerned_only (placed_members (layout_in m) members)
 

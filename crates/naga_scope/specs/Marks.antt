@@ -1,6 +1,6 @@
 -- A table of marks, one for each expression of a function.
-use Rattle.std.specs.Prelude.{◌≡◌, ◌<◌, ℕ, Bool, false, List, ◌&&◌, ◌||◌, get_or, length, nat_eq, nat_lt}
-use Rattle.std.specs.Prelude.{IsFalse, IsSomeAnd, IsTrue, None, Option, Some, slice_get}
+use Rattle.std.specs.Prelude.{◌≡◌, ◌<◌, ℕ, Bool, false, List, ◌&&◌, ◌||◌, get_or, length, nat_eq}
+use Rattle.std.specs.Prelude.{nat_lt, IsFalse, IsSomeAnd, IsTrue, None, Option, Some, slice_get}
 use Rattle.std.specs.List.{list_any}
 use Rattle.module_meaning.specs.ExpressionForms.{global_is_written}
 use Rattle.module_meaning.specs.Premises.{OperandsStandBefore}

@@ -1,7 +1,7 @@
 -- What is decided of a function before its text.
 --
--- Throughout, m is the module, info is what is known of its expressions, f is the shape of a function,
--- and explicit says whether `let`s tell types.
+-- Throughout, m is the module, info is what is known of its expressions, f is the shape of a
+-- function, and explicit says whether `let`s tell types.
 use Rattle.std.specs.Prelude.{◌≡◌, ◌<◌, ◌^◌, ℕ, Bool, List, [], Some, IsSomeAnd}
 use Rattle.std.specs.Prelude.{IsFalse, IsTrue, get_or, length, nat_le, slice_get}
 use Rattle.naga_ir.specs.declared.module.Function as ir
@@ -47,8 +47,8 @@ pub record Planned : Type 0 where
 -- given yet, and room for all that its body introduces. Each statement, each written handle and
 -- each type that is spelled has a form. Handles, and labels that front ends gave, are told apart in
 -- 64 bits.
-pub record IsPlan (explicit : Bool) (m : Module) (info : ModuleInfo) (f : ir.Function) (es : List ExpressionInfo)
-    (plan : Planned) : Type 0 where
+pub record IsPlan (explicit : Bool) (m : Module) (info : ModuleInfo) (f : ir.Function)
+    (es : List ExpressionInfo) (plan : Planned) : Type 0 where
   pub in_scope : ScopeHolds (function_shape m info f es)
   pub starts : (named : ℕ → List ℕ) →
       handles_of named plan.scope.table ≡ at_start (function_shape m info f es)
@@ -69,7 +69,8 @@ IsRefusalToPlan explicit m info f es namer (StatementWithoutForm it) =
     formless_statement f.body ≡ Some it
 IsRefusalToPlan explicit m info f es namer (WithoutForm h) =
     IsWrittenIn m info f es h
-    × IsSomeAnd (slice_get f.expressions h) (λ e. IsFalse (expression_has_form m es f.expressions e))
+    × IsSomeAnd (slice_get f.expressions h)
+    (λ e. IsFalse (expression_has_form m es f.expressions e))
 IsRefusalToPlan explicit m info f es namer (TypeWithoutForm ty) =
     IsSpelledIn explicit m info f es (Handle ty) × IsFalse (is_spellable m (Handle ty))
 IsRefusalToPlan explicit m info f es namer (LetWithoutForm h) =

@@ -1,11 +1,11 @@
--- The types that the text of a function spells beside those of its expressions, and the first of them
--- that no text can spell.
+-- The types that the text of a function spells beside those of its expressions, and the first of
+-- them that no text can spell.
 --
--- Throughout, m is a module, ty is the handle of one of its types, r a type of an expression, f is a
--- function, es is what is known of its expressions, h is the handle of one, and binds says of each
--- whether a `let` binds it.
-use Rattle.std.specs.Prelude.{ℕ, Bool, false, List, ◌&&◌, ◌++◌, Option, None, if◌then◌else◌, map, not}
-use Rattle.std.specs.Prelude.{slice_get}
+-- Throughout, m is a module, ty is the handle of one of its types, r a type of an expression, f is
+-- a function, es is what is known of its expressions, h is the handle of one, and binds says of
+-- each whether a `let` binds it.
+use Rattle.std.specs.Prelude.{ℕ, Bool, false, List, ◌&&◌, ◌++◌, Option, None, if◌then◌else◌, map}
+use Rattle.std.specs.Prelude.{not, slice_get}
 use Rattle.std.specs.List.{find}
 use Rattle.std.specs.Option.{option_map, option_map_or, option_to_list}
 use Rattle.module_meaning.specs.AlikeTypes.{is_spelled}

@@ -1,10 +1,10 @@
 -- What is looked up of a module again and again while its text is decided and written.
 --
--- Throughout, m is a module, t are its tables, h is the handle of one of its types or of one of its own
--- expressions, c that of a constant, k a constant, e an expression, s are special types, it is a type by
--- itself, r a type of an expression, cells tell layouts, and kept are marks of strides.
-use Rattle.std.specs.Prelude.{◌≡◌, ◌++◌, ◌&&◌, ℕ, Bool, true, false, List, Option, Some, None, IsTrue}
-use Rattle.std.specs.Prelude.{get_or, if◌then◌else◌, length, slice_get}
+-- Throughout, m is a module, t are its tables, h is the handle of one of its types or of one of its
+-- own expressions, c that of a constant, k a constant, e an expression, s are special types, it is
+-- a type by itself, r a type of an expression, cells tell layouts, and kept are marks of strides.
+use Rattle.std.specs.Prelude.{◌≡◌, ◌++◌, ◌&&◌, ℕ, Bool, true, false, List, Option, Some, None}
+use Rattle.std.specs.Prelude.{IsTrue, get_or, if◌then◌else◌, length, slice_get}
 use Rattle.std.specs.Option.{is_none, is_some, option_and_then, option_map, option_map_or}
 use Rattle.std.specs.Option.{option_to_list}
 use Rattle.indexmap.specs.IndexMap.{values}
@@ -67,13 +67,13 @@ abbrev pub is_marked_type : List Bool → TypeResolution → Bool
 is_marked_type marks (Handle h) = is_marked marks h
 is_marked_type marks (Value it) = is_marked_over marks it
 
--- Just the types that WGSL spells have marks. A struct counts as spelled, by its handle, whether a text
--- declares it or not.
+-- Just the types that WGSL spells have marks. A struct counts as spelled, by its handle, whether a
+-- text declares it or not.
 abbrev pub MarksSpelled : Module → List Bool → Type 0
 MarksSpelled m marks = (h : ℕ) → is_marked marks h ≡ is_spelled m.types (Handle h)
 
--- a type by itself that is over none of the module's, and neither a struct nor a pointer into a space
--- without a word
+-- a type by itself that is over none of the module's, and neither a struct nor a pointer into a
+-- space without a word
 abbrev pub stands_alone : TypeInner → Bool
 stands_alone (inner.Pointer base space) = false
 stands_alone (inner.ValuePointer size scalar space) = is_some (space_word space)
@@ -121,8 +121,8 @@ abbrev pub unnamed_initialiser : Module → Expression → Option ℕ
 unnamed_initialiser m (expression.Constant c) = unnamed_value m c
 unnamed_initialiser m _ = None
 
--- An expression is written by itself or, if it names a constant without a name, by what the initialiser
--- of that one is written by, as f tells of those that stand before it.
+-- An expression is written by itself or, if it names a constant without a name, by what the
+-- initialiser of that one is written by, as f tells of those that stand before it.
 abbrev pub representative_over : Module → (f : ℕ → ℕ) → (h : ℕ) → Expression → ℕ
 representative_over m f h e = option_map_or f (unnamed_initialiser m e) h
 
@@ -134,11 +134,12 @@ representative_at representatives h = get_or representatives h h
 abbrev pub AreRepresentatives : Module → (representatives : List ℕ) → Type 0
 AreRepresentatives m representatives =
     (h : ℕ) (e : Expression) → slice_get m.global_expressions h ≡ Some e →
-    representative_at representatives h ≡ representative_over m (representative_at representatives) h e
+    representative_at representatives h ≡
+    representative_over m (representative_at representatives) h e
 
 -- ---- modules
--- What the module's own expressions are made of stands before them, and so do the parts of types; the
--- structs that no text declares are there.
+-- What the module's own expressions are made of stands before them, and so do the parts of types;
+-- the structs that no text declares are there.
 pub record ItemsStandInOrder (m : Module) : Type 0 where
   pub globals : GlobalsStandInOrder m
   pub types : IsTrue (parts_stand_before m.types)

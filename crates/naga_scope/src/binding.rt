@@ -1,8 +1,9 @@
 //! What kind of thing an expression is to the rules of scope, and which expressions a `let` binds
 //! where they are emitted.
 
-ghost use Rattle.std.specs.Prelude.{◌≡◌, ◌||◌, List, get_or, map, nat_le, slice_get};
+ghost use Rattle.std.specs.Prelude.{◌≡◌, ◌||◌, List, get_or, map, slice_get};
 ghost use Rattle.std.specs.Option.{is_some, option_map};
+ghost use Rattle.module_meaning.specs.BindingCounts.{is_bound_by_uses, uses_to_bind};
 ghost use Rattle.module_meaning.specs.FunctionShapes.{function_shape};
 ghost use Rattle.module_meaning.specs.ExpressionLabels.{label_of};
 ghost use Rattle.naga_info.specs.declared.info.ModuleInfo.{ModuleInfo};
@@ -10,7 +11,7 @@ ghost use Rattle.naga_ir.specs.declared.module.Module.{Module};
 ghost use Rattle.shader_runs.specs.Program.{binds};
 ghost use Rattle.naga_scope.specs.Availabilities.{is_constant_kind, is_emittable_kind};
 ghost use Rattle.naga_scope.specs.Availabilities.{is_pure_kind};
-ghost use Rattle.naga_scope.specs.Availabilities.{is_image_operation, kind_at, uses_to_bind};
+ghost use Rattle.naga_scope.specs.Availabilities.{is_image_operation, kind_at};
 
 use naga_back::BakeRefCount;
 use naga_info::FunctionInfo;
@@ -130,7 +131,7 @@ fn is_asked_for(
     expression: &Expression,
 ) -> bool
     ensures { result ≡ (is_some (label_of function.now handle)
-        || nat_le (uses_to_bind expression.now)
+        || is_bound_by_uses expression.now
         (get_or (map (λ e. e.ref_count) info.now) handle 0)) }
 {
     is_named(function, handle) || count_of(info, handle) >= uses_to_bind(expression)

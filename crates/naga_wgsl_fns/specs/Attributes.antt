@@ -1,7 +1,7 @@
 -- The texts of attributes.
 --
--- Throughout, list are attributes, front is what stands in front of a number or of a word, and b is a
--- binding.
+-- Throughout, list are attributes, front is what stands in front of a number or of a word, and b is
+-- a binding.
 use Rattle.std.specs.Prelude.{ℕ, Bool, true, false, List, [], ◌++◌, codes, decimal}
 use Rattle.wgsl_text.specs.Attributes.{Attribute, attributes_pieces}
 use Rattle.wgsl_text.specs.Text.{text}

@@ -27,8 +27,8 @@ pub record RefusesBinding (b : Binding) (content now : List ℕ) (before after :
   pub untouched : now ≡ content
   pub kept : after ≡ before
 
--- A call was asked to write the binding behind the text that its sink held; it answered, and the sink
--- holds another text now. The sink had failed so often before, and has failed so often now.
+-- A call was asked to write the binding behind the text that its sink held; it answered, and the
+-- sink holds another text now. The sink had failed so often before, and has failed so often now.
 pub record BindingWriting (b : Binding) (answer : Result Unit Error) (content now : List ℕ)
     (before after : ℕ) : Type 0 where
   -- It appends the attributes of the binding, which has a form then, and they say how it is bound.
@@ -36,8 +36,8 @@ pub record BindingWriting (b : Binding) (answer : Result Unit Error) (content no
   pub text_ok : OnOk answer (now ≡ content ++ binding_text b)
   pub meaning : OnOk answer (stage_binding_read (binding_attributes b) ≡ binding_meant b)
   pub failures_ok : OnOk answer (after ≡ before)
-  -- A call that gives up leaves a beginning of them. It gives up for want of memory, because the sink
-  -- failed, or where the binding has no form.
+  -- A call that gives up leaves a beginning of them. It gives up for want of memory, because the
+  -- sink failed, or where the binding has no form.
   pub text_err : OnErr answer (IsBehind content (binding_text b) now)
   pub reason : IfErr answer
       (λ e. IsWant before after e ⊎ RefusesBinding b content now before after e)

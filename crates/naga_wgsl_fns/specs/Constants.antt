@@ -1,7 +1,7 @@
 -- The texts of constants and of a module's own expressions.
 --
--- Throughout, m is a module, c a constant of it, h is a handle of one of its own expressions, and hs
--- are some.
+-- Throughout, m is a module, c a constant of it, h is a handle of one of its own expressions, and
+-- hs are some.
 use Rattle.std.specs.Prelude.{ℕ, Bool, true, false, List, [], ◌++◌, codes, if◌then◌else◌, map}
 use Rattle.std.specs.Prelude.{slice_get}
 use Rattle.std.specs.Option.{option_map_or}

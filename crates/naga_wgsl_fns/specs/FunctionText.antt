@@ -8,8 +8,8 @@ use Rattle.module_meaning.specs.Written.{IsWrittenIn, WrittenHaveForms, block_le
 use Rattle.module_meaning.specs.Written.{cases_lets, cases_roots, statement_lets, statement_roots}
 use Rattle.shader_runs.specs.Program.{binds}
 use Rattle.std.specs.List.{AllByRecursion, IsAmong}
-use Rattle.std.specs.Prelude.{◌≡◌, ℕ, ◌<◌, Bool, List, Option, Some, IsTrue, slice_get, bit_and, ◌==◌}
-use Rattle.std.specs.Prelude.{length, [], ◌^◌, string_bytes}
+use Rattle.std.specs.Prelude.{◌≡◌, ℕ, ◌<◌, Bool, List, Option, Some, IsTrue, slice_get, bit_and}
+use Rattle.std.specs.Prelude.{◌==◌, length, [], ◌^◌, string_bytes}
 use Rattle.std.specs.Option.{option_map_or}
 use Rattle.naga_scope.specs.declared.points.Availability.{Availability}
 use Rattle.naga_scope.specs.Availabilities.{handles_of}
@@ -126,10 +126,11 @@ pub record CanWriteCases (f : FunctionText) (cases : CaseTrees) : Type 0 where
   pub lets : AreLets f (cases_lets (bound f) cases)
 
 -- It is a function of its module, or that of an entry point, and the module is accepted and has its
--- names, and what is looked up of it. All that it names is there, if it may call the functions before
--- it, and of each of its expressions one type is known. Each expression that is written and each type
--- that is spelled has a form, and so have the bindings of what it takes and gives, and its stage. Its
--- names that front ends gave are there, in the order of the text, and told apart in 64 bits.
+-- names, and what is looked up of it. All that it names is there, if it may call the functions
+-- before it, and of each of its expressions one type is known. Each expression that is written and
+-- each type that is spelled has a form, and so have the bindings of what it takes and gives, and
+-- its stage. Its names that front ends gave are there, in the order of the text, and told apart in
+-- 64 bits.
 pub record CanWrite (f : FunctionText) : Type 0 where
   pub named : HasNamesOf f.shader.now (names_in f.names.now)
   pub tables : AreTablesOf f.shader.now f.tables.now

@@ -42,7 +42,8 @@ known_of info number = unwrap_or (slice_get (all_infos info) number) []
 abbrev pub names_of : Planned → (number : ℕ) → List ℕ
 names_of plan number = get_or plan.named number []
 
--- the stage of the entry point with this number; nothing in front of a function that others may call
+-- the stage of the entry point with this number; nothing in front of a function that others may
+-- call
 abbrev pub stage_before : Module → (number : ℕ) → List ℕ
 stage_before m number = option_map_or (stage_text m) (entry_point_numbered m number) []
 

@@ -30,8 +30,8 @@ RefusesGlobalOnlyFor (Err error) m handle before now = IsGlobalRefusal m handle 
 pub record GlobalWriting (m : Module) (handle : ℕ) (answer : Result Unit Error)
     (content now : List ℕ)
     (before after : ℕ) : Type 0 where
-  -- It refuses only for a reason that stands in the expression, for memory or the sink; and where it
-  -- does not, no reason stands there.
+  -- It refuses only for a reason that stands in the expression, for memory or the sink; and where
+  -- it does not, no reason stands there.
   pub refusals : RefusesGlobalOnlyFor answer m handle before after
   -- Otherwise it appends the expression's text, which has exactly one reading, its form.
   pub text_ok : OnOk answer (now ≡ content ++ global_text m handle)

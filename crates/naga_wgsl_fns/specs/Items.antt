@@ -1,7 +1,7 @@
 -- What is promised of a call that writes one function of a module.
 --
--- Throughout, m is the module, earlier are labels that were named before, ty says which of its functions
--- is meant and number is that of it, and explicit says whether `let`s tell types.
+-- Throughout, m is the module, earlier are labels that were named before, ty says which of its
+-- functions is meant and number is that of it, and explicit says whether `let`s tell types.
 use Rattle.std.specs.Prelude.{◌≡◌, ⊤, ℕ, ◌<◌, ◌++◌, Bool, List, ◌⊎◌, Ok, Err, IfErr, OnErr, OnOk}
 use Rattle.std.specs.Prelude.{Result, Some, slice_get}
 use Rattle.naga_ir.specs.declared.module.Module.{Module}
@@ -53,8 +53,8 @@ text_behind m info flags earlier number =
     text_under m info flags (named_behind m earlier number) number
 
 -- Why the function is refused, where the sink had failed so often before and has failed so often
--- now: the sink failed, memory ran out, what it takes or gives or its stage has no form, or it has a
--- fault.
+-- now: the sink failed, memory ran out, what it takes or gives or its stage has no form, or it has
+-- a fault.
 abbrev pub IsFunctionRefusal : (explicit : Bool) → Module → ModuleInfo →
     (earlier : List (List ℕ)) → (number : ℕ) → (before now : ℕ) → Error → Type 0
 IsFunctionRefusal explicit m info earlier number before now (FmtError e) = IsSinkWant before now e
@@ -156,12 +156,13 @@ IsToldByAnswers =
 pub record FunctionWriting (m : Module) (info : ModuleInfo) (flags : WriterFlags)
     (earlier : List (List ℕ)) (ty : FunctionType) (answer : Result Unit Error) (namer : Names)
     (content now : List ℕ) (before after : ℕ) : Type 0 where
-  -- It refuses only for a reason that stands in the function, for memory or the sink; and where it does
-  -- not, no reason stands there.
+  -- It refuses only for a reason that stands in the function, for memory or the sink; and where it
+  -- does not, no reason stands there.
   pub refusals : RefusesFunctionOnlyFor answer (annotates_types flags) m info earlier
       (function_number m ty) before after
   -- Otherwise it appends the function's text, which has exactly one reading.
-  pub text_ok : OnOk answer (now ≡ content ++ text_behind m info flags earlier (function_number m ty))
+  pub text_ok : OnOk answer
+      (now ≡ content ++ text_behind m info flags earlier (function_number m ty))
   pub reading : OnOk answer (AppendsOne ty content now)
   -- Where the earlier labels begin with those of the module's items, the text is meant so: its
   -- `let`s, what its identifiers and words stand for, and its runs are the module's, whatever

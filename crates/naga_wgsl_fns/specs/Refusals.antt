@@ -4,7 +4,7 @@
 use Rattle.std.specs.Prelude.{◌≡◌, ⊤, ℕ, ◌<◌, List, ◌⊎◌, codes, string_bytes, IsTrue, IsFalse}
 use Rattle.std.specs.Prelude.{IsSomeAnd, Option, Some, None, length, slice_get, Bool, true, false}
 use Rattle.std.specs.Prelude.{nat_lt, not}
-use Rattle.std.specs.List.{find, list_all}
+use Rattle.std.specs.List.{IsAmong, find, list_all}
 use Rattle.std.specs.Option.{is_none, is_some, option_and_then}
 use Rattle.naga_ir.specs.declared.expression.Expression.{Expression}
 use Rattle.naga_ir.specs.Operands.{expression_operands}
@@ -61,7 +61,7 @@ use Rattle.naga_scope.specs.declared.plan.PlanError.TheVariants as plan_error
 use Rattle.naga_wgsl_fns.specs.Errors.{IsCustom, IsUnimplemented, IsUnsupported}
 use Rattle.naga_wgsl_fns.specs.declared.error.Error.{Error}
 use Rattle.naga_wgsl_fns.specs.declared.error.Error.TheVariants.{FmtError, Custom}
-use Rattle.naga_wgsl_fns.specs.declared.error.Error.TheVariants.{Memory}
+use Rattle.naga_wgsl_fns.specs.declared.error.Error.TheVariants.{Memory, Unimplemented, Unsupported}
 use Rattle.naga_wgsl_fns.specs.declared.error.Error.TheVariants.{UnsupportedRelationalFunction}
 
 -- the names of some labels that front ends gave in the function with this number can't be told
@@ -77,9 +77,9 @@ IsErrorOfNames namer_error.KeyFull error = IsCustom (codes "name key out of rang
 IsErrorOfNames (namer_error.Memory e) error = error ≡ Memory e
 
 -- ---- expressions without a form
--- The refusals that name them, or want of memory for their text. A literal is a float or an abstract
--- one; a function of mathematics or a relation has no word; a conversion has nothing that it could
--- give.
+-- The refusals that name them, or want of memory for their text. A literal is a float or an
+-- abstract one; a function of mathematics or a relation has no word; a conversion has nothing that
+-- it could give.
 abbrev pub FloatLiteral : Error → Type 0
 FloatLiteral error = IsUnimplemented (codes "float literal") error
 
@@ -134,7 +134,8 @@ NamesConversion (Some new) error = NamesScalar error
 abbrev pub converted : List Type_ → List ExpressionInfo → (operand : ℕ) → ScalarKind →
     (convert : Option ℕ) → Option TypeInner
 converted types es operand kind convert =
-    option_and_then (λ k. option_and_then (λ it. conversion_target it kind convert) (inner_of k.ty types))
+    option_and_then
+    (λ k. option_and_then (λ it. conversion_target it kind convert) (inner_of k.ty types))
     (slice_get es operand)
 
 -- What a pointer points to is of scalars that have no word; or it is of no scalars at all, as in no
@@ -153,8 +154,8 @@ pointed_scalar types es pointer =
 abbrev pub NamesRayQuery : Error → Type 0
 NamesRayQuery error = IsUnimplemented (codes "ray query") error
 
--- An image is sampled in a way that has no form, or with an offset that applies an operator; where both
--- stand, either may be told.
+-- An image is sampled in a way that has no form, or with an offset that applies an operator; where
+-- both stand, either may be told.
 abbrev pub NamesSampling : (sampling_is_written offset_is_written : Bool) → Error → Type 0
 NamesSampling sampling offset error =
     (IsFalse sampling × IsUnimplemented (codes "sampling form") error)
@@ -176,11 +177,11 @@ made_type (ZeroValue ty) = Some ty
 made_type (Compose ty components) = Some ty
 made_type e = None
 
--- One of the module's own expressions has no form, and what is told names why: it is a literal without
--- a form; it applies an operator; it applies none, and so it is with the first of its operands that has
--- no form; it makes a value of a type without one, of operands that all have forms; or so it is with the
--- initialiser of the constant that it names, if that has no name. One that has a name is written as
--- that, whatever its initialiser is.
+-- One of the module's own expressions has no form, and what is told names why: it is a literal
+-- without a form; it applies an operator; it applies none, and so it is with the first of its
+-- operands that has no form; it makes a value of a type without one, of operands that all have
+-- forms; or so it is with the initialiser of the constant that it names, if that has no name. One
+-- that has a name is written as that, whatever its initialiser is.
 pub data NamesGlobal (m : Module) (error : Error) : (handle : ℕ) → Type 0 where
   OfLiteral : (h : ℕ) (value : LiteralValue) →
       slice_get m.global_expressions h ≡ Some (Literal value) →
@@ -261,7 +262,8 @@ pub record NamesFormlessStatement (m : Module) (info : ModuleInfo) (number : ℕ
   pub named : NamesStatement statement error
 
 -- an expression is written in the function with this number that has no form, and is named
-pub record NamesFormless (m : Module) (info : ModuleInfo) (number : ℕ) (error : Error) : Type 0 where
+pub record NamesFormless (m : Module) (info : ModuleInfo) (number : ℕ) (error : Error) :
+    Type 0 where
   pub function : Function
   pub known : List ExpressionInfo
   pub stands : slice_get (all_functions m) number ≡ Some function
@@ -301,13 +303,33 @@ abbrev pub TellsOfScope : Error → Type 0
 TellsOfScope (Custom message) = string_bytes message ≡ codes "operand out of scope"
 TellsOfScope _ = ⊥
 
--- the error names some expression, type or statement without a form, and is not want of memory
+-- what errors say of an expression, a type or a statement without a form: the texts of `Custom`,
+abbrev pub custom_texts : List (List ℕ)
+custom_texts =
+    codes "Abstract types should not appear in IR presented to backends" ∷
+    codes "operator in a constant" ∷ codes "image load with sample and level" ∷
+    codes "cannot index" ∷ codes "predeclared struct" ∷ codes "type without a WGSL form" ∷ []
+
+-- those of `Unimplemented`,
+abbrev pub unimplemented_texts : List (List ℕ)
+unimplemented_texts =
+    codes "float literal" ∷ codes "conversion of this type" ∷ codes "sampling form" ∷
+    codes "ray query" ∷ codes "subgroup operation" ∷ codes "fall-through switch case block" ∷
+    codes "image compare exchange" ∷ []
+
+-- and the kinds of `Unsupported`
+abbrev pub unsupported_kinds : List (List ℕ)
+unsupported_kinds = codes "math function" ∷ codes "scalar type" ∷ []
+
+-- the error tells of such an expression, type or statement: it says one of these, or names a
+-- function that tests a number and that WGSL lacks
 abbrev pub TellsOfForm : Error → Type 0
-TellsOfForm error =
-    TellsOfModule error × (((m : Module) × (known : List ExpressionInfo)
-    × (es : List Expression) × (e : Expression) × NamesExpression m known es e error)
-    ⊎ (((m : Module) × (r : TypeResolution) × NamesType m r error)
-    ⊎ ((statement : FormlessStatement) × NamesStatement statement error)))
+TellsOfForm (FmtError e) = ⊥
+TellsOfForm (Custom message) = IsAmong custom_texts (string_bytes message)
+TellsOfForm (Unimplemented message) = IsAmong unimplemented_texts (string_bytes message)
+TellsOfForm (UnsupportedRelationalFunction fun) = ⊤
+TellsOfForm (Unsupported kind value) = IsAmong unsupported_kinds kind.now
+TellsOfForm (Memory e) = ⊥
 
 -- the error tells that a name can't be told
 abbrev pub TellsOfFullNamer : Error → Type 0

@@ -1,6 +1,7 @@
 -- The texts of the stages of entry points.
 --
--- Throughout, m is a module, e an entry point of it, and front is what stands in front of a variable.
+-- Throughout, m is a module, e an entry point of it, and front is what stands in front of a
+-- variable.
 use Rattle.std.specs.Prelude.{ℕ, List, [], ◌++◌, codes, decimal, IsTrue, Option, Some, None, length}
 use Rattle.std.specs.Option.{option_map}
 use Rattle.naga_ir.specs.declared.module.EntryPoint.{EntryPoint}

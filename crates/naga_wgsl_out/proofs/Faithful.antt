@@ -84,6 +84,11 @@ want_tells_nothing (FmtError e) before after is tells = tells
 want_tells_nothing (Memory e) before after is tells = tells
 want_tells_nothing _ before after is tells = is
 
+form_tells_of_module : (error : Error) → TellsOfForm error → TellsOfModule error
+form_tells_of_module (FmtError e) tells = tells
+form_tells_of_module (Memory e) tells = tells
+form_tells_of_module _ tells = tt
+
 pub function_tells_of_module : (m : Module) (error : Error) → TellsOfFunction m error → TellsOfModule error
 function_tells_of_module m error reported = by error reported.tells
   where
@@ -91,7 +96,7 @@ function_tells_of_module m error reported = by error reported.tells
         (TellsOfScope error ⊎ (TellsOfForm error ⊎ (TellsOfFullNamer error × (ItemsAreFull m → ⊥)))) →
         TellsOfModule error
     by (Custom message) tells = tt
-    by error (inr (inl tells)) = tells.0
+    by error (inr (inl tells)) = form_tells_of_module error tells
     by _ (inr (inr tells)) = absurd tells.0
     by _ (inl tells) = absurd tells
 

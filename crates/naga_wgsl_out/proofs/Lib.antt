@@ -1,3 +1,4 @@
+pub mod FormlessTexts
 pub mod EnableRows
 pub mod FoundEnables
 pub mod ModuleScopes

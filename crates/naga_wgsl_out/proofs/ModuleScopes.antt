@@ -34,6 +34,7 @@ use Rattle.naga_wgsl_fns.specs.DeclarationRefusals.NamesHead.{OfBinding, OfStage
 use Rattle.naga_wgsl_fns.specs.Refusals.{NamesFormless}
 use Rattle.naga_wgsl_fns.specs.Refusals.{TellsOfModule}
 use Rattle.naga_wgsl_fns.proofs.PlanRefusals.{declaration_is_no_sink, named, planned_holds}
+use Rattle.naga_wgsl_out.proofs.FormlessTexts.{of_expression, of_statement, of_type}
 use Rattle.naga_wgsl_out.specs.ModuleRefusals.{IsRefusal, ItemsAreFull, TellsOfFunction}
 use Rattle.naga_wgsl_out.specs.Writing.{HasPlan}
 
@@ -105,7 +106,7 @@ module _ (m : Module) (declarations : DeclarationsHaveForms m) where
       let at = named m info i error n in
       record {
         declarations = declarations;
-        tells = inr (inl (tells, inl (m, n.known, n.function.expressions, at.0, at.3)));
+        tells = inr (inl (of_expression error tells m n.known n.function.expressions at.0 at.3));
       }
 
   formless_reported : (explicit : Bool) (info : ModuleInfo) (i : ℕ) (error : Error) →
@@ -113,11 +114,11 @@ module _ (m : Module) (declarations : DeclarationsHaveForms m) where
   formless_reported explicit info i error (inl n) tells = expression_reported info i error n tells
   formless_reported explicit info i error (inr (inl n)) tells = record {
     declarations = declarations;
-    tells = inr (inl (tells, inr (inl (m, n.type, n.named))));
+    tells = inr (inl (of_type error tells m n.type n.named));
   }
   formless_reported explicit info i error (inr (inr n)) tells = record {
     declarations = declarations;
-    tells = inr (inl (tells, inr (inr (n.statement, n.named))));
+    tells = inr (inl (of_statement error tells n.statement n.named));
   }
 
 -- what a fault tells

@@ -78,8 +78,8 @@ IsRefusal explicit m info before now (Custom message) =
 IsRefusal explicit m info before now error = HasFormless explicit m info error
 
 -- The error tells of one of the functions, of which each is looked at before its text: all that the
--- module declares has a form. That a name can't be told, it tells of a function where the items of the
--- module can all be named.
+-- module declares has a form. That a name can't be told, it tells of a function where the items of
+-- the module can all be named.
 pub record TellsOfFunction (m : Module) (error : Error) : Type 0 where
   pub declarations : DeclarationsHaveForms m
   pub tells : TellsOfScope error
@@ -95,7 +95,7 @@ TellsOfKeys (Custom message) = string_bytes message ≡ codes "name key out of r
 TellsOfKeys _ = ⊥
 
 -- no reason stands in the module
-pub record IsWritable (explicit : Bool) (m : Module) (info : ModuleInfo) : Type 0 where
+pub record NothingIsRefused (explicit : Bool) (m : Module) (info : ModuleInfo) : Type 0 where
   pub declarations : DeclarationsHaveForms m
   pub in_scope : ScopesHold m info
   pub formed : AllWrittenHaveForms explicit m info
@@ -105,7 +105,7 @@ pub record IsWritable (explicit : Bool) (m : Module) (info : ModuleInfo) : Type 
 -- an error has its reason, and where there is none no reason stands in the module
 abbrev pub RefusesOnlyFor : Result Unit Error → (explicit : Bool) → Module → ModuleInfo →
     (before now : ℕ) → Type 0
-RefusesOnlyFor (Ok _) explicit m info before now = IsWritable explicit m info
+RefusesOnlyFor (Ok _) explicit m info before now = NothingIsRefused explicit m info
 RefusesOnlyFor (Err error) explicit m info before now = IsRefusal explicit m info before now error
 
 -- the map has the names of all items of the module, which can all be told

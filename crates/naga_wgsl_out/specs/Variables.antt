@@ -1,7 +1,7 @@
 -- The texts of the variables that a module declares.
 --
--- Throughout, m is a module, h the handle of a variable v of it, and access what may be done with what
--- lives in a space.
+-- Throughout, m is a module, h the handle of a variable v of it, and access what may be done with
+-- what lives in a space.
 use Rattle.std.specs.Prelude.{ℕ, ◌∷◌, [], ◌++◌, List, Option, codes, map}
 use Rattle.std.specs.List.{enumerate_from}
 use Rattle.naga_ir.specs.declared.binding.ResourceBinding.{ResourceBinding}

@@ -32,7 +32,10 @@ pub record Writing (W : Type 0) : Type 0 where
   pub sink : W
   pub flags : WriterFlags
 
--- the text of a module: it follows from the module, from what is known of it, and from the flags
+-- The text of a module: it follows from the module, from what is known of it, and from the flags. A
+-- call that answers `Ok` appends it, and then all that is written has a form. Of a module of which
+-- something has none, nothing says what stands here in its place: a call that refuses the module
+-- leaves no more than a beginning of this text, in front of the first function that it refuses.
 abbrev pub written_text : Module → ModuleInfo → WriterFlags → List ℕ
 written_text m info flags = layout (written_program m info (annotates_types flags))
 
@@ -88,8 +91,8 @@ abbrev pub lines_before : Module → ModuleInfo → WriterFlags → (number : �
 lines_before m info flags number =
     lines_of m info flags (take number (enumerate_from 0 (all_functions m)))
 
--- Behind what the sink held stand the functions and entry points in front of the first one that can't
--- be written, with their empty lines, and nothing else.
+-- Behind what the sink held stand the functions and entry points in front of the first one that
+-- can't be written, with their empty lines, and nothing else.
 pub record WroteFunctionsBefore (m : Module) (info : ModuleInfo) (flags : WriterFlags)
     (content now : List ℕ) : Type 0 where
   -- that function
@@ -107,8 +110,8 @@ pub record HasPlan (explicit : Bool) (m : Module) (info : ModuleInfo) (handle : 
   pub nameable : ExpressionNamesAreFullIn m (labels_before m handle) handle → ⊥
 
 -- a plan with its names, behind which the namer has named the labels of the function too
-pub record IsNamedPlan (explicit : Bool) (m : Module) (info : ModuleInfo) (handle : ℕ) (namer : Names)
-    (planned : Planned) : Type 0 where
+pub record IsNamedPlan (explicit : Bool) (m : Module) (info : ModuleInfo) (handle : ℕ)
+    (namer : Names) (planned : Planned) : Type 0 where
   pub plan : IsPlanOf explicit m info handle planned
   pub names : AreExpressionNames m handle planned.named
   pub namer_is : HasNamedBefore m (handle + 1) namer

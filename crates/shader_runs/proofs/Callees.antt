@@ -67,7 +67,7 @@ module _ (c : Call) (told : List Function) (body : Statements) where
       emit_as c h o kept t ≡ emit_as retold h o kept t
   one_emitted h (Some (Load p)) kept t =
       ap
-      (λ v. if_counted (is_counted c.function 1 h)
+      (λ v. if_counted (is_counted c.function h)
       (after_load c.environment.parts (handle_type c.function h) c.world h v) kept t)
       (used kept p)
   one_emitted h (Some (Request a w xs es)) kept t =

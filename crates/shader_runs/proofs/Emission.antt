@@ -10,7 +10,7 @@ use Rattle.shader_runs.specs.Outcome.{Stopped, ReachedOrHalted, Gives, or_stuck,
 use Rattle.shader_runs.specs.Program.{Expression, Constant, Argument, Local, Global, Load, Operator}
 use Rattle.shader_runs.specs.Program.{Access, AccessIndex, Logical, Swizzle, Request, AskingRule}
 use Rattle.shader_runs.specs.Program.{ConstantTrees, expression_of, handle_type, operands_of}
-use Rattle.shader_runs.specs.Program.{is_counted, is_asked, binds, binds_as, greatest_count, Module}
+use Rattle.shader_runs.specs.Program.{is_counted, is_asked, binds, binds_as, Module}
 use Rattle.shader_runs.specs.ProgramRun.{Call, KeptValues, used_value_as, constant_values}
 use Rattle.shader_runs.specs.ProgramRun.{used_value}
 use Rattle.shader_runs.specs.ProgramRun.{used_values, joined_values, combined_value, computed_value}
@@ -405,13 +405,13 @@ module _ (p : Module) (c : Call) (n : Names) (d : Respond) (facts : Facts p c n 
         (follow_in_loop (words c d) bound
         (let_if (binds_as c.function h e) x
         (value_form (own_form (naming c n) (written_form (naming c n) s) e)) tail) names t)
-    emit_one_as (Some (Load q)) y i l e k m next = emit_load (no_event (Some (Load q)) e (λ vs. refl)) (is_counted c.function 1 h) q m next
+    emit_one_as (Some (Load q)) y i l e k m next = emit_load (no_event (Some (Load q)) e (λ vs. refl)) (is_counted c.function h) q m next
     emit_one_as (Some (Request q w xs es)) y i l e k m next = emit_request (no_event (Some (Request q w xs es)) e (λ vs. refl)) (is_asked c.function h q) q w xs es y i l m next
-    emit_one_as (Some (Operator w xs)) y i l e k m next = emit_pure (is_counted c.function 2 h) (Some (Operator w xs)) e refl y i m next
-    emit_one_as (Some (Access u v)) y i l e k m next = emit_pure (is_counted c.function greatest_count h) (Some (Access u v)) e refl y i m next
-    emit_one_as (Some (AccessIndex u v)) y i l e k m next = emit_pure (is_counted c.function greatest_count h) (Some (AccessIndex u v)) e refl y i m next
-    emit_one_as (Some (Logical j u v)) y i l e k m next = emit_pure (is_counted c.function 2 h) (Some (Logical j u v)) e refl y i m next
-    emit_one_as (Some (Swizzle w v)) y i l e k m next = emit_pure (is_counted c.function 2 h) (Some (Swizzle w v)) e refl y i m next
+    emit_one_as (Some (Operator w xs)) y i l e k m next = emit_pure (is_counted c.function h) (Some (Operator w xs)) e refl y i m next
+    emit_one_as (Some (Access u v)) y i l e k m next = emit_pure (is_counted c.function h) (Some (Access u v)) e refl y i m next
+    emit_one_as (Some (AccessIndex u v)) y i l e k m next = emit_pure (is_counted c.function h) (Some (AccessIndex u v)) e refl y i m next
+    emit_one_as (Some (Logical j u v)) y i l e k m next = emit_pure (is_counted c.function h) (Some (Logical j u v)) e refl y i m next
+    emit_one_as (Some (Swizzle w v)) y i l e k m next = emit_pure (is_counted c.function h) (Some (Swizzle w v)) e refl y i m next
     emit_one_as (Some _) y i l e k m next = absurd (true≢false (sym k))
     emit_one_as None y i l e k m next = absurd (true≢false (sym k))
 

@@ -151,7 +151,7 @@ module _ (calls : ℕ → List Value → Course) where
       one_enters h (Some (Load p)) kept =
           let parts = c.environment.parts in
           let k = handle_type c.function h in
-          chosen_enters (is_counted c.function 1 h) (load_process parts k h kept (used_value c kept p)) (gives (DoneWith kept)) (load_enters parts k h kept (used_value c kept p)) (λ t. tt)
+          chosen_enters (is_counted c.function h) (load_process parts k h kept (used_value c kept p)) (gives (DoneWith kept)) (load_enters parts k h kept (used_value c kept p)) (λ t. tt)
       one_enters h (Some (Request a w xs es)) kept =
           let parts = c.environment.parts in
           let k = handle_type c.function h in

@@ -202,7 +202,7 @@ module _ (w : World) (n : ℕ) where
 
     one_performed : (h : ℕ) (e : Option Expression) (kept : KeptValues) (t : List Event) → emit_as c h e kept t ≡ outcome (perform w n (emit_one alone callees h e kept) t)
     one_performed h (Some (Load p)) kept t =
-        counted_performed (is_counted f 1 h)
+        counted_performed (is_counted f h)
         (after_load env.parts (handle_type f h) w h (used_value c kept p)) kept t
         (load_process env.parts (handle_type f h) h kept (used_value alone kept p))
         (ap (λ o. after_load env.parts (handle_type f h) w h o kept t) (used_alone kept p)

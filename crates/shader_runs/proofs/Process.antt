@@ -158,7 +158,7 @@ entry_process g vs (Some firsts) p = tells (Entry g vs firsts) p
 module _ (c : Call) (calls : ℕ → List Value → Process) where
   abbrev pub emit_one : ℕ → Option Expression → KeptValues → Process
   emit_one h (Some (Load p)) kept =
-      if_true (is_counted c.function 1 h) (load_process c.environment.parts (handle_type c.function h) h kept (used_value c kept p)) (gives (DoneWith kept))
+      if_true (is_counted c.function h) (load_process c.environment.parts (handle_type c.function h) h kept (used_value c kept p)) (gives (DoneWith kept))
   emit_one h (Some (Request a w xs es)) kept =
       if_true (is_asked c.function h a)
       (ask_process c.environment.parts (handle_type c.function h) h w kept

@@ -369,7 +369,7 @@ module _ (p : Module) (c : Call) (n : Names) (sound : Sound p c) where
         MayBind c n (binds_as c.function h e) s x e →
         Emits (with_emitted_handle (binds_as c.function h e) (is_pure e)
         (usable_all c.function s (operands_of e)) x s h) (emit_as c h e kept t)
-    emit_as_proceeds (Some (Load q)) e l i k z m = emit_load (is_counted c.function 1 h) (usable_all c.function s (q ∷ [])) q l m
+    emit_as_proceeds (Some (Load q)) e l i k z m = emit_load (is_counted c.function h) (usable_all c.function s (q ∷ [])) q l m
     emit_as_proceeds (Some (Request a w xs es)) e l i k z m = emit_request (is_asked c.function h a) (usable_all c.function s xs) a w xs es i k m
     emit_as_proceeds (Some (Operator w xs)) e l i k z m = emit_pure _ (Some (Operator w xs)) e refl m
     emit_as_proceeds (Some (Access a b)) e l i k z m = emit_pure _ (Some (Access a b)) e refl m

@@ -139,7 +139,7 @@ module _ (k : Option ValueType) where
 
   -- an Emit is done, or ends by an answer of a wrong type or a value that is no pointer
   emit_as_leads : (c : Call) (h : ℕ) (e : Option Expression) (kept : KeptValues) (t : List Event) → Leads k true false (emit_as c h e kept t)
-  emit_as_leads c h (Some (Load p)) kept t = go (is_counted c.function 1 h) (used_value c kept p)
+  emit_as_leads c h (Some (Load p)) kept t = go (is_counted c.function h) (used_value c kept p)
     where
       go : (b : Bool) (o : Option Value) → Leads k true false (if_counted b (after_load c.environment.parts (handle_type c.function h) c.world h o) kept t)
       go true None = refl

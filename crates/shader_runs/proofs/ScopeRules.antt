@@ -147,7 +147,7 @@ not_either false = refl
 
 unwritten_kind : (f : Function) (h : ℕ) (e : Option Expression) →
     IsTrue (is_emittable e) → is_unwritten f h e ≡ not (binds_as f h e || is_pure e)
-unwritten_kind f h (Some (Load p)) m = not_alone (is_counted f 1 h)
+unwritten_kind f h (Some (Load p)) m = not_alone (is_counted f h)
 unwritten_kind f h (Some (Request a w xs es)) m = not_alone (is_asked f h a)
 unwritten_kind f h (Some (Constant c)) m = absurd (true≢false (sym m))
 unwritten_kind f h (Some (Argument i)) m = absurd (true≢false (sym m))

@@ -56,7 +56,7 @@ pair_function =
       local_pointers = [];
       expressions = Constant (NamedConstant 0) ∷ [];
       types = OtherType pair_word ∷ [];
-      counts = 1 ∷ [];
+      bound_by_uses = [];
       named_expressions = [];
       body = then (Return (Some 0)) end;
     }

@@ -1,9 +1,9 @@
 -- The laws: a call runs alike by the text and by the module, event by event.
 --
--- Throughout, p is a module, n are its names and fs its functions with theirs, m is the meaning, w the
--- world, g the number of a function f, vs are its arguments and t the events so far, i is an index
--- and e an initialiser. Functions of a text that stand after f are later, and those between f and
--- its callees are between; others and uncalled are the module's there.
+-- Throughout, p is a module, n are its names and fs its functions with theirs, m is the meaning, w
+-- the world, g the number of a function f, vs are its arguments and t the events so far, i is an
+-- index and e an initialiser. Functions of a text that stand after f are later, and those between f
+-- and its callees are between; others and uncalled are the module's there.
 use Rattle.std.specs.Prelude.{◌≡◌, ℕ, ◌++◌, List, [], ◌∷◌, length, Some, IsTrue, slice_get}
 use Rattle.std.specs.Prelude.{drop}
 use Rattle.shader_runs.specs.Value.{Value, has_types}
@@ -49,9 +49,9 @@ pub record ItemsFit (p : Module) (n : ModuleNames) (functions : List TextFunctio
   pub named : AreNamed n functions
   pub counted : length functions ≡ length p.functions
 
--- f is a function of the module, and fits. Its callees are the module's first functions and fit, and
--- all that it calls are among them. Of the functions between and of the later ones nothing is asked
--- but their names, whatever the text has for them.
+-- f is a function of the module, and fits. Its callees are the module's first functions and fit,
+-- and all that it calls are among them. Of the functions between and of the later ones nothing is
+-- asked but their names, whatever the text has for them.
 pub record OneFits (p : Module) (n : ModuleNames) (later : List TextFunction) (f : Naming)
     (between : List TextFunction) (callees : List Naming) : Type 0 where
   pub items : ItemsFit p n (later ++ (form_function f ∷ (between ++ form_functions callees)))

@@ -18,6 +18,7 @@ use Rattle.shader_runs.specs.Constants.{run_module}
 use Rattle.shader_runs.specs.Scope.{Naming, fits_function}
 use Rattle.shader_runs.specs.Form.{form_module}
 use Rattle.shader_runs.specs.WorkedFunctions.{i32, number, numbered_name, row, function_with, lines}
+use Rattle.shader_runs.specs.WorkedFunctions.{bound_row}
 use Rattle.shader_runs.specs.WorkedFunctions.{let_own, return_of, digits, named_by, text_of}
 use Rattle.shader_runs.specs.WorkedFunctions.{row_world, row_meaning, row_vocabulary, follow_text}
 use Rattle.shader_runs.specs.Rows.{x_name, entered_with, stuck_behind_entry}
@@ -180,12 +181,12 @@ pub record PartsAreReached : Type 0 where
 abbrev pub places_function : Function
 places_function =
     function_with (i32 ∷ []) (Some i32) [] (
-    row (Argument 0) i32 1
-    ∷ row (Global false 0) (PointerType private_vector) 2
-    ∷ row (Constant (NamedConstant 0)) i32 1
-    ∷ row (AccessIndex dot_x 1) (PointerType private_i32) 1
-    ∷ row (Access 1 0) (PointerType private_i32) 1
-    ∷ row (Load 4) i32 1 ∷ []) (
+    row (Argument 0) i32
+    ∷ row (Global false 0) (PointerType private_vector)
+    ∷ row (Constant (NamedConstant 0)) i32
+    ∷ row (AccessIndex dot_x 1) (PointerType private_i32)
+    ∷ row (Access 1 0) (PointerType private_i32)
+    ∷ bound_row (Load 4) i32 ∷ []) (
     Emit 3 1
     ∷ Store 3 2
     ∷ Emit 4 2

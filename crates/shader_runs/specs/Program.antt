@@ -3,8 +3,8 @@
 -- Throughout, p is a module, f a function, g the number of a function and h the handle of an
 -- expression; of an expression w is the word, and xs are the operands; of a statement a and b are
 -- the bodies, and c, d and e what its constructor tells.
-use Rattle.std.specs.Prelude.{ℕ, zero, suc, ℤ, Bool, true, false, cond, ◌-◌, ◌^◌, List, [], ◌∷◌}
-use Rattle.std.specs.Prelude.{length, Option, Some, None, ◌||◌, nat_eq, nat_le, get_or, slice_get}
+use Rattle.std.specs.Prelude.{ℕ, zero, suc, ℤ, Bool, true, false, cond, List, [], ◌∷◌}
+use Rattle.std.specs.Prelude.{length, Option, Some, None, ◌||◌, nat_eq, get_or, slice_get}
 use Rattle.std.specs.Prelude.{drop}
 use Rattle.shader_runs.specs.Value.{Bytes, PartTypes, Selector, Value, ValueType, BooleanType}
 use Rattle.shader_runs.specs.Value.{PointerType, type_at}
@@ -91,8 +91,9 @@ mutual
     no_case : Cases
     case : Label → Statements → (falls_through : Bool) → Cases → Cases
 
--- types, counts and given names are by handle, first values are the initialisers of the locals, and
--- local pointers the spellings of pointers to these
+-- Types, given names and whether a `let` binds an expression by how often it is used are by handle;
+-- first values are the initialisers of the locals, and local pointers the spellings of pointers to
+-- these.
 pub record Function : Type 0 where
   pub argument_types : List ValueType
   pub result : Option ValueType
@@ -100,7 +101,7 @@ pub record Function : Type 0 where
   pub local_pointers : List Bytes
   pub expressions : List Expression
   pub types : List ValueType
-  pub counts : List ℕ
+  pub bound_by_uses : List Bool
   pub named_expressions : List Bool
   pub body : Statements
 
@@ -144,29 +145,25 @@ operands_of _ = []
 abbrev pub is_named : Function → ℕ → Bool
 is_named f h = get_or f.named_expressions h false
 
--- a front end's name, or that many uses
-abbrev pub is_counted : Function → (least : ℕ) → ℕ → Bool
-is_counted f least h = is_named f h || nat_le least (get_or f.counts h 0)
+-- a front end named the handle, or it is used as often as its kind asks for a `let`
+abbrev pub is_counted : Function → ℕ → Bool
+is_counted f h = is_named f h || get_or f.bound_by_uses h false
 
--- an access is bound by its name alone, or at a count that can't be raised any more
-abbrev pub greatest_count : ℕ
-greatest_count = 2 ^ 64 - 1
-
--- a read is written where it counts or has a name, an image operation always
+-- a read is written where it counts, an image operation always
 abbrev pub is_asked : Function → ℕ → AskingRule → Bool
-is_asked f h WhenCounted = is_counted f 1 h
+is_asked f h WhenCounted = is_counted f h
 is_asked f h Always = true
 
--- an emitted handle that a `let` binds: an operation on images, a read that counts, an operator
--- used twice, or what has a name
+-- an emitted handle that a `let` binds: an operation on images, or another read or an operator that
+-- counts
 abbrev pub binds_as : Function → ℕ → Option Expression → Bool
-binds_as f h (Some (Load p)) = is_counted f 1 h
+binds_as f h (Some (Load p)) = is_counted f h
 binds_as f h (Some (Request a w xs es)) = is_asked f h a
-binds_as f h (Some (Operator w xs)) = is_counted f 2 h
-binds_as f h (Some (Logical j l r)) = is_counted f 2 h
-binds_as f h (Some (Swizzle w v)) = is_counted f 2 h
-binds_as f h (Some (Access b i)) = is_counted f greatest_count h
-binds_as f h (Some (AccessIndex x b)) = is_counted f greatest_count h
+binds_as f h (Some (Operator w xs)) = is_counted f h
+binds_as f h (Some (Logical j l r)) = is_counted f h
+binds_as f h (Some (Swizzle w v)) = is_counted f h
+binds_as f h (Some (Access b i)) = is_counted f h
+binds_as f h (Some (AccessIndex x b)) = is_counted f h
 binds_as f h _ = false
 
 -- a `let` binds the emitted handle

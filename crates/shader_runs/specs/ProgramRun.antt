@@ -234,7 +234,7 @@ abbrev pub emit_as : Call → ℕ → Option Expression → Next KeptValues
 emit_as c h (Some (Load p)) kept t =
     let parts = c.environment.parts in
     let loads = after_load parts (handle_type c.function h) c.world h (used_value c kept p) in
-    if_counted (is_counted c.function 1 h) loads kept t
+    if_counted (is_counted c.function h) loads kept t
 emit_as c h (Some (Request a w xs es)) kept t =
     let parts = c.environment.parts in
     let constants = constant_values c.environment c.meaning es in

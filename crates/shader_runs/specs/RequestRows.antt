@@ -13,6 +13,7 @@ use Rattle.shader_runs.specs.Text.{Tree, Name, LiteralOf, Index, Assign, TextFun
 use Rattle.shader_runs.specs.WorkedModules.{texel, ballot, pair_type, pair, in_memory, resource}
 use Rattle.shader_runs.specs.WorkedModules.{named_function, Example, IsWorked, start_events}
 use Rattle.shader_runs.specs.WorkedFunctions.{i32, number, literal, named_by, sum_of, text_of, row}
+use Rattle.shader_runs.specs.WorkedFunctions.{bound_row}
 use Rattle.shader_runs.specs.WorkedFunctions.{function_with, lines, call_of, perform, let_own}
 use Rattle.shader_runs.specs.WorkedFunctions.{return_of, digits, pointer_of}
 
@@ -30,11 +31,11 @@ counter_place = Rooted (GlobalRoot counter_type 0)
 abbrev pub count_function : Function
 count_function =
     function_with [] (Some i32) [] (
-    row (Global false 0) (PointerType counter_type) 3
-    ∷ row (literal 5) i32 2
-    ∷ row Result i32 1
-    ∷ row (Request WhenCounted (codes "atomicLoad") (0 ∷ []) no_constant) i32 1
-    ∷ row (Operator (codes "+") (2 ∷ 3 ∷ [])) i32 1 ∷ []) (
+    row (Global false 0) (PointerType counter_type)
+    ∷ row (literal 5) i32
+    ∷ row Result i32
+    ∷ bound_row (Request WhenCounted (codes "atomicLoad") (0 ∷ []) no_constant) i32
+    ∷ row (Operator (codes "+") (2 ∷ 3 ∷ [])) i32 ∷ []) (
     Act (Asked (codes "atomicStore")) (0 ∷ 1 ∷ []) None
     ∷ Act (Asked (codes "atomicAdd")) (0 ∷ 1 ∷ []) (Some 2)
     ∷ Emit 3 2
@@ -102,11 +103,11 @@ sample_function =
     let constants = constant (Fixed level_zero) (constant (NamedConstant 0) no_constant) in
     let sample = Request Always (codes "textureSampleLevel") (0 ∷ 1 ∷ 2 ∷ 3 ∷ []) constants in
     function_with (coordinate_type ∷ i32 ∷ []) (Some texel_type) [] (
-    row (Global true 0) (OtherType layers_type) 1
-    ∷ row (Global true 1) (OtherType sampler_type) 1
-    ∷ row (Argument 0) coordinate_type 1
-    ∷ row (Argument 1) i32 1
-    ∷ row sample texel_type 1 ∷ []) (
+    row (Global true 0) (OtherType layers_type)
+    ∷ row (Global true 1) (OtherType sampler_type)
+    ∷ row (Argument 0) coordinate_type
+    ∷ row (Argument 1) i32
+    ∷ bound_row sample texel_type ∷ []) (
     Emit 4 1
     ∷ Return (Some 4) ∷ [])
 
@@ -165,14 +166,14 @@ abbrev pub texel_function : Function
 texel_function =
     let load = Request Always (codes "textureLoad") (6 ∷ 2 ∷ 4 ∷ []) no_constant in
     function_with (i32 ∷ pair_type ∷ []) (Some texel_type) [] (
-    row (Global true 0) (OtherType images_type) 1
-    ∷ row (Argument 0) i32 1
-    ∷ row (Argument 1) pair_type 1
-    ∷ row (literal 1) i32 1
-    ∷ row (literal 0) i32 1
-    ∷ row (Operator (codes "+") (1 ∷ 3 ∷ [])) i32 1
-    ∷ row (Access 0 5) (OtherType image_type) 1
-    ∷ row load texel_type 1 ∷ []) (
+    row (Global true 0) (OtherType images_type)
+    ∷ row (Argument 0) i32
+    ∷ row (Argument 1) pair_type
+    ∷ row (literal 1) i32
+    ∷ row (literal 0) i32
+    ∷ row (Operator (codes "+") (1 ∷ 3 ∷ [])) i32
+    ∷ row (Access 0 5) (OtherType image_type)
+    ∷ bound_row load texel_type ∷ []) (
     Emit 5 3
     ∷ Return (Some 7) ∷ [])
 
@@ -210,12 +211,12 @@ abbrev pub unused_function : Function
 unused_function =
     let load = Request Always (codes "textureLoad") (1 ∷ 2 ∷ 3 ∷ []) no_constant in
     function_with (pair_type ∷ []) None [] (
-    row (Global false 0) (PointerType counter_type) 0
-    ∷ row (Global true 1) (OtherType image_type) 1
-    ∷ row (Argument 0) pair_type 1
-    ∷ row (literal 0) i32 1
-    ∷ row (Request WhenCounted (codes "atomicLoad") (0 ∷ []) no_constant) i32 0
-    ∷ row load texel_type 0 ∷ []) (
+    row (Global false 0) (PointerType counter_type)
+    ∷ row (Global true 1) (OtherType image_type)
+    ∷ row (Argument 0) pair_type
+    ∷ row (literal 0) i32
+    ∷ row (Request WhenCounted (codes "atomicLoad") (0 ∷ []) no_constant) i32
+    ∷ row load texel_type ∷ []) (
     Emit 4 2 ∷ [])
 
 -- its module
@@ -253,10 +254,10 @@ abbrev pub edge_function : Function
 edge_function =
     let derivative = Request WhenCounted (codes "dpdx") (2 ∷ []) no_constant in
     function_with (pair_type ∷ texel_type ∷ []) None [] (
-    row (Global true 0) (OtherType canvas_type) 1
-    ∷ row (Argument 0) pair_type 1
-    ∷ row (Argument 1) texel_type 1
-    ∷ row derivative texel_type 1 ∷ []) (
+    row (Global true 0) (OtherType canvas_type)
+    ∷ row (Argument 0) pair_type
+    ∷ row (Argument 1) texel_type
+    ∷ bound_row derivative texel_type ∷ []) (
     Emit 3 1
     ∷ Act (Asked (codes "textureStore")) (0 ∷ 1 ∷ 3 ∷ []) None ∷ [])
 
@@ -316,13 +317,13 @@ together_function =
     let all : BarrierBits =
     record { storage = true; work_group = true; sub_group = true; texture = true } in
     function_with (i32 ∷ OtherType ray_type ∷ []) (Some ballot_type) [] (
-    row (Global false 0) (PointerType cell_type) 2
-    ∷ row (Global true 1) (OtherType scene_type) 1
-    ∷ row (Global false 2) (PointerType payload_type) 2
-    ∷ row (Argument 0) i32 1
-    ∷ row (Argument 1) (OtherType ray_type) 1
-    ∷ row Result i32 1
-    ∷ row Result ballot_type 1 ∷ []) (
+    row (Global false 0) (PointerType cell_type)
+    ∷ row (Global true 1) (OtherType scene_type)
+    ∷ row (Global false 2) (PointerType payload_type)
+    ∷ row (Argument 0) i32
+    ∷ row (Argument 1) (OtherType ray_type)
+    ∷ row Result i32
+    ∷ row Result ballot_type ∷ []) (
     Store 0 3
     ∷ Barrier all
     ∷ Act (Asked (codes "workgroupUniformLoad")) (0 ∷ []) (Some 5)

@@ -25,6 +25,7 @@ use Rattle.shader_runs.specs.Progress.{AllWellFormed}
 use Rattle.shader_runs.specs.Results.{may_end_all, AllGiveResults}
 use Rattle.shader_runs.specs.WorkedFunctions.{i32, local_i32, i32_pointer, number, literal}
 use Rattle.shader_runs.specs.WorkedFunctions.{numbered_name, row, statements, function_with, lines}
+use Rattle.shader_runs.specs.WorkedFunctions.{bound_row}
 use Rattle.shader_runs.specs.WorkedFunctions.{call_of, perform, let_own, return_of, digits}
 use Rattle.shader_runs.specs.WorkedFunctions.{pointer_of, variable, number_variable, sum_of}
 use Rattle.shader_runs.specs.WorkedFunctions.{product_of, named_by, text_of, row_world, row_meaning}
@@ -59,10 +60,10 @@ entered_with_one = entered_with [] (Some (number 1) ∷ [])
 abbrev pub store_function : Function
 store_function =
     function_with [] (Some i32) ((local_i32, Some 0) ∷ []) (
-    row (literal 1) i32 0
-    ∷ row (Local 0) i32_pointer 2
-    ∷ row (Load 1) i32 1
-    ∷ row (literal 2) i32 1 ∷ []) (
+    row (literal 1) i32
+    ∷ row (Local 0) i32_pointer
+    ∷ bound_row (Load 1) i32
+    ∷ row (literal 2) i32 ∷ []) (
     Emit 2 1
     ∷ Store 1 3
     ∷ Return (Some 2) ∷ [])
@@ -88,10 +89,10 @@ StoreRow =
 abbrev pub unused_function : Function
 unused_function =
     function_with [] (Some i32) ((local_i32, Some 0) ∷ []) (
-    row (literal 1) i32 0
-    ∷ row (Local 0) i32_pointer 2
-    ∷ row (Load 1) i32 0
-    ∷ row (literal 2) i32 2 ∷ []) (
+    row (literal 1) i32
+    ∷ row (Local 0) i32_pointer
+    ∷ row (Load 1) i32
+    ∷ row (literal 2) i32 ∷ []) (
     Emit 2 1
     ∷ Store 1 3
     ∷ Return (Some 3) ∷ [])
@@ -113,11 +114,11 @@ UnusedRow =
 abbrev pub late_function : Function
 late_function =
     function_with [] (Some i32) ((local_i32, Some 0) ∷ []) (
-    row (literal 1) i32 1
-    ∷ row (Local 0) i32_pointer 2
-    ∷ row (Load 1) i32 1
-    ∷ row (Operator (codes "+") (2 ∷ 0 ∷ [])) i32 1
-    ∷ row (literal 2) i32 1 ∷ []) (
+    row (literal 1) i32
+    ∷ row (Local 0) i32_pointer
+    ∷ bound_row (Load 1) i32
+    ∷ row (Operator (codes "+") (2 ∷ 0 ∷ [])) i32
+    ∷ row (literal 2) i32 ∷ []) (
     Emit 2 2
     ∷ Store 1 4
     ∷ Return (Some 3) ∷ [])
@@ -151,10 +152,10 @@ x_plus_x = sum_of (Name x_name) (Name x_name)
 abbrev pub inline_function : Function
 inline_function =
     function_with (i32 ∷ []) (Some i32) ((local_i32, None) ∷ []) (
-    row (Argument 0) i32 2
-    ∷ row (Local 0) i32_pointer 2
-    ∷ row (Operator (codes "+") (0 ∷ 0 ∷ [])) i32 1
-    ∷ row (Load 1) i32 1 ∷ []) (
+    row (Argument 0) i32
+    ∷ row (Local 0) i32_pointer
+    ∷ row (Operator (codes "+") (0 ∷ 0 ∷ [])) i32
+    ∷ bound_row (Load 1) i32 ∷ []) (
     Emit 2 1
     ∷ Store 1 2
     ∷ Emit 3 1
@@ -181,11 +182,11 @@ InlineRow =
 abbrev pub twofold_function : Function
 twofold_function =
     function_with (i32 ∷ []) (Some i32) ((local_i32, None) ∷ []) (
-    row (Argument 0) i32 2
-    ∷ row (Local 0) i32_pointer 2
-    ∷ row (Operator (codes "+") (0 ∷ 0 ∷ [])) i32 2
-    ∷ row (Load 1) i32 1
-    ∷ row (Operator (codes "*") (2 ∷ 3 ∷ [])) i32 1 ∷ []) (
+    row (Argument 0) i32
+    ∷ row (Local 0) i32_pointer
+    ∷ bound_row (Operator (codes "+") (0 ∷ 0 ∷ [])) i32
+    ∷ bound_row (Load 1) i32
+    ∷ row (Operator (codes "*") (2 ∷ 3 ∷ [])) i32 ∷ []) (
     Emit 2 1
     ∷ Store 1 2
     ∷ Emit 3 2
@@ -212,9 +213,9 @@ abbrev pub sibling_function : Function
 sibling_function =
     let branch = statements (Emit 2 1 ∷ Return (Some 2) ∷ []) in
     function_with (BooleanType ∷ i32 ∷ []) (Some i32) [] (
-    row (Argument 0) BooleanType 1
-    ∷ row (Argument 1) i32 2
-    ∷ row (Operator (codes "+") (1 ∷ 1 ∷ [])) i32 2 ∷ []) (
+    row (Argument 0) BooleanType
+    ∷ row (Argument 1) i32
+    ∷ bound_row (Operator (codes "+") (1 ∷ 1 ∷ [])) i32 ∷ []) (
     If 0 branch branch ∷ [])
 
 -- a sum bound under this name, and returned
@@ -257,10 +258,10 @@ tail_function =
     let body = statements (Emit 2 1 ∷ Store 1 2 ∷ []) in
     let continuing = statements (Store 1 2 ∷ []) in
     function_with (i32 ∷ []) None ((local_i32, None) ∷ []) (
-    row (Argument 0) i32 2
-    ∷ row (Local 0) i32_pointer 2
-    ∷ row (Operator (codes "+") (0 ∷ 0 ∷ [])) i32 2
-    ∷ row (Constant (Fixed (Truth true))) BooleanType 1 ∷ []) (
+    row (Argument 0) i32
+    ∷ row (Local 0) i32_pointer
+    ∷ bound_row (Operator (codes "+") (0 ∷ 0 ∷ [])) i32
+    ∷ row (Constant (Fixed (Truth true))) BooleanType ∷ []) (
     Loop body continuing (Some 3) ∷ [])
 
 abbrev pub tail_text : TextFunction
@@ -284,10 +285,10 @@ folded_function =
     let body = statements (If 0 (then Continue end) end ∷ Emit 3 1 ∷ Store 1 3 ∷ []) in
     let continuing = statements (Store 1 3 ∷ []) in
     function_with (BooleanType ∷ []) None ((local_i32, None) ∷ []) (
-    row (Argument 0) BooleanType 2
-    ∷ row (Local 0) i32_pointer 2
-    ∷ row (literal 1) i32 2
-    ∷ row (Operator (codes "+") (2 ∷ 2 ∷ [])) i32 2 ∷ []) (
+    row (Argument 0) BooleanType
+    ∷ row (Local 0) i32_pointer
+    ∷ row (literal 1) i32
+    ∷ bound_row (Operator (codes "+") (2 ∷ 2 ∷ [])) i32 ∷ []) (
     Loop body continuing (Some 0) ∷ [])
 
 -- `(1i + 1i)`
@@ -318,10 +319,10 @@ FoldedRow =
 abbrev pub increment : Function
 increment =
     function_with (i32_pointer ∷ []) None [] (
-    row (Argument 0) i32_pointer 2
-    ∷ row (literal 1) i32 1
-    ∷ row (Load 0) i32 1
-    ∷ row (Operator (codes "+") (2 ∷ 1 ∷ [])) i32 1 ∷ []) (
+    row (Argument 0) i32_pointer
+    ∷ row (literal 1) i32
+    ∷ bound_row (Load 0) i32
+    ∷ row (Operator (codes "+") (2 ∷ 1 ∷ [])) i32 ∷ []) (
     Emit 2 2
     ∷ Store 0 3 ∷ [])
 
@@ -329,8 +330,8 @@ increment =
 abbrev pub run_function : Function
 run_function =
     function_with [] (Some i32) ((local_i32, None) ∷ []) (
-    row (Local 0) i32_pointer 2
-    ∷ row (Load 0) i32 1 ∷ []) (
+    row (Local 0) i32_pointer
+    ∷ bound_row (Load 0) i32 ∷ []) (
     Act (Called 0) (0 ∷ []) None
     ∷ Emit 1 1
     ∷ Return (Some 1) ∷ [])
@@ -364,7 +365,7 @@ CallRow =
 -- a function with this body, over this expression
 abbrev pub body_of : Expression → Option ValueType → Statements → Function
 body_of e result body =
-    record (function_with [] result [] (row e i32 1 ∷ []) []) { body = body }
+    record (function_with [] result [] (row e i32 ∷ []) []) { body = body }
 
 -- [unreturned]: a callee ends without the result that its caller wants
 abbrev pub UnreturnedRow : Type 0
@@ -433,7 +434,7 @@ abbrev pub switch_function : Option ValueType → List Statement → Function
 switch_function result body =
     let joined = case Default (statements body) false no_case in
     let second = case (Numbered (pos 2)) end true joined in
-    function_with (i32 ∷ []) result [] (row (Argument 0) i32 1 ∷ []) (
+    function_with (i32 ∷ []) result [] (row (Argument 0) i32 ∷ []) (
     Switch 0 (case (Numbered (pos 1)) end true second) ∷ [])
 
 abbrev pub switch_text : List Line → TextFunction
@@ -500,7 +501,7 @@ pub record FallenRow : Type 0 where
 -- a loop that a condition leaves
 abbrev pub loop_function : Function
 loop_function =
-    function_with (BooleanType ∷ []) None [] (row (Argument 0) BooleanType 1 ∷ []) (
+    function_with (BooleanType ∷ []) None [] (row (Argument 0) BooleanType ∷ []) (
     Loop end end (Some 0) ∷ [])
 
 abbrev pub loop_text : TextFunction
@@ -545,10 +546,10 @@ BarrierRow =
 abbrev pub select_function : Function
 select_function =
     function_with (BooleanType ∷ i32 ∷ i32 ∷ []) (Some i32) [] (
-    row (Argument 0) BooleanType 1
-    ∷ row (Argument 1) i32 1
-    ∷ row (Argument 2) i32 1
-    ∷ row (Operator (codes "select") (2 ∷ 1 ∷ 0 ∷ [])) i32 1 ∷ []) (
+    row (Argument 0) BooleanType
+    ∷ row (Argument 1) i32
+    ∷ row (Argument 2) i32
+    ∷ row (Operator (codes "select") (2 ∷ 1 ∷ 0 ∷ [])) i32 ∷ []) (
     Emit 3 1
     ∷ Return (Some 3) ∷ [])
 
@@ -577,10 +578,10 @@ continue_function =
     let body = statements (If 0 (then Continue end) end ∷ Emit 3 1 ∷ []) in
     let continuing = statements (Store 2 3 ∷ []) in
     function_with (BooleanType ∷ i32 ∷ []) None ((local_i32, None) ∷ []) (
-    row (Argument 0) BooleanType 2
-    ∷ row (Argument 1) i32 2
-    ∷ row (Local 0) i32_pointer 1
-    ∷ row (Operator (codes "+") (1 ∷ 1 ∷ [])) i32 1 ∷ []) (
+    row (Argument 0) BooleanType
+    ∷ row (Argument 1) i32
+    ∷ row (Local 0) i32_pointer
+    ∷ row (Operator (codes "+") (1 ∷ 1 ∷ [])) i32 ∷ []) (
     Loop body continuing (Some 0) ∷ [])
 
 -- a sum of a loop's body is used behind the loop
@@ -693,7 +694,7 @@ pub record AreDistinguished : Type 0 where
 
 -- returns 1
 abbrev pub one_function : Function
-one_function = function_with [] (Some i32) [] (row (literal 1) i32 1 ∷ []) (Return (Some 0) ∷ [])
+one_function = function_with [] (Some i32) [] (row (literal 1) i32 ∷ []) (Return (Some 0) ∷ [])
 
 -- a text of it, with these lines in front
 abbrev pub one_text : List Line → TextFunction

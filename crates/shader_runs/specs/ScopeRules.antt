@@ -90,7 +90,7 @@ InScopeIf f introduced (Some h) = InScope f introduced h
 -- the reads that are never in scope: they count nowhere and have no name, so they are not written.
 -- Their Emit is allowed, and brings nothing into scope
 abbrev pub is_unwritten : Function → ℕ → Option Expression → Bool
-is_unwritten f h (Some (Load p)) = not (is_counted f 1 h)
+is_unwritten f h (Some (Load p)) = not (is_counted f h)
 is_unwritten f h (Some (Request a w xs es)) = not (is_asked f h a)
 is_unwritten f h _ = false
 

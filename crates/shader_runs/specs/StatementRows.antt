@@ -30,6 +30,7 @@ use Rattle.shader_runs.specs.RequestRows.{UnusedRequestsRow, EdgeRow, TogetherRo
 use Rattle.shader_runs.specs.WorkedFunctions.{i32, local_i32, i32_pointer, number, literal}
 use Rattle.shader_runs.specs.WorkedFunctions.{LabelledBody, named_by, sum_of, product_of, text_of}
 use Rattle.shader_runs.specs.WorkedFunctions.{row, statements, cases, function_with, lines, call_of}
+use Rattle.shader_runs.specs.WorkedFunctions.{bound_row}
 use Rattle.shader_runs.specs.WorkedFunctions.{perform, let_own, return_of, digits, pointer_of}
 use Rattle.shader_runs.specs.WorkedFunctions.{variable, number_variable}
 
@@ -46,11 +47,11 @@ flag_place = Rooted (LocalRoot local_bool 0 0)
 abbrev pub logical_function : ShortCircuit → Bool → Function
 logical_function j b =
     function_with (BooleanType ∷ []) (Some BooleanType) ((local_bool, Some 1) ∷ []) (
-    row (Argument 0) BooleanType 1
-    ∷ row (Constant (Fixed (Truth b))) BooleanType 1
-    ∷ row (Local 0) (PointerType local_bool) 1
-    ∷ row (Load 2) BooleanType 1
-    ∷ row (Logical j 0 3) BooleanType 1 ∷ []) (
+    row (Argument 0) BooleanType
+    ∷ row (Constant (Fixed (Truth b))) BooleanType
+    ∷ row (Local 0) (PointerType local_bool)
+    ∷ bound_row (Load 2) BooleanType
+    ∷ row (Logical j 0 3) BooleanType ∷ []) (
     Emit 3 2
     ∷ Return (Some 4) ∷ [])
 
@@ -116,15 +117,15 @@ jumps_function =
     let body = Emit 5 1 ∷ Switch 5 (cases (zero ∷ others ∷ one ∷ [])) ∷ Store 0 4 ∷ [] in
     let continuing = Emit 7 2 ∷ Store 1 8 ∷ [] in
     function_with [] (Some i32) ((local_i32, Some 2) ∷ (local_i32, Some 2) ∷ []) (
-    row (Local 0) i32_pointer 3
-    ∷ row (Local 1) i32_pointer 3
-    ∷ row (literal 0) i32 2
-    ∷ row (literal 5) i32 1
-    ∷ row (literal 1) i32 2
-    ∷ row (Load 0) i32 1
-    ∷ row (Load 1) i32 1
-    ∷ row (Load 1) i32 1
-    ∷ row (Operator (codes "+") (7 ∷ 4 ∷ [])) i32 1 ∷ []) (
+    row (Local 0) i32_pointer
+    ∷ row (Local 1) i32_pointer
+    ∷ row (literal 0) i32
+    ∷ row (literal 5) i32
+    ∷ row (literal 1) i32
+    ∷ bound_row (Load 0) i32
+    ∷ bound_row (Load 1) i32
+    ∷ bound_row (Load 1) i32
+    ∷ row (Operator (codes "+") (7 ∷ 4 ∷ [])) i32 ∷ []) (
     Loop (statements body) (statements continuing) None ∷ [])
 
 -- its module
@@ -166,12 +167,12 @@ abbrev pub block_function : Function
 block_function =
     let inner = Emit 3 1 ∷ Store 2 3 ∷ [] in
     function_with (i32 ∷ []) (Some i32) ((local_i32, Some 1) ∷ []) (
-    row (Argument 0) i32 4
-    ∷ row (Constant (Constructed (codes "i32") i32 no_constant)) i32 1
-    ∷ row (Local 0) i32_pointer 2
-    ∷ row (Operator (codes "+") (0 ∷ 0 ∷ [])) i32 2
-    ∷ row (Load 2) i32 1
-    ∷ row (Operator (codes "*") (3 ∷ 4 ∷ [])) i32 1 ∷ []) (
+    row (Argument 0) i32
+    ∷ row (Constant (Constructed (codes "i32") i32 no_constant)) i32
+    ∷ row (Local 0) i32_pointer
+    ∷ bound_row (Operator (codes "+") (0 ∷ 0 ∷ [])) i32
+    ∷ bound_row (Load 2) i32
+    ∷ row (Operator (codes "*") (3 ∷ 4 ∷ [])) i32 ∷ []) (
     Block (statements inner)
     ∷ Emit 3 3
     ∷ Return (Some 5) ∷ [])
@@ -210,10 +211,10 @@ BlockRow =
 abbrev pub take_function : Function
 take_function =
     function_with (i32_pointer ∷ []) (Some i32) [] (
-    row (Argument 0) i32_pointer 2
-    ∷ row (literal 1) i32 1
-    ∷ row (Load 0) i32 2
-    ∷ row (Operator (codes "+") (2 ∷ 1 ∷ [])) i32 1 ∷ []) (
+    row (Argument 0) i32_pointer
+    ∷ row (literal 1) i32
+    ∷ bound_row (Load 0) i32
+    ∷ row (Operator (codes "+") (2 ∷ 1 ∷ [])) i32 ∷ []) (
     Emit 2 2
     ∷ Store 0 3
     ∷ Return (Some 2) ∷ [])
@@ -222,10 +223,10 @@ take_function =
 abbrev pub forward_function : Function
 forward_function =
     function_with (i32_pointer ∷ []) (Some i32) [] (
-    row (Argument 0) i32_pointer 2
-    ∷ row Result i32 1
-    ∷ row (Load 0) i32 1
-    ∷ row (Operator (codes "+") (1 ∷ 2 ∷ [])) i32 1 ∷ []) (
+    row (Argument 0) i32_pointer
+    ∷ row Result i32
+    ∷ bound_row (Load 0) i32
+    ∷ row (Operator (codes "+") (1 ∷ 2 ∷ [])) i32 ∷ []) (
     Act (Called 0) (0 ∷ []) (Some 1)
     ∷ Emit 2 2
     ∷ Return (Some 3) ∷ [])
@@ -234,11 +235,11 @@ forward_function =
 abbrev pub own_function : Function
 own_function =
     function_with [] (Some i32) ((local_i32, Some 1) ∷ []) (
-    row (Local 0) i32_pointer 2
-    ∷ row (literal 4) i32 1
-    ∷ row Result i32 1
-    ∷ row (Load 0) i32 1
-    ∷ row (Operator (codes "*") (2 ∷ 3 ∷ [])) i32 1 ∷ []) (
+    row (Local 0) i32_pointer
+    ∷ row (literal 4) i32
+    ∷ row Result i32
+    ∷ bound_row (Load 0) i32
+    ∷ row (Operator (codes "*") (2 ∷ 3 ∷ [])) i32 ∷ []) (
     Act (Called 1) (0 ∷ []) (Some 2)
     ∷ Emit 3 2
     ∷ Return (Some 4) ∷ [])
@@ -247,9 +248,9 @@ own_function =
 abbrev pub start_function : Function
 start_function =
     function_with [] (Some i32) [] (
-    row Result i32 1
-    ∷ row (literal 1) i32 1
-    ∷ row (Operator (codes "+") (0 ∷ 1 ∷ [])) i32 1 ∷ []) (
+    row Result i32
+    ∷ row (literal 1) i32
+    ∷ row (Operator (codes "+") (0 ∷ 1 ∷ [])) i32 ∷ []) (
     Act (Called 2) [] (Some 0)
     ∷ Emit 2 1
     ∷ Return (Some 2) ∷ [])
@@ -313,7 +314,7 @@ CallsRow =
 abbrev pub check_function : Function
 check_function =
     let kill = statements (Kill ∷ []) in
-    function_with (BooleanType ∷ []) None [] (row (Argument 0) BooleanType 1 ∷ []) (
+    function_with (BooleanType ∷ []) None [] (row (Argument 0) BooleanType ∷ []) (
     If 0 kill end ∷ [])
 
 -- in its first turn the callee returns, in the second it discards
@@ -321,10 +322,10 @@ abbrev pub repeat_function : Function
 repeat_function =
     let body = Emit 3 1 ∷ Act (Called 0) (3 ∷ []) None ∷ Store 0 2 ∷ [] in
     function_with [] None ((local_bool, Some 1) ∷ []) (
-    row (Local 0) (PointerType local_bool) 2
-    ∷ row (Constant (Fixed (Truth false))) BooleanType 1
-    ∷ row (Constant (Fixed (Truth true))) BooleanType 1
-    ∷ row (Load 0) BooleanType 1 ∷ []) (
+    row (Local 0) (PointerType local_bool)
+    ∷ row (Constant (Fixed (Truth false))) BooleanType
+    ∷ row (Constant (Fixed (Truth true))) BooleanType
+    ∷ bound_row (Load 0) BooleanType ∷ []) (
     Loop (statements body) end None ∷ [])
 
 -- their module
@@ -360,7 +361,7 @@ DiscardRow =
 abbrev pub silent_function : Function
 silent_function =
     let skip = If 0 (statements (Continue ∷ [])) end in
-    function_with (BooleanType ∷ []) None [] (row (Argument 0) BooleanType 1 ∷ []) (
+    function_with (BooleanType ∷ []) None [] (row (Argument 0) BooleanType ∷ []) (
     Loop (statements (skip ∷ [])) end None ∷ [])
 
 -- its module
@@ -388,9 +389,9 @@ SilentRow =
 abbrev pub swizzle_function : Function
 swizzle_function =
     function_with (pair_type ∷ []) (Some pair_type) [] (
-    row (Argument 0) pair_type 1
-    ∷ row (Swizzle (codes "yx") 0) pair_type 2
-    ∷ row (Operator (codes "+") (1 ∷ 1 ∷ [])) pair_type 1 ∷ []) (
+    row (Argument 0) pair_type
+    ∷ bound_row (Swizzle (codes "yx") 0) pair_type
+    ∷ row (Operator (codes "+") (1 ∷ 1 ∷ [])) pair_type ∷ []) (
     Emit 1 2
     ∷ Return (Some 2) ∷ [])
 
@@ -416,9 +417,9 @@ SwizzleRow =
 abbrev pub greater_function : Function
 greater_function =
     function_with (i32 ∷ i32 ∷ []) (Some i32) [] (
-    row (Argument 0) i32 1
-    ∷ row (Argument 1) i32 1
-    ∷ row (Operator (codes "max") (0 ∷ 1 ∷ [])) i32 1 ∷ []) (
+    row (Argument 0) i32
+    ∷ row (Argument 1) i32
+    ∷ row (Operator (codes "max") (0 ∷ 1 ∷ [])) i32 ∷ []) (
     Emit 2 1
     ∷ Return (Some 2) ∷ [])
 

@@ -17,6 +17,7 @@ use Rattle.shader_runs.specs.WorkedModules.{in_memory, holding, named_function, 
 use Rattle.shader_runs.specs.WorkedModules.{module_of, settings_of, text_with, IsWorked}
 use Rattle.shader_runs.specs.WorkedModules.{start_events}
 use Rattle.shader_runs.specs.WorkedFunctions.{i32, number, named_by, text_of, row, function_with}
+use Rattle.shader_runs.specs.WorkedFunctions.{bound_row}
 use Rattle.shader_runs.specs.WorkedFunctions.{no_parts, lines, let_own, return_of}
 
 -- a pointer to a number of the module, and one to such a pointer
@@ -34,9 +35,9 @@ number_place = Rooted (GlobalRoot number_pointer 1)
 abbrev pub pointed_function : Function
 pointed_function =
     function_with [] (Some i32) [] (
-    row (Global true 0) (PointerType number_pointer) 1
-    ∷ row (Global false 1) (PointerType number_pointer) 1
-    ∷ row (Load 1) i32 2 ∷ []) (
+    row (Global true 0) (PointerType number_pointer)
+    ∷ row (Global false 1) (PointerType number_pointer)
+    ∷ bound_row (Load 1) i32 ∷ []) (
     Emit 2 1
     ∷ Store 0 2
     ∷ Return (Some 2) ∷ [])

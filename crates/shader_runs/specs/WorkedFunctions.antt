@@ -44,15 +44,19 @@ literal n = Constant (Fixed (number n))
 abbrev pub numbered_name : ℕ → Bytes
 numbered_name h = codes "_e" ++ (h + 48) ∷ []
 
--- an expression with its type and how often it is used
+-- an expression with its type, and whether it is used so often that a `let` binds it
 pub record TableRow : Type 0 where
   pub expression : Expression
   pub type : ValueType
-  pub count : ℕ
+  pub is_bound : Bool
 
--- one row of a table of expressions
-abbrev pub row : Expression → ValueType → ℕ → TableRow
-row e k n = record { expression = e; type = k; count = n }
+-- one row of a table of expressions, whose uses bind it by no `let`
+abbrev pub row : Expression → ValueType → TableRow
+row e k = record { expression = e; type = k; is_bound = false }
+
+-- one whose uses do
+abbrev pub bound_row : Expression → ValueType → TableRow
+bound_row e k = record { expression = e; type = k; is_bound = true }
 
 -- statements in their order
 abbrev pub statements : List Statement → Statements
@@ -83,7 +87,7 @@ function_with arguments result locals expressions body =
       local_pointers = map (λ l. l.0) locals;
       expressions = map (λ x. x.expression) expressions;
       types = map (λ x. x.type) expressions;
-      counts = map (λ x. x.count) expressions;
+      bound_by_uses = map (λ x. x.is_bound) expressions;
       named_expressions = [];
       body = statements body;
     }

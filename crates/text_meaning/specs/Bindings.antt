@@ -2,8 +2,8 @@
 use Rattle.std.specs.Prelude.{ℕ, List, [], ◌∷◌, ◌++◌, Option, Some, None}
 use Rattle.wgsl_text.specs.Reading.{type_layout}
 use Rattle.wgsl_text.specs.Statements.{Statement, Let, TypedLet, If, Loop, LoopBreakIf, Switch}
-use Rattle.wgsl_text.specs.Statements.{Block, Statements, NoStatements, Then, OptionalBlock, NoBlock}
-use Rattle.wgsl_text.specs.Statements.{SomeBlock, Cases, NoCases, Case}
+use Rattle.wgsl_text.specs.Statements.{Block, Statements, NoStatements, Then, OptionalBlock}
+use Rattle.wgsl_text.specs.Statements.{NoBlock, SomeBlock, Cases, NoCases, Case}
 
 -- the types that `let`s tell, by their spellings, in the order of the text: one for each, if it
 -- tells one

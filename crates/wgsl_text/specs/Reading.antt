@@ -1,7 +1,7 @@
 -- What it is for a text to have one reading.
 --
--- Throughout, t is a type, e an expression or an entry point, s a statement, f a function, and ts are
--- tokens.
+-- Throughout, t is a type, e an expression or an entry point, s a statement, f a function, and ts
+-- are tokens.
 use Rattle.std.specs.Prelude.{◌≡◌, ℕ, List}
 use Rattle.wgsl_text.specs.Token.{Token}
 use Rattle.wgsl_text.specs.Types.{TypeSpecifier, type_pieces, IsType}

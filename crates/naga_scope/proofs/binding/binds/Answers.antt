@@ -1,10 +1,11 @@
-use Rattle.std.proofs.Common.{nat_le, ap, get_or, map, sym, ◌∙◌, ◌||◌}
+use Rattle.std.proofs.Common.{ap, get_or, map, sym, ◌∙◌, ◌||◌}
 use Rattle.module_meaning.specs.ExpressionLabels.{label_of}
 use Rattle.std.specs.Option.{is_some}
 use Rattle.std.specs.Option.{option_map, option_map_or}
+use Rattle.module_meaning.specs.BindingCounts.{is_bound_by_uses}
 use Rattle.naga_ir.specs.Kinds.{kind_of}
 use Rattle.naga_ir.specs.declared.kind.ExpressionKind.TheVariants.{Result}
-use Rattle.naga_scope.specs.Availabilities.{is_emittable_kind, uses_to_bind}
+use Rattle.naga_scope.specs.Availabilities.{is_emittable_kind}
 use Rattle.naga_scope.proofs.Shaped.{emitted_binds, others_bind}
 use Rattle.naga_scope.proofs.binding.binds.Goals as goal
 
@@ -13,7 +14,7 @@ returns-then-asks_an_image c m known same =
     let at = sym c.expression_at.ensures ∙ ap (option_map (λ e. e.now)) c.in-Some.is in
     let e = c.in-Some.expression.now in
     let counted = is_some (label_of c.args.function.now c.args.handle)
-    || nat_le (uses_to_bind e) (get_or (map (λ k. k.ref_count) c.args.info.now) c.args.handle 0) in
+    || is_bound_by_uses e (get_or (map (λ k. k.ref_count) c.args.info.now) c.args.handle 0) in
     c.if-asks_an_image.true
     ∙ ap (λ b. b || counted) (sym (sym c.asks_an_image.ensures ∙ c.if-asks_an_image.true))
     ∙ emitted_binds m known c.args.function.now c.args.info.now c.args.handle
@@ -24,7 +25,7 @@ returns-else-asks_an_image c m known same =
     let at = sym c.expression_at.ensures ∙ ap (option_map (λ e. e.now)) c.in-Some.is in
     let e = c.in-Some.expression.now in
     let counted = is_some (label_of c.args.function.now c.args.handle)
-    || nat_le (uses_to_bind e) (get_or (map (λ k. k.ref_count) c.args.info.now) c.args.handle 0) in
+    || is_bound_by_uses e (get_or (map (λ k. k.ref_count) c.args.info.now) c.args.handle 0) in
     c.is_asked_for.ensures
     ∙ ap (λ b. b || counted) (sym (sym c.asks_an_image.ensures ∙ c.if-asks_an_image.false))
     ∙ emitted_binds m known c.args.function.now c.args.info.now c.args.handle
