@@ -39,9 +39,9 @@ pub mod DeclaredNames
 pub mod DeclaredStructs
 pub mod ExpressionNames
 pub mod GivenNames
+pub mod GlobalValues
 pub mod HiddenNames
 pub mod Images
-pub mod InitialiserValues
 pub mod Interface
 pub mod ItemKeys
 pub mod ItemTargets
