@@ -3,15 +3,13 @@
 -- Throughout, m is a module, info what is known of it, names are those of its items, t its types with
 -- their names, g the number of a function, ty the handle of a type, b a binding, k the handle of a
 -- declaration, and declarations go by their first letters.
-use Rattle.std.proofs.Common.{◌≡◌, ℕ, suc, ◌+◌, ◌<◌, Bool, true, false, List, [], ◌∷◌, length}
+use Rattle.std.proofs.Common.{◌≡◌, ℕ, suc, ◌+◌, Bool, true, false, List, [], ◌∷◌, length}
 use Rattle.std.proofs.Common.{refl, sym, ap, ◌∙◌, map, Option, Some, None, pred, arith}
 use Rattle.std.specs.Prelude.{IsTrue, slice_get, unwrap_or, if◌then◌else◌, ◌==◌}
 use Rattle.std.specs.List.{cons_option, enumerate_from, filter_map, list_all}
-use Rattle.std.specs.Option.{is_some, option_and_then, option_map, option_map_or}
+use Rattle.std.specs.Option.{is_some, option_map, option_map_or}
 use Rattle.std.proofs.lemmas.Bool.{and_parts, eqb-true}
-use Rattle.std.proofs.lemmas.Option.{slice_get_within}
 use Rattle.naga_ir.specs.declared.binding.Binding.{Binding}
-use Rattle.naga_ir.specs.declared.expression.Expression as ir
 use Rattle.naga_ir.specs.declared.module.Constant.{Constant}
 use Rattle.naga_ir.specs.declared.module.EntryPoint.{EntryPoint}
 use Rattle.naga_ir.specs.declared.module.Function as ir_function
@@ -35,21 +33,14 @@ use Rattle.naga_words.specs.Contexts.{names_of, Names as TypeNames}
 use Rattle.wgsl_words.specs.Words.{space_access_word, space_word}
 use Rattle.wgsl_text.specs.Expressions.{Expression}
 use Rattle.wgsl_text.specs.Reading.{type_layout}
-use Rattle.shader_runs.specs.World.{Vocabulary}
 use Rattle.text_meaning.specs.Vocabulary.{vocabulary_read}
-use Rattle.naga_form.proofs.DeclaredNames.{one_vocabulary}
 use Rattle.wgsl_text.specs.Types.{TypeSpecifier, Named}
 use Rattle.wgsl_text.proofs.Text.{text-append}
-use Rattle.shader_runs.specs.Constants.{module_initialiser_value, text_initialiser_value}
-use Rattle.shader_runs.specs.Form.{form_module_with}
-use Rattle.shader_runs.specs.Premises.{IsTyped, SettingsFit}
+use Rattle.shader_runs.specs.Constants.{text_initialiser_value}
 use Rattle.shader_runs.specs.Program as shapes
-use Rattle.shader_runs.specs.Program.{ConstantTree}
-use Rattle.shader_runs.specs.Scope.{ModuleNames, Naming, at_start}
-use Rattle.shader_runs.specs.Text.{TextFunction, TextModule}
+use Rattle.shader_runs.specs.Scope.{Naming, at_start}
+use Rattle.shader_runs.specs.Text.{TextModule}
 use Rattle.shader_runs.specs.Value.{Value}
-use Rattle.shader_runs.specs.World.{Meaning, Settings, World}
-use Rattle.shader_runs.proofs.OneRun.{initialisers_are_alike}
 use Rattle.text_meaning.specs.Abstraction.{expression_read, program_read}
 use Rattle.text_meaning.specs.Attributes.{stage_read}
 use Rattle.text_meaning.specs.Interface.{access_read, constant_interface_read}
@@ -63,7 +54,6 @@ use Rattle.module_meaning.proofs.DeclarationForms.{items_have_forms}
 use Rattle.module_meaning.specs.DeclarationForms.{IsMemberBinding, IsPassed, binding_has_form}
 use Rattle.module_meaning.specs.DeclarationForms.{stage_has_form}
 use Rattle.module_meaning.specs.Enables.{needed_enables}
-use Rattle.module_meaning.specs.ExpressionContexts.{global_tree}
 use Rattle.module_meaning.specs.Faithful.{HasInterfaceOf, TellsInterfaceOf}
 use Rattle.module_meaning.specs.FunctionNumbers.{all_functions}
 use Rattle.module_meaning.specs.Interface.{argument_passed, body_interface, constant_interface}
@@ -77,14 +67,12 @@ use Rattle.module_meaning.specs.ModuleShapes.{module_shape}
 use Rattle.module_meaning.specs.Names.{constant_name, expression_name, function_name}
 use Rattle.module_meaning.specs.Names.{global_name, LabelNames, module_names, name_in}
 use Rattle.module_meaning.specs.Names.{override_name}
-use Rattle.module_meaning.specs.Namings.{function_naming, outer_names}
+use Rattle.module_meaning.specs.Namings.{function_naming}
 use Rattle.module_meaning.specs.Numbers.{fits_32_bits, workgroup_fits_32_bits}
 use Rattle.module_meaning.specs.Ranges.{is_below}
 use Rattle.module_meaning.specs.Types.{spelled_type, type_names}
 use Rattle.module_meaning.specs.Undeclared.{is_declared}
 use Rattle.module_meaning.specs.Written.{AllWrittenHaveForms}
-use Rattle.module_meaning.specs.ExpressionForms.{global_is_written, global_is_written_over}
-use Rattle.module_meaning.specs.ExpressionForms.{global_is_written_within}
 use Rattle.module_meaning.proofs.FunctionNumbers.{entry_point_among, function_among}
 use Rattle.module_meaning.proofs.FunctionNumbers.{type_of_entry_point}
 use Rattle.naga_form.specs.Attributes.{stage_attributes}
@@ -100,14 +88,11 @@ use Rattle.naga_form.specs.Types.{annotated_type, type_form}
 use Rattle.naga_form.proofs.AcceptedFunctions.{entry_point_is_in_range, entry_points_counted}
 use Rattle.naga_form.proofs.AcceptedFunctions.{functions_counted, known_there, of_number}
 use Rattle.naga_form.proofs.AcceptedFunctions.{soundness_is}
-use Rattle.naga_form.proofs.AcceptedGroups.{declarations_are}
 use Rattle.naga_form.proofs.Attributes.{coherent_is_read, id_is_read, member_read, passing_read}
 use Rattle.naga_form.proofs.Attributes.{resource_is_read, stage_is_read, volatile_is_read}
 use Rattle.naga_form.proofs.Facts.{from_start, further}
 use Rattle.naga_form.proofs.Layouts.{keeps_layouts}
-use Rattle.naga_form.proofs.ModuleFits.{global_in_range, global_words}
-use Rattle.naga_form.proofs.ReadDeclarations.{initialisers_read, written_is_read}
-use Rattle.naga_form.proofs.TextItems.{items_fit, reads_items}
+use Rattle.naga_form.proofs.GlobalValues.{values_alike}
 use Rattle.naga_form.proofs.SwitchLabels.{AllEnd, block_ends, lines_tell}
 use Rattle.naga_form.proofs.TypeTrees.{type_row}
 use Rattle.naga_form.proofs.WrittenFunctions.{entry_point_at}
@@ -441,26 +426,6 @@ module _ (m : Module) where
           (further m.entry_points.items j p ps there) in
           λ i. record { stage = stage_declared j p at i; function = function i } ∷ rest i
 
--- ---- initialisers
--- what is written is one of the module's own expressions
-pub written_within : (m : Module) (h : ℕ) → global_is_written m h ≡ true →
-    h < length m.global_expressions
-written_within m h is = by (slice_get m.global_expressions h) refl is
-  where
-    by : (o : Option ir.Expression) → slice_get m.global_expressions h ≡ o →
-        option_map_or (global_is_written_over m (global_is_written_within h m)) o false ≡ true →
-        h < length m.global_expressions
-    by None at is = absurd cc
-    by (Some e) at is = slice_get_within m.global_expressions h e at
-
--- and has a tree
-pub initialiser_has_tree : (m : Module) (info : ModuleInfo) → IsTrue (is_accepted m info) →
-    (h : ℕ) → global_is_written m h ≡ true →
-    (e : ConstantTree) × (global_tree m info h ≡ Some e)
-initialiser_has_tree m info accepted h is =
-    let read = written_is_read m info (declarations_are m info accepted).size h is in
-    (read.0, read.1)
-
 -- ---- modules
 module _ (m : Module) (info : ModuleInfo) (explicit : Bool) (labels : LabelNames)
     (accepted : IsTrue (is_accepted m info)) (declarations : DeclarationsHaveForms m)
@@ -468,47 +433,8 @@ module _ (m : Module) (info : ModuleInfo) (explicit : Bool) (labels : LabelNames
   abbrev program_of_shapes : shapes.Module
   program_of_shapes = module_shape m info
 
-  abbrev outer : ModuleNames
-  outer = outer_names (module_names m) m
-
-  abbrev text_functions : List TextFunction
-  text_functions = (program_read (program_under labels m info explicit)).functions
-
   abbrev program_told : TextModule
   program_told = program_read (program_under labels m info explicit)
-
-  -- and so one value on both sides
-  values_alike : (settings : Settings) → SettingsFit program_of_shapes settings →
-      (meaning : Meaning) → IsTyped program_of_shapes meaning → (world : World) → (h : ℕ) →
-      IsInitialiser m h →
-      text_initialiser_value program_told program_of_shapes.parts settings world meaning
-      (vocabulary_read (program_under labels m info explicit))
-      (expression_read (global_form m (type_names m) h)) ≡
-      global_expression_value m info settings meaning h
-  values_alike settings fit meaning typed world h initial =
-      let own = (declarations_are m info accepted).size in
-      let items = items_have_forms m declarations in
-      let read = initialisers_read m info own items h initial in
-      ap
-      (λ (vocabulary : Vocabulary).
-      text_initialiser_value program_told program_of_shapes.parts settings world meaning vocabulary
-      (expression_read (global_form m (type_names m) h)))
-      (one_vocabulary m info explicit labels)
-      ∙ (ap
-      (λ (text : TextModule).
-      text_initialiser_value text program_of_shapes.parts settings world meaning outer.vocabulary
-      (expression_read (global_form m (type_names m) h)))
-      (reads_items m info explicit labels accepted items)
-      ∙ (ap
-      (text_initialiser_value (form_module_with program_of_shapes outer text_functions)
-      program_of_shapes.parts settings world meaning outer.vocabulary) read.2
-      ∙ (initialisers_are_alike program_of_shapes outer text_functions
-      (items_fit m info explicit labels accepted items) settings fit meaning typed world read.0
-      (global_words m info accepted h read.0 read.1)
-      (global_in_range m info accepted h read.0
-      (written_within m h (items.initialisers h initial)) read.1)
-      ∙ sym (ap (option_and_then (module_initialiser_value program_of_shapes settings meaning))
-      read.1))))
 
   -- the cases of its switches end, so that no label is lost
   ends : (g : ℕ) (f : ir_function.Function) → slice_get (all_functions m) g ≡ Some f → AllEnd f.body
@@ -525,7 +451,12 @@ module _ (m : Module) (info : ModuleInfo) (explicit : Bool) (labels : LabelNames
       text_initialiser_value program_told program_of_shapes.parts settings world meaning
       (vocabulary_read (program_under labels m info explicit)) (expression_read e) in
       let value = global_expression_value m info settings meaning in
-      let same = values_alike settings fit meaning typed world in
+      let items = items_have_forms m declarations in
+      let same : (h : ℕ) → IsInitialiser m h →
+      read (global_form m (type_names m) h) ≡ value h =
+      λ h initial.
+      values_alike m info accepted items settings fit meaning typed h
+      (declarations.initialisers h initial) explicit labels world in
       let first : length m.functions + 0 ≡ length m.functions = omega arith in
       let names = module_names m in
       let entry_points =

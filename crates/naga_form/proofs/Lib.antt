@@ -40,9 +40,9 @@ pub mod DeclaredStructs
 pub mod EmptyCases
 pub mod ExpressionNames
 pub mod GivenNames
+pub mod GlobalValues
 pub mod HiddenNames
 pub mod Images
-pub mod InitialiserValues
 pub mod Interface
 pub mod ItemKeys
 pub mod ItemTargets

@@ -38,6 +38,7 @@ use Rattle.module_meaning.specs.AlikeTypes.{are_alike}
 use Rattle.module_meaning.specs.Bindings.{BindsAt, BindsUnder}
 use Rattle.module_meaning.specs.DeclarationForms.{DeclarationsHaveForms, IsInitialiser}
 use Rattle.module_meaning.specs.DeclarationForms.{ItemsHaveForms}
+use Rattle.module_meaning.specs.ExpressionForms.{global_is_written}
 use Rattle.module_meaning.specs.Faithful.{HasInterfaceOf, RunsAs, RunsAt}
 use Rattle.module_meaning.specs.FunctionNumbers.{callee_count, function_type}
 use Rattle.module_meaning.specs.Written.{AllWrittenHaveForms, WrittenHaveForms}
@@ -63,6 +64,8 @@ use Rattle.module_meaning.specs.Types.{spelled_resolution, type_names, type_of_v
 use Rattle.module_meaning.specs.OperatorTable.{Operator, TypeIsSound, asks, is_distinguished}
 use Rattle.module_meaning.specs.OperatorTable.{one_word}
 use Rattle.module_meaning.specs.OperatorTable.{operand_count, operator_word, run_word}
+use Rattle.naga_form.specs.ConstantForms.{global_form}
+use Rattle.naga_form.specs.GlobalValues.{HasValueOf}
 use Rattle.naga_form.specs.Readable.{AreAlike, AreNamed, ResolutionIsWithin, handle_names}
 use Rattle.naga_form.specs.Readable.{is_readable}
 use Rattle.naga_form.specs.TypeTrees.{inner_tree, resolution_tree, type_tree}
@@ -128,6 +131,17 @@ InitialisersHaveValues =
     (meaning : Meaning) → IsTyped shape meaning →
     (handle : ℕ) → IsInitialiser m handle →
     (v : Value) × (global_expression_value m info settings meaning handle ≡ Some v)
+
+-- What is written of any of the module's own expressions that has a form has the expression's
+-- value, as an initialiser in what is written for the module. It asks for the forms of the module's
+-- items, and nothing of its functions.
+abbrev pub GlobalsHaveTheirValues : Type 0
+GlobalsHaveTheirValues =
+    (m : Module) (info : ModuleInfo) (explicit : Bool) (named : LabelNames) →
+    IsTrue (is_accepted m info) → ItemsHaveForms m →
+    (handle : ℕ) → IsTrue (global_is_written m handle) →
+    HasValueOf m info handle (program_under named m info explicit)
+    (global_form m (type_names m) handle)
 
 -- each of its identifiers and words stands for what it was written for
 abbrev pub ResolvesAsMeant : Type 0

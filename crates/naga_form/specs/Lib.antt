@@ -3,6 +3,7 @@ pub mod ConstantForms
 pub mod Declarations
 pub mod Expressions
 pub mod Functions
+pub mod GlobalValues
 pub mod Images
 pub mod Laws
 pub mod Literals

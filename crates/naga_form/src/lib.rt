@@ -7,7 +7,8 @@ pub mod types;
 ghost use Rattle.naga_form.specs.Laws.{NamesAreLabelNames, NamesBehindAreLabelNames};
 ghost use Rattle.naga_form.specs.Laws.{IsAProgram, HasTheInterface, KeepsTheLayouts};
 ghost use Rattle.naga_form.specs.Laws.{TellsTheLayouts};
-ghost use Rattle.naga_form.specs.Laws.{InitialisersHaveValues, ResolvesAsMeant};
+ghost use Rattle.naga_form.specs.Laws.{GlobalsHaveTheirValues, InitialisersHaveValues};
+ghost use Rattle.naga_form.specs.Laws.{ResolvesAsMeant};
 ghost use Rattle.naga_form.specs.Laws.{BindsAsCounted, FunctionsAreRead, IsReadAsItsShapes};
 ghost use Rattle.naga_form.specs.Laws.{RunsAsTheModule, ScopesAreChecked, IsConsistent};
 ghost use Rattle.naga_form.specs.Laws.{GivesResults, PointsAgreeThere};
@@ -57,6 +58,15 @@ pub fn tells_the_layouts()
 /// forms. So the interface tells a value of each, on both sides.
 pub fn initialisers_have_values()
     ensures { InitialisersHaveValues }
+{}
+
+/// What is written of any of an accepted module's own expressions that has a form has the
+/// expression's value, where it stands as an initialiser in what is written for the module. There is
+/// such a value, and it is the same in every world. No declaration has to have the expression for
+/// its initialiser. It asks for the forms of the types of variables and of initialisers, and nothing
+/// of functions.
+pub fn globals_have_their_values()
+    ensures { GlobalsHaveTheirValues }
 {}
 
 /// Each of its identifiers and words stands for what it was written for, where the rules of scope

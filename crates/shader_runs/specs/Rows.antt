@@ -463,10 +463,10 @@ abbrev pub fallen_function : Function
 fallen_function =
     let next = case Default (statements (Store 1 3 ∷ [])) false no_case in
     function_with (i32 ∷ []) None ((local_i32, None) ∷ []) (
-    row (Argument 0) i32 1
-    ∷ row (Local 0) i32_pointer 2
-    ∷ row (literal 1) i32 1
-    ∷ row (literal 2) i32 1 ∷ []) (
+    row (Argument 0) i32
+    ∷ row (Local 0) i32_pointer
+    ∷ row (literal 1) i32
+    ∷ row (literal 2) i32 ∷ []) (
     Switch 0 (case (Numbered (pos 1)) (statements (Store 1 2 ∷ [])) true next) ∷ [])
 
 -- the lines of a case that stores this
