@@ -1,5 +1,6 @@
 -- One of a module's own expressions, written by itself.
-use Rattle.std.proofs.Common.{◌≡◌, ◌++◌, ℕ, List, [], append-nil, refl, subst, sym}
+use Rattle.std.proofs.Common.{◌≡◌, ◌∙◌, ◌++◌, ℕ, List, [], append-nil, refl, subst, sym}
+use Rattle.std.proofs.lemmas.List.{append_cancel_left}
 use Rattle.std.specs.Prelude.{Err, IfErr, IsErrAnd, IsFalse, IsTrue, Ok, OnErr, OnOk, Result}
 use Rattle.naga_ir.specs.declared.module.Module.{Module}
 use Rattle.naga_info.specs.declared.info.ModuleInfo.{ModuleInfo}
@@ -7,13 +8,18 @@ use Rattle.module_meaning.specs.Accepted.{is_accepted}
 use Rattle.module_meaning.specs.ExpressionForms.{global_is_written}
 use Rattle.module_meaning.specs.Types.{type_names}
 use Rattle.naga_form.proofs.DeclaredPrograms.{written_global}
+use Rattle.naga_form.proofs.GlobalValues.{has_value_of}
 use Rattle.naga_form.specs.ConstantForms.{global_form}
+use Rattle.naga_form.specs.Declarations.{program_under}
+use Rattle.naga_form.specs.GlobalValues.{HasValueOf}
 use Rattle.naga_words.specs.Sink.{IsBehind}
 use Rattle.wgsl_text.specs.Reading.{HasOneReading, ReadsExpression}
+use Rattle.wgsl_text.specs.Text.{tokens}
 use Rattle.wgsl_text.proofs.Reading.{expression_has_one_reading}
 use Rattle.naga_wgsl_fns.specs.Constants.{global_text}
 use Rattle.naga_wgsl_fns.specs.Errors.{IsWant}
-use Rattle.naga_wgsl_fns.specs.GlobalExpressions.{GlobalWriting, IsGlobalRefusal}
+use Rattle.naga_wgsl_fns.specs.GlobalExpressions.{AppendsTheValue, GlobalWriting}
+use Rattle.naga_wgsl_fns.specs.GlobalExpressions.{IsGlobalRefusal}
 use Rattle.naga_wgsl_fns.specs.Refusals.{NamesGlobal}
 use Rattle.naga_wgsl_fns.specs.declared.error.Error.{Error}
 use Rattle.naga_wgsl_fns.specs.declared.error.Error.TheVariants.{FmtError, Memory}
@@ -30,6 +36,7 @@ module _ (m : Module) (handle : ℕ) where
       refusals = subst (IsGlobalRefusal m handle before before) (sym reported) refusal;
       text_ok = tt;
       reading = tt;
+      value = tt;
       failures_ok = tt;
       text_err = ([], global_text m handle, refl, sym (append-nil content));
       untouched = λ tells. (refl, refl);
@@ -56,6 +63,18 @@ module _ (m : Module) (handle : ℕ) where
         expression_has_one_reading (global_form m (type_names m) handle)
         (written_global m info accepted handle formed)
 
+    -- and that has the value
+    has_the_value : (content now : List ℕ) → now ≡ content ++ global_text m handle →
+        AppendsTheValue m handle content now
+    has_the_value content now appended known is items explicit named text behind expression reads =
+        let same =
+        append_cancel_left content text (global_text m handle) (sym behind ∙ appended) in
+        let only =
+        one_expression.only expression
+        (subst (λ t. ReadsExpression (tokens t) expression) same reads) in
+        subst (HasValueOf m known handle (program_under named m known explicit)) (sym only)
+        (has_value_of m known is items explicit named handle formed)
+
     pub global_writes : (r : Result Unit Error) (content now : List ℕ) (before after : ℕ) →
         OnOk r (now ≡ content ++ global_text m handle) →
         OnErr r (IsBehind content (global_text m handle) now) →
@@ -65,6 +84,7 @@ module _ (m : Module) (handle : ℕ) where
       refusals = formed;
       text_ok = text_ok;
       reading = one_expression;
+      value = has_the_value content now text_ok;
       failures_ok = kept;
       text_err = tt;
       untouched = tt;
@@ -73,6 +93,7 @@ module _ (m : Module) (handle : ℕ) where
       refusals = global_for_want before after e reason;
       text_ok = tt;
       reading = tt;
+      value = tt;
       failures_ok = tt;
       text_err = text_err;
       untouched = λ tells. absurd (want_tells_nothing before after e reason tells);

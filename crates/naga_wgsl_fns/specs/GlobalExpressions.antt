@@ -1,11 +1,19 @@
 -- What is promised of a call that writes one of a module's own expressions.
 --
 -- Throughout, m is the module, and handle is that of the expression.
-use Rattle.std.specs.Prelude.{◌≡◌, ⊤, ℕ, ◌++◌, List, IfErr, IsFalse}
+use Rattle.std.specs.Prelude.{◌≡◌, ⊤, ℕ, ◌++◌, Bool, List, IfErr, IsFalse}
 use Rattle.std.specs.Prelude.{IsTrue, Ok, Err, OnErr, OnOk, Result}
 use Rattle.naga_ir.specs.declared.module.Module.{Module}
+use Rattle.naga_info.specs.declared.info.ModuleInfo.{ModuleInfo}
+use Rattle.module_meaning.specs.Accepted.{is_accepted}
+use Rattle.module_meaning.specs.DeclarationForms.{ItemsHaveForms}
 use Rattle.module_meaning.specs.ExpressionForms.{global_is_written}
+use Rattle.module_meaning.specs.Names.{LabelNames}
+use Rattle.naga_form.specs.Declarations.{program_under}
+use Rattle.naga_form.specs.GlobalValues.{HasValueOf}
+use Rattle.wgsl_text.specs.Expressions.{Expression}
 use Rattle.wgsl_text.specs.Reading.{HasOneReading, ReadsExpression}
+use Rattle.wgsl_text.specs.Text.{tokens}
 use Rattle.naga_words.specs.Sink.{IsBehind}
 use Rattle.naga_wgsl_fns.specs.Constants.{global_at, global_text}
 use Rattle.naga_wgsl_fns.specs.Errors.{IsSinkWant}
@@ -25,6 +33,18 @@ abbrev pub RefusesGlobalOnlyFor : Result Unit Error → Module → (handle : ℕ
 RefusesGlobalOnlyFor (Ok _) m handle before now = IsTrue (global_is_written m handle)
 RefusesGlobalOnlyFor (Err error) m handle before now = IsGlobalRefusal m handle before now error
 
+-- However what was appended is read, it has the value of the module's own expression, where it
+-- stands as an initialiser in what is written for the module. The module is accepted with what is
+-- known of it, and its items have forms. Nothing is asked of its functions, or of the names of their
+-- labels.
+abbrev pub AppendsTheValue : Module → (handle : ℕ) → (content now : List ℕ) → Type 0
+AppendsTheValue m handle content now =
+    (info : ModuleInfo) → IsTrue (is_accepted m info) → ItemsHaveForms m →
+    (explicit : Bool) (named : LabelNames) →
+    (text : List ℕ) → now ≡ content ++ text →
+    (expression : Expression) → ReadsExpression (tokens text) expression →
+    HasValueOf m info handle (program_under named m info explicit) expression
+
 -- A call was asked to write the expression behind the text that its sink held; it answered, and the
 -- sink holds another text now. The sink had failed so often before, and has failed so often now.
 pub record GlobalWriting (m : Module) (handle : ℕ) (answer : Result Unit Error)
@@ -37,6 +57,9 @@ pub record GlobalWriting (m : Module) (handle : ℕ) (answer : Result Unit Error
   pub text_ok : OnOk answer (now ≡ content ++ global_text m handle)
   pub reading : OnOk answer
       (HasOneReading ReadsExpression (global_text m handle) (global_at m handle))
+  -- It has the expression's value, the same in every world, under all values of overrides of their
+  -- types and every typed meaning of operators.
+  pub value : OnOk answer (AppendsTheValue m handle content now)
   pub failures_ok : OnOk answer (after ≡ before)
   -- A call that gives up leaves a beginning of it, and nothing where it tells of the module.
   pub text_err : OnErr answer (IsBehind content (global_text m handle) now)

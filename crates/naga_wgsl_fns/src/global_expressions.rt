@@ -22,19 +22,24 @@ use naga_words::{Output, TextSink};
 use std::alloc::Global;
 use std::collections::HashMap;
 
-/// Writes one of the module's own expressions behind what the sink holds, as the initialiser of what
-/// the module declares. The module is accepted with what is known of it, and `names` has the names of
-/// its items in WGSL.
+/// Writes one of the module's own expressions behind what the sink holds, as the initialiser of
+/// what the module declares. The module is accepted with what is known of it, and `names` has the
+/// names of its items in WGSL.
 ///
 /// The text has one reading as an expression. An override is written by its name, and so is a
-/// constant that has one; any other constant by its initialiser. What has no form is refused, by the
-/// first part that has none: a float literal as `Unimplemented`, `float literal`; an abstract one as
-/// `Custom`, `Abstract types should not appear in IR presented to backends`; a value of a type that
-/// names a struct which no text declares as `Custom`, `predeclared struct`, one of a type with a
-/// scalar without a word as `Unsupported`, of the kind `scalar type`, and one of any other type
-/// without a form as `Custom`, `type without a WGSL form`; an operator as `Custom`, `operator in a
-/// constant`. Such a refusal leaves the sink as it was. After want of memory or a failure of the sink
-/// a beginning of the text may stand behind what the sink held.
+/// constant that has one; any other constant by its initialiser. What has no form is refused, by
+/// the first part that has none: a float literal as `Unimplemented`, `float literal`; an abstract
+/// one as `Custom`, `Abstract types should not appear in IR presented to backends`; a value of a
+/// type that names a struct which no text declares as `Custom`, `predeclared struct`, one of a type
+/// with a scalar without a word as `Unsupported`, of the kind `scalar type`, and one of any other
+/// type without a form as `Custom`, `type without a WGSL form`; an operator as `Custom`, `operator
+/// in a constant`. Such a refusal leaves the sink as it was. After want of memory or a failure of
+/// the sink a beginning of the text may stand behind what the sink held.
+///
+/// As an initialiser in what is written for the module the text has the value of the module's own
+/// expression, in every world, under all values of overrides of their types and every typed meaning
+/// of operators. For this the types of the module's variables and the initialisers of its constants
+/// with names, its overrides and its variables have forms; nothing is asked of its functions.
 pub fn write_global_expression<W: TextSink>(
     alloc: Global,
     module: &Module,
