@@ -94,7 +94,7 @@ fn add_without_text(rt: &impl Abort, alloc: Global, shader: &mut ModuleBuilder) 
     shader.add_function(function).expect(rt, "memory");
 }
 
-/// The first function is written, and this later one is refused, as the module is.
+/// The first function is written, and a later one is refused, as the module is.
 fn first_is_written_alone(
     rt: &impl Abort,
     alloc: Global,
@@ -103,7 +103,7 @@ fn first_is_written_alone(
 ) {
     count(&mut shader.info, &shader.module);
     assert!(rt; accepts(&shader.module, &shader.info));
-    assert_eq!(rt; shader.module.functions.len(), 2);
+    assert!(rt; shader.module.functions.len() > 0);
     let whole = write_string(alloc, &shader.module, &shader.info, no_flags());
     assert!(rt; whole.is_err());
     let (names, mut namer) = names_of(alloc, &shader.module).expect(rt, "names");
@@ -120,6 +120,14 @@ fn first_is_written_alone(
     )
     .expect(rt, "a text");
     reads(rt, text.as_str(), NAMED);
+    match later {
+        FunctionType::Function(handle) => {
+            assert!(rt; handle.index() < shader.module.functions.len());
+        }
+        FunctionType::EntryPoint(index) => {
+            assert!(rt; (index as usize) < shader.module.entry_points.len());
+        }
+    }
     let refused = write_function(
         alloc,
         &shader.module,
