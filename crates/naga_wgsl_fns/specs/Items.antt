@@ -13,8 +13,8 @@ use Rattle.module_meaning.specs.DeclarationForms.{ItemsHaveForms}
 use Rattle.module_meaning.specs.ExpressionLabels.{name_of_label}
 use Rattle.module_meaning.specs.FunctionNumbers.{callee_count, function_number}
 use Rattle.module_meaning.specs.Faithful.{HasInterfaceOf, RunsAt}
-use Rattle.module_meaning.specs.Names.{LabelNames, item_labels, labels_named_in, named_apart}
-use Rattle.module_meaning.specs.Names.{wgsl_names}
+use Rattle.module_meaning.specs.Names.{AreLabelNames, LabelNames, item_labels, labels_named_in}
+use Rattle.module_meaning.specs.Names.{named_apart, wgsl_names}
 use Rattle.module_meaning.specs.Premises.{ScopesHoldBefore}
 use Rattle.module_meaning.specs.Resolution.{ResolvesAt}
 use Rattle.module_meaning.specs.Written.{AllWrittenHaveForms, WrittenHaveFormsBefore}
@@ -99,11 +99,12 @@ AppendsOne (item.EntryPoint index) content now = AppendsOneEntryPoint content no
 abbrev pub names_behind : Module → (earlier : List (List ℕ)) → (number : ℕ) → LabelNames
 names_behind m earlier number = named_apart m number (named_behind m earlier number)
 
--- the program of the module where labels have these names
-abbrev pub program_behind :
-    (explicit : Bool) → Module → ModuleInfo → (earlier : List (List ℕ)) → (number : ℕ) → Program
-program_behind explicit m info earlier number =
-    program_under (names_behind m earlier number) m info explicit
+-- Names of all labels that are such as they may have, among them those that this function's text
+-- has. So one program has the texts of several functions, each of which was written by itself.
+pub record AreNamesOfText (m : Module) (earlier : List (List ℕ)) (number : ℕ) (named : LabelNames) :
+    Type 0 where
+  pub are : AreLabelNames m named
+  pub own : named number ≡ named_behind m earlier number
 
 -- What was appended is read as just this function, or this entry point, of the program.
 abbrev pub StandsIn : FunctionType → (content now : List ℕ) → Program → Type 0
@@ -114,32 +115,41 @@ StandsIn (item.EntryPoint index) content now program =
     (text : List ℕ) → now ≡ content ++ text → (point : EntryPoint) →
     ReadsEntryPoint (tokens text) point → slice_get program.entry_points index ≡ Some point
 
--- What was appended stands in the program that is written for the module. But for the interface,
--- nothing is asked of the functions that it can't call, which may have no text at all.
-pub record IsMeant (explicit : Bool) (m : Module) (info : ModuleInfo) (earlier : List (List ℕ))
+-- What was appended stands in the program that is written for the module where labels have these
+-- names. But for the interface, nothing is asked of the functions that it can't call, which may have
+-- no text at all, and nothing of what functions take and give.
+pub record IsMeantUnder (named : LabelNames) (explicit : Bool) (m : Module) (info : ModuleInfo)
     (ty : FunctionType) (content now : List ℕ) : Type 0 where
-  pub stands : StandsIn ty content now
-      (program_behind explicit m info earlier (function_number m ty))
-  -- The function has the module's `let`s.
-  pub bindings : BindsAt (names_behind m earlier (function_number m ty)) m info explicit
-      (program_behind explicit m info earlier (function_number m ty)) (function_number m ty)
-  -- Where the items that a function may name have forms, each of its identifiers and words stands
-  -- for what the module means. Nothing is asked of what other functions take and give.
-  pub resolution : ItemsHaveForms m →
-      ResolvesAt (names_behind m earlier (function_number m ty)) m info
-      (program_behind explicit m info earlier (function_number m ty)) (function_number m ty)
-  -- Where what is written of each function that it may call has forms too, and the rules of scope
-  -- hold there, it does what the module does. Each answer without an error tells this of its
-  -- function.
+  pub stands : StandsIn ty content now (program_under named m info explicit)
+  -- The function has the module's `let`s. No item is asked for its form.
+  pub bindings : BindsAt named m info explicit (program_under named m info explicit)
+      (function_number m ty)
+  -- Each of its identifiers and words stands for what the module means, and so does each name outside
+  -- of functions. Only the initialisers of overrides and variables are asked for their forms, for
+  -- what they themselves name.
+  pub resolution : ResolvesAt named m info (program_under named m info explicit)
+      (function_number m ty)
+  -- It does what the module does, where the types of all variables and the initialisers of all
+  -- constants with names have forms, and what is written of each function that it may call has forms
+  -- and the rules of scope hold there. Each answer without an error tells this of its function or
+  -- item.
   pub runs : ItemsHaveForms m →
       WrittenHaveFormsBefore explicit m info (callee_count m ty) →
       ScopesHoldBefore m info (callee_count m ty) →
-      RunsAt m info (program_behind explicit m info earlier (function_number m ty))
-      (function_number m ty)
+      RunsAt m info (program_under named m info explicit) (function_number m ty)
   -- The interface of the program is the module's, where all that the module declares and each
   -- function has forms.
   pub interface : DeclarationsHaveForms m → AllWrittenHaveForms explicit m info →
-      HasInterfaceOf m info (program_behind explicit m info earlier (function_number m ty))
+      HasInterfaceOf m info (program_under named m info explicit)
+
+-- What was appended is meant so under all names of labels among which its own are. There are some:
+-- those that front ends gave, but for this function.
+pub record IsMeant (explicit : Bool) (m : Module) (info : ModuleInfo) (earlier : List (List ℕ))
+    (ty : FunctionType) (content now : List ℕ) : Type 0 where
+  pub under : (named : LabelNames) → AreNamesOfText m earlier (function_number m ty) named →
+      IsMeantUnder named explicit m info ty content now
+  pub some : AreNamesOfText m earlier (function_number m ty)
+      (names_behind m earlier (function_number m ty))
 
 -- What the meaning of a function's runs asks of those that it may call is what an answer without an
 -- error tells of each: so it holds where they were written by themselves, under whatever names.
