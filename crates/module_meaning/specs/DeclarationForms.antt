@@ -97,9 +97,9 @@ pub record HeadHasForm (m : Module) (number : ℕ) : Type 0 where
   pub stage : (p : EntryPoint) → entry_point_numbered m number ≡ Some p →
       IsTrue (stage_has_form p p.stage)
 
--- The items that a function or an initialiser may name have forms, as far as runs and values hang on
--- them: the types of variables, and the initialisers of constants with names. Those of overrides and
--- of variables may have none.
+-- The items that a function or an initialiser may name have forms, as far as runs and values hang
+-- on them: the types of variables, and the initialisers of constants with names. Those of overrides
+-- and of variables may have none.
 pub record ItemsHaveForms (m : Module) : Type 0 where
   pub variables : (i : ℕ) (v : GlobalVariable) → slice_get m.global_variables i ≡ Some v →
       IsTrue (is_spellable m (Handle v.ty))

@@ -65,18 +65,18 @@ pub fn initialisers_have_values()
 
 /// There is a value of any of an accepted module's own expressions that has a form. What is written
 /// of it has that value, the same in every world, where it stands as an initialiser in what is
-/// written for the module, and where the types of the module's variables and the initialisers of its
-/// constants with names have forms. No declaration has to have the expression for its initialiser.
-/// Nothing is asked of the initialisers of overrides and variables, and nothing of functions.
+/// written for the module. That it has asks for the forms of the types of all variables and of the
+/// initialisers of all constants with names, and nothing of the initialisers of overrides and
+/// variables, or of functions. No declaration has to have the expression for its initialiser.
 pub fn globals_have_their_values()
     ensures { GlobalsHaveTheirValues }
 {}
 
 /// Each of its identifiers and words stands for what it was written for, where the rules of scope
-/// hold in the module. Of one function of an accepted module it is so where what is written of it has
-/// forms and the rules of scope hold in it, whatever stands in the other functions and in what they
-/// take and give. Of the items only the initialisers of overrides and variables are asked for forms,
-/// for what these themselves name.
+/// hold in the module. Of one function of an accepted module it is so where what is written of it
+/// has forms and the rules of scope hold in it, whatever stands in the other functions and in what
+/// they take and give. Of items only the initialisers of overrides and variables are asked for
+/// forms, for what they themselves name.
 pub fn resolves_as_meant()
     ensures whole { ResolvesAsMeant }
     ensures one { OneResolves }
@@ -103,11 +103,11 @@ pub fn is_read_as_its_shapes()
 {}
 
 /// It does what the module does, where the rules of scope hold in the module. Of one function of an
-/// accepted module it is so where three things hold: what is written of it and of each function
-/// before it that it may call, called or not, has forms; the rules of scope hold in all of these; and
-/// the types of all variables of the module and the initialisers of all its constants with names have
-/// forms, whether or not it names them. Nothing is asked of the functions that it can't call, of what
-/// functions take and give, or of the initialisers of overrides and variables.
+/// accepted module it is so on three conditions. What is written of it and of each function before
+/// it that it may call, called or not, has forms. The rules of scope hold in all of these. And the
+/// types of all variables of the module and the initialisers of all its constants with names have
+/// forms, whether or not it names them. Nothing is asked of the functions that it can't call, of
+/// how what functions take and give is bound, or of the initialisers of overrides and variables.
 pub fn runs_as_the_module()
     ensures whole { RunsAsTheModule }
     ensures one { OneRuns }

@@ -30,9 +30,10 @@ use Rattle.naga_back.specs.declared.context.FunctionType.{FunctionType}
 use Rattle.naga_back.specs.declared.context.FunctionType.TheVariants as item
 use Rattle.naga_back.specs.declared.flags.WriterFlags.{WriterFlags}
 use Rattle.naga_wgsl_fns.specs.FunctionText.{annotates_types}
-use Rattle.naga_wgsl_fns.specs.Items.{IsMeant, IsMeantUnder, IsToldByAnswers, StandsIn}
-use Rattle.naga_wgsl_fns.specs.Items.{named_behind, names_behind}
+use Rattle.naga_wgsl_fns.specs.Items.{IsMeant, IsMeantUnder, IsToldByAnswers, ItemsAreToldByAnswers}
+use Rattle.naga_wgsl_fns.specs.Items.{StandsIn, named_behind, names_behind}
 use Rattle.naga_wgsl_fns.specs.Refusals.{IsWritableAt}
+use Rattle.naga_wgsl_fns.proofs.SpelledTypes.{written_is_spellable}
 
 module _ (named : LabelNames) (explicit : Bool) (names : NameMap) (m : Module) (info : ModuleInfo) where
   -- one of the entry points
@@ -155,3 +156,12 @@ is_meant flags m info accepted ty earlier later is writable content now stands =
 pub told_by_answers : IsToldByAnswers
 told_by_answers explicit m info number were =
     (λ g lt. (were g lt).1.plan.formed, λ g lt. (were g lt).1.plan.in_scope)
+
+-- and of items
+pub items_told_by_answers : ItemsAreToldByAnswers
+items_told_by_answers m constants variables = record {
+  variables = λ i v at.
+      let told = variables i v at in
+      written_is_spellable m told.0 v.ty told.1.0 told.1.1.0 told.1.1.1.0 told.1.1.1.1;
+  constants = λ i c at named. (constants i c at named).1.1.1;
+}

@@ -3,9 +3,14 @@
 -- Throughout, m is the module, earlier are labels that were named before, ty says which of its
 -- functions is meant and number is that of it, and explicit says whether `let`s tell types.
 use Rattle.std.specs.Prelude.{◌≡◌, ⊤, ℕ, ◌<◌, ◌++◌, Bool, List, ◌⊎◌, Ok, Err, IfErr, OnErr, OnOk}
-use Rattle.std.specs.Prelude.{Result, Some, slice_get}
+use Rattle.std.specs.Prelude.{IsFalse, IsTrue, Result, Some, slice_get}
+use Rattle.std.specs.Option.{is_some}
+use Rattle.naga_ir.specs.declared.module.Constant.{Constant}
+use Rattle.naga_ir.specs.declared.module.GlobalVariable.{GlobalVariable}
 use Rattle.naga_ir.specs.declared.module.Module.{Module}
 use Rattle.naga_info.specs.declared.info.ModuleInfo.{ModuleInfo}
+use Rattle.naga_info.specs.declared.info.TypeResolution.TheVariants.{Handle}
+use Rattle.naga_names.specs.Keys.{NameMap}
 use Rattle.naga_names.specs.Naming.{HasNamed, Names}
 use Rattle.module_meaning.specs.Bindings.{BindsAt}
 use Rattle.module_meaning.specs.DeclarationForms.{DeclarationsHaveForms, HeadHasForm}
@@ -17,6 +22,7 @@ use Rattle.module_meaning.specs.Names.{AreLabelNames, LabelNames, item_labels, l
 use Rattle.module_meaning.specs.Names.{named_apart, wgsl_names}
 use Rattle.module_meaning.specs.Premises.{ScopesHoldBefore}
 use Rattle.module_meaning.specs.Resolution.{ResolvesAt}
+use Rattle.module_meaning.specs.Undeclared.{names_undeclared}
 use Rattle.module_meaning.specs.Written.{AllWrittenHaveForms, WrittenHaveFormsBefore}
 use Rattle.naga_form.specs.Declarations.{program_under}
 use Rattle.wgsl_text.specs.Declarations.{Program}
@@ -27,10 +33,14 @@ use Rattle.naga_back.specs.declared.context.FunctionType.{FunctionType}
 use Rattle.naga_back.specs.declared.context.FunctionType.TheVariants as item
 use Rattle.naga_back.specs.declared.flags.WriterFlags.{WriterFlags}
 use Rattle.naga_scope.specs.ExpressionNames.{HasNamedSome}
+use Rattle.naga_words.specs.Contexts.{names_context}
+use Rattle.naga_words.specs.Segments.{HasWritten}
 use Rattle.naga_words.specs.Sink.{IsBehind}
+use Rattle.naga_words.specs.Spelling.{type_segments}
 use Rattle.naga_wgsl_fns.specs.Errors.{IsSinkWant}
 use Rattle.naga_wgsl_fns.specs.FunctionText.{annotates_types}
 use Rattle.naga_wgsl_fns.specs.Functions.{text_under}
+use Rattle.naga_wgsl_fns.specs.GlobalExpressions.{RefusesGlobalOnlyFor}
 use Rattle.naga_wgsl_fns.specs.DeclarationRefusals.{NamesHead}
 use Rattle.naga_wgsl_fns.specs.Refusals.{HasNamedLabels, IsFault, IsWritableAt, TellsOfModule}
 use Rattle.naga_wgsl_fns.specs.declared.error.Error.{Error}
@@ -116,23 +126,22 @@ StandsIn (item.EntryPoint index) content now program =
     ReadsEntryPoint (tokens text) point → slice_get program.entry_points index ≡ Some point
 
 -- What was appended stands in the program that is written for the module where labels have these
--- names. But for the interface, nothing is asked of the functions that it can't call, which may have
--- no text at all, and nothing of what functions take and give.
+-- names. But for the interface, nothing is asked of the functions that it can't call, which may
+-- have no text at all, and nothing of how what functions take and give is bound.
 pub record IsMeantUnder (named : LabelNames) (explicit : Bool) (m : Module) (info : ModuleInfo)
     (ty : FunctionType) (content now : List ℕ) : Type 0 where
   pub stands : StandsIn ty content now (program_under named m info explicit)
   -- The function has the module's `let`s. No item is asked for its form.
   pub bindings : BindsAt named m info explicit (program_under named m info explicit)
       (function_number m ty)
-  -- Each of its identifiers and words stands for what the module means, and so does each name outside
-  -- of functions. Only the initialisers of overrides and variables are asked for their forms, for
-  -- what they themselves name.
+  -- Each of its identifiers and words stands for what the module means, and so does each name
+  -- outside of functions. Only the initialisers of overrides and variables are asked for their
+  -- forms, for what they themselves name.
   pub resolution : ResolvesAt named m info (program_under named m info explicit)
       (function_number m ty)
   -- It does what the module does, where the types of all variables and the initialisers of all
-  -- constants with names have forms, and what is written of each function that it may call has forms
-  -- and the rules of scope hold there. Each answer without an error tells this of its function or
-  -- item.
+  -- constants with names have forms, what is written of each function that it may call has forms,
+  -- and the rules of scope hold there. Answers without an error tell all of this.
   pub runs : ItemsHaveForms m →
       WrittenHaveFormsBefore explicit m info (callee_count m ty) →
       ScopesHoldBefore m info (callee_count m ty) →
@@ -160,6 +169,23 @@ IsToldByAnswers =
     (earlier : List (List ℕ)) × IsWritableFunction explicit m info earlier g) →
     WrittenHaveFormsBefore explicit m info number × ScopesHoldBefore m info number
 
+-- What they ask of items is told by answers without an error, too. That of
+-- `write_global_expression` tells it of the initialiser of a constant with a name. That of
+-- `TypeContext::write_type` tells that WGSL spells the type of a variable, in a `WriterTypeContext`
+-- of the module with any names. It doesn't tell whether the type names a struct that no text
+-- declares, as only a module with special types may have. So this is asked beside.
+abbrev pub ItemsAreToldByAnswers : Type 0
+ItemsAreToldByAnswers =
+    (m : Module) →
+    ((i : ℕ) (c : Constant) → slice_get m.constants i ≡ Some c → IsTrue (is_some c.name) →
+    (answer : Unit {0}) × (before : ℕ) × (after : ℕ)
+    × RefusesGlobalOnlyFor (Ok answer) m c.init before after) →
+    ((i : ℕ) (v : GlobalVariable) → slice_get m.global_variables i ≡ Some v →
+    (names : NameMap) × (content : List ℕ) × (now : List ℕ)
+    × HasWritten (type_segments (names_context m.types names) v.ty) content now
+    × IsFalse (names_undeclared m (Handle v.ty))) →
+    ItemsHaveForms m
+
 -- A call was asked to write the function behind the text that its sink held; it answered, and the
 -- sink holds another text now. The sink had failed so often before, and has failed so often now.
 -- The namer is that behind the call.
@@ -176,7 +202,8 @@ pub record FunctionWriting (m : Module) (info : ModuleInfo) (flags : WriterFlags
   pub reading : OnOk answer (AppendsOne ty content now)
   -- Where the earlier labels begin with those of the module's items, the text is meant so: its
   -- `let`s, what its identifiers and words stand for, and its runs are the module's, whatever
-  -- stands in the functions that it can't call.
+  -- stands in the functions that it can't call, in any program in which its labels have the names
+  -- that they got here.
   pub meaning : OnOk answer ((later : List (List ℕ)) → earlier ≡ item_labels m ++ later →
       IsMeant (annotates_types flags) m info earlier ty content now)
   pub failures_ok : OnOk answer (after ≡ before)
