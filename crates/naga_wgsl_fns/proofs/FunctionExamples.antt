@@ -10,7 +10,7 @@ use Rattle.std.specs.Prelude.{Ok}
 use Rattle.naga_ir.specs.StatementTree.{no_statements, ray_query, simple, statement}
 use Rattle.naga_ir.specs.declared.expression.Expression.TheVariants as expression
 use Rattle.naga_ir.specs.declared.expression.Literal.TheVariants as literal
-use Rattle.naga_ir.specs.declared.expression.UnaryOperator.TheVariants as unary
+use Rattle.naga_ir.specs.declared.operators.UnaryOperator.TheVariants as unary
 use Rattle.naga_ir.specs.declared.module.Function.{Function}
 use Rattle.naga_ir.specs.declared.module.Module.{Module}
 use Rattle.naga_ir.specs.declared.module.Override.{Override}
