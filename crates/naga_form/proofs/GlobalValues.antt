@@ -31,8 +31,7 @@ use Rattle.wgsl_text.specs.Declarations.{Program}
 use Rattle.text_meaning.specs.Abstraction.{expression_read, program_read}
 use Rattle.text_meaning.specs.Vocabulary.{vocabulary_read}
 use Rattle.module_meaning.specs.Accepted.{is_accepted}
-use Rattle.module_meaning.specs.DeclarationForms.{DeclarationsHaveForms, IsInitialiser}
-use Rattle.module_meaning.specs.DeclarationForms.{ItemsHaveForms}
+use Rattle.module_meaning.specs.DeclarationForms.{IsInitialiser, ItemsHaveForms}
 use Rattle.module_meaning.specs.ExpressionContexts.{global_tree}
 use Rattle.module_meaning.specs.ExpressionForms.{global_is_written, global_is_written_over}
 use Rattle.module_meaning.specs.ExpressionForms.{global_is_written_within}
@@ -165,8 +164,9 @@ module _ (m : Module) (info : ModuleInfo) (accepted : IsTrue (is_accepted m info
 
 -- ---- initialisers
 pub initialisers_have_values : (m : Module) (info : ModuleInfo) → IsTrue (is_accepted m info) →
-    DeclarationsHaveForms m → (settings : Settings) → SettingsFit (module_shape m info) settings →
+    (settings : Settings) → SettingsFit (module_shape m info) settings →
     (meaning : Meaning) → IsTyped (module_shape m info) meaning → (h : ℕ) → IsInitialiser m h →
+    IsTrue (global_is_written m h) →
     (v : Value) × (global_expression_value m info settings meaning h ≡ Some v)
-initialisers_have_values m info accepted declarations settings fit meaning typed h initial =
-    global_has_value m info accepted settings fit meaning typed h (declarations.initialisers h initial)
+initialisers_have_values m info accepted settings fit meaning typed h initial is =
+    global_has_value m info accepted settings fit meaning typed h is
