@@ -141,8 +141,8 @@ InitialisersHaveValues =
     (v : Value) × (global_expression_value m info settings meaning handle ≡ Some v)
 
 -- There is a value of any of the module's own expressions that has a form. What is written of it
--- has that value, as an initialiser in what is written for the module, where the types of variables
--- and the initialisers of constants with names have forms. Nothing is asked of functions.
+-- has that value, as an initialiser in what is written for the module, where the initialisers of
+-- constants with names have forms. Nothing is asked of variables and functions.
 abbrev pub GlobalsHaveTheirValues : Type 0
 GlobalsHaveTheirValues =
     (m : Module) (info : ModuleInfo) (explicit : Bool) (named : LabelNames) →
