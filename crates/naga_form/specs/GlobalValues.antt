@@ -16,8 +16,8 @@ use Rattle.module_meaning.specs.ModuleShapes.{module_shape}
 
 -- The expression has the value of the module's own one with this handle, where it stands in the
 -- program as an initialiser. Under all values of overrides of their types and every typed meaning
--- of operators there is such a value. Where the initialisers of constants with names have forms, the
--- expression has it in every world. Each side computes its named constants by itself.
+-- of operators there is such a value. Where the initialisers of constants with names have forms,
+-- the expression has it in every world. Each side computes its named constants by itself.
 abbrev pub HasValueOf : Module → ModuleInfo → (handle : ℕ) → Program → Expression → Type 0
 HasValueOf m info handle program expression =
     let shape = module_shape m info in
