@@ -165,11 +165,11 @@ furthers_then f table (h ∷ hs) ks args =
     (append_assoc (next_operand_text f table false h) (furthers_text f table hs)
     (text (more_arguments_pieces (operands_then (value_forms (form_at f table) ks) args)))))
 
-level_then : (l : SampleLevel) (is_in_word : Bool) (args : Arguments) →
-    text (more_arguments_pieces (zero_then (zero_is_written (level_of l) is_in_word) args)) ≡
-    joined_texts (level_text l is_in_word) (text (more_arguments_pieces args))
+level_then : (l : SampleLevel) (by_name : Bool) (args : Arguments) →
+    text (more_arguments_pieces (zero_then (zero_is_written (level_of l) by_name) args)) ≡
+    joined_texts (level_text l by_name) (text (more_arguments_pieces args))
 unfolding joined_texts
-level_then l is_in_word args = by (zero_is_written (level_of l) is_in_word)
+level_then l by_name args = by (zero_is_written (level_of l) by_name)
   where
     by : (b : Bool) →
         text (more_arguments_pieces (zero_then b args)) ≡

@@ -321,8 +321,8 @@ unimplemented_texts =
 abbrev pub unsupported_kinds : List (List ℕ)
 unsupported_kinds = codes "math function" ∷ codes "scalar type" ∷ []
 
--- the error tells of such an expression, type or statement: it says one of these, or names a
--- function that tests a number and that WGSL lacks
+-- the error tells of such an expression, type or statement: it says one of these, or names any
+-- function that tests a number or truth values
 abbrev pub TellsOfForm : Error → Type 0
 TellsOfForm (FmtError e) = ⊥
 TellsOfForm (Custom message) = IsAmong custom_texts (string_bytes message)

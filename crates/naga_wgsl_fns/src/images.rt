@@ -51,7 +51,7 @@ impl FunctionText<'_> {
                 clamp_to_edge,
             } => {
                 let compares = depth_ref.is_some();
-                let is_in_word = is_level_in_word(*gather, compares, *clamp_to_edge);
+                let by_name = is_zero_by_name(*gather, compares, *clamp_to_edge);
                 self.write_sampling_head(*image, *gather, *level, compares, *clamp_to_edge, out);
                 self.write_value(alloc, scope, *image, out);
                 self.write_next_operand(alloc, scope, false, *sampler, out);
@@ -59,7 +59,7 @@ impl FunctionText<'_> {
                 self.write_further(alloc, scope, *array_index, out);
                 self.write_further(alloc, scope, *depth_ref, out);
                 self.write_level(alloc, scope, *level, out);
-                out.put(level_str(*level, is_in_word));
+                out.put(level_str(*level, by_name));
                 self.write_offset(alloc, *offset, out);
                 out.put(")");
             }
@@ -235,18 +235,18 @@ fn component_str(of_depths: bool, gather: Option<SwizzleComponent>) -> &'static 
 }
 
 /// Whether another word tells level zero: that of a gather, of a comparison or of a clamped sampling.
-fn is_level_in_word(gather: Option<SwizzleComponent>, compares: bool, clamped: bool) -> bool
+fn is_zero_by_name(gather: Option<SwizzleComponent>, compares: bool, clamped: bool) -> bool
     ensures { result ≡ (is_some gather || (compares || clamped)) }
 {
     gather.is_some() || compares || clamped
 }
 
 /// Level zero as a number, where no other word tells it.
-fn level_str(level: SampleLevel, is_in_word: bool) -> &'static str
-    ensures { result.now ≡ level_text level is_in_word }
+fn level_str(level: SampleLevel, by_name: bool) -> &'static str
+    ensures { result.now ≡ level_text level by_name }
 {
     match level {
-        SampleLevel::Zero => { if is_in_word { "" } else { ", 0.0" } }
+        SampleLevel::Zero => { if by_name { "" } else { ", 0.0" } }
         _ => "",
     }
 }

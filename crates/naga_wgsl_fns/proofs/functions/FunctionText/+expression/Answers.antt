@@ -692,7 +692,7 @@ write_sampling-returns g t c =
     s.coordinate s.array_index s.offset s.level s.depth_ref s.clamp_to_edge
     (c.index.ensures ∙ ap Some s.is) c.is_some-compares.result c.is_some-compares.ensures
     c.level_str.result.now
-    (c.level_str.ensures ∙ ap (level_text s.level) c.is_level_in_word-is_in_word.ensures))
+    (c.level_str.ensures ∙ ap (level_text s.level) c.is_zero_by_name-by_name.ensures))
     (writes_then c.write_sampling_head.ensures
     (writes_then c.write_value.ensures
     (writes_then c.write_next_operand.ensures
