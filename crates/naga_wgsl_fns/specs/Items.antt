@@ -145,7 +145,7 @@ pub record IsMeantUnder (named : LabelNames) (explicit : Bool) (m : Module) (inf
   -- constants with names have forms, what is written of each function that it may call has forms,
   -- but for the types that `let`s tell there, and the rules of scope hold there. Answers without an
   -- error show all of this where the module has no special types. Of one that has, they don't show
-  -- that the type of no variable names a struct which no text declares.
+  -- that the type of no variable names a struct which no text declares; that is asked beside.
   pub runs : ItemsHaveForms m →
       WrittenHaveFormsBefore false m info (callee_count m ty) →
       ScopesHoldBefore m info (callee_count m ty) →
@@ -197,7 +197,7 @@ pub record HasNoSpecialTypes (m : Module) : Type 0 where
 
 -- What the meaning of a function's runs asks of items is shown by answers without an error, too,
 -- but for one thing: that a type was written tells that WGSL spells it, and not whether it names a
--- struct that no text declares. So this is asked beside.
+-- struct that no text declares. So this is asked beside; the call `names_undeclared` tells it.
 abbrev pub AnswersShowItems : Type 0
 AnswersShowItems =
     (m : Module) → ConstantsWereWritten m →

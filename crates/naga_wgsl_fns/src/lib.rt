@@ -36,6 +36,7 @@ mod stages;
 mod statements;
 mod switches;
 mod types;
+pub mod undeclared;
 mod variables;
 
 pub use bindings::write_binding;
@@ -49,3 +50,4 @@ pub use literal::write_literal;
 pub use plans::plan_of;
 pub use sinks::put;
 pub use types::annotates_types;
+pub use undeclared::names_undeclared;
