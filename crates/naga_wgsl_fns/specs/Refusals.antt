@@ -1,7 +1,7 @@
 -- Why a function is refused, each reason with what it says.
 --
 -- Throughout, m is the module, e an error of memory, and explicit says whether `let`s tell types.
-use Rattle.std.specs.Prelude.{◌≡◌, ⊤, ℕ, ◌<◌, List, ◌⊎◌, codes, string_bytes, IsTrue, IsFalse}
+use Rattle.std.specs.Prelude.{◌≡◌, ⊤, ℕ, ◌<◌, List, [], ◌∷◌, ◌⊎◌, codes, string_bytes, IsTrue, IsFalse}
 use Rattle.std.specs.Prelude.{IsSomeAnd, Option, Some, None, length, slice_get, Bool, true, false}
 use Rattle.std.specs.Prelude.{nat_lt, not}
 use Rattle.std.specs.List.{IsAmong, find, list_all}
