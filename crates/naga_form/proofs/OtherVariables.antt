@@ -245,7 +245,7 @@ module _ (m : ir_module.Module) where
   choices_so parts [] [] = refl
   choices_so parts [] (g ∷ gs) = refl
   choices_so parts (v ∷ vs) [] = refl
-  choices_so parts (v ∷ vs) (g ∷ gs) = 
+  choices_so parts (v ∷ vs) (g ∷ gs) =
       let one =
       choice_so parts (declared_type m v.ty)
       (unwrap_or (global_pointer_read (space_form v.space) (type_form (type_names m) v.ty)) [])
