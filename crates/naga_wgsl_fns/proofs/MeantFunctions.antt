@@ -186,8 +186,8 @@ pub functions_shown : AnswersShowFunctions
 functions_shown m info number were = (
   λ g lt f es at known.
       let one = were g lt in
-      unannotated one.0 m info f es (one.1.1.plan.formed f es at known),
-  λ g lt. (were g lt).1.1.plan.in_scope,
+      unannotated one.0 m info f es (one.2.plan.formed f es at known),
+  λ g lt. (were g lt).2.plan.in_scope,
 )
 
 -- and of items
@@ -195,8 +195,8 @@ pub items_shown : AnswersShowItems
 items_shown m constants variables = record {
   variables = λ i v at.
       let shown = variables i v at in
-      written_is_spellable m shown.0.0 v.ty shown.0.1.0 shown.0.1.1.0 shown.0.1.1.1 shown.1;
-  constants = λ i c at named. (constants i c at named).1.1.1;
+      written_is_spellable m shown.0.0 v.ty shown.0.1 shown.0.2 shown.0.3 shown.1;
+  constants = λ i c at named. (constants i c at named).3;
 }
 
 -- in a module without special types no type names a struct that no text declares

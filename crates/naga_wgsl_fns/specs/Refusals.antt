@@ -1,9 +1,9 @@
 -- Why a function is refused, each reason with what it says.
 --
 -- Throughout, m is the module, e an error of memory, and explicit says whether `let`s tell types.
-use Rattle.std.specs.Prelude.{◌≡◌, ⊤, ℕ, ◌<◌, List, ◌⊎◌, codes, string_bytes, IsTrue, IsFalse}
+use Rattle.std.specs.Prelude.{◌≡◌, ⊤, ℕ, ◌<◌, List, [], ◌∷◌, ◌⊎◌, codes, string_bytes, IsTrue}
 use Rattle.std.specs.Prelude.{IsSomeAnd, Option, Some, None, length, slice_get, Bool, true, false}
-use Rattle.std.specs.Prelude.{nat_lt, not}
+use Rattle.std.specs.Prelude.{IsFalse, nat_lt, not}
 use Rattle.std.specs.List.{IsAmong, find, list_all}
 use Rattle.std.specs.Option.{is_none, is_some, option_and_then}
 use Rattle.naga_ir.specs.declared.expression.Expression.{Expression}
