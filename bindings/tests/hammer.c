@@ -14,8 +14,8 @@
 #include <stdio.h>
 #include <stdlib.h>
 #include <string.h>
-#include <sys/resource.h>
 #include <time.h>
+#include <unistd.h>
 #include "yorwethul.h"
 
 /* ---- the heap that is counted */
@@ -131,18 +131,21 @@ static void *many(void *count) {
     return NULL;
 }
 
-static long peak(void) {
-    struct rusage used;
-    getrusage(RUSAGE_SELF, &used);
-    return used.ru_maxrss;
+/* how many kB of memory the process has now */
+static long resident(void) {
+    long pages = 0;
+    FILE *told = fopen("/proc/self/statm", "r");
+    if (!told || fscanf(told, "%*d %ld", &pages) != 1) exit(2);
+    fclose(told);
+    return pages * (sysconf(_SC_PAGESIZE) / 1024);
 }
 
 static void calls(long count) {
     many((void *)(long)(8 * files_count));
-    long before = peak();
+    long before = resident();
     many((void *)count);
-    long after = peak();
-    printf("%ld calls, at most %ld kB before and %ld after\n", count, before, after);
+    long after = resident();
+    printf("%ld calls, %ld kB before and %ld after\n", count, before, after);
     if (after > before + 1024) { fprintf(stderr, "memory grows\n"); faults++; }
 }
 
@@ -228,11 +231,14 @@ static void flip(unsigned seed, long count) {
             memcpy(bytes, file->bytes, file->length);
             for (int k = 0, changes = 1 + rand_r(&seed) % 3; k < changes; k++) {
                 size_t at = (size_t)rand_r(&seed) % file->length;
-                switch (rand_r(&seed) % 4) {
+                switch (rand_r(&seed) % 8) {
                 case 0: bytes[at] = (uint8_t)rand_r(&seed); break;
                 case 1: bytes[at] = (uint8_t) "0123456789-[]{},\"e."[rand_r(&seed) % 19]; break;
                 case 2: bytes[at] = file->bytes[(size_t)rand_r(&seed) % file->length]; break;
-                default: bytes[at] ^= (uint8_t)(1 << rand_r(&seed) % 8);
+                case 3: bytes[at] ^= (uint8_t)(1 << rand_r(&seed) % 8); break;
+                default: /* another digit, so that the JSON stands: another handle, number or flag */
+                    while (at < file->length && (bytes[at] < '0' || bytes[at] > '9')) at++;
+                    if (at < file->length) bytes[at] = (uint8_t)('0' + rand_r(&seed) % 10);
                 }
             }
             hostile(bytes, file->length, file, out, j % 2 ? 64 : room);
