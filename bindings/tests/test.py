@@ -322,6 +322,24 @@ def test_rust(folder, room):
         must(told == (answer["text"] if is_written else ""), f"the Rust example prints another text of {example.name}")
 
 
+def test_rust_naga(folder, room):
+    """The crate for naga, against the stand-in for it, which wants serde: from cargo's cache or from Debian's packages."""
+    crate = copy_crates(room) / "rust-naga"
+    environment = {**cargo_environment(room, folder), "RUSTFLAGS": "--cfg naga_standin"}
+    words = ["--offline", "--quiet", "--config", 'patch.crates-io.naga.path="../naga_standin"', *serde_of_debian()]
+    if subprocess.run(["cargo", "tree", *words], cwd=crate, env=environment, capture_output=True).returncode:
+        return "left out, since there is no serde"
+    run("cargo", "test", *words, cwd=crate, env=environment)
+
+
+def serde_of_debian():
+    """The words by which cargo finds Debian's crates, where serde is one of them."""
+    registry = Path("/usr/share/cargo/registry")
+    if not list(registry.glob("serde-1*")):
+        return []
+    return ["--config", 'source.crates-io.replace-with="debian"', "--config", f'source.debian.directory="{registry}"']
+
+
 # ---- all of them
 
 
@@ -347,6 +365,7 @@ def library_tests(is_whole):
     else:
         yield "the hammer", test_hammer, ["cc"]
     yield "the Rust crate", test_rust, ["cargo"]
+    yield "the Rust crate for naga", test_rust_naga, ["cargo"]
 
 
 def main():
