@@ -1,6 +1,6 @@
 #!/usr/bin/env python3
 """test.py [FOLDER] [--whole]: tests what stands around the library, and the library itself where FOLDER has its archive, as
-./dist and bindings/c/pack.sh make it; FOLDER is dist/ at the top, if nothing is told.
+./dist and bindings/c/pack.sh make it. FOLDER is out/dist at the top, if nothing is told.
 
 It tells what it tries, and what it leaves out since the machine lacks it. Where there is no archive, programs in C, C++,
 Python and Rust are tried against stub.c, which gives what it is told. Nothing is asked of a network. It takes less than a
@@ -370,7 +370,7 @@ def library_tests(is_whole):
 
 def main():
     words = [word for word in sys.argv[1:] if word != "--whole"]
-    folder = Path(words[0]).resolve() if words else TOP / "dist"
+    folder = Path(words[0]).resolve() if words else TOP / "out/dist"
     has_archive = (folder / "libyorwethul.a").is_file()
     if words and not has_archive:
         sys.exit(f"there is no libyorwethul.a in {folder}")
