@@ -39,6 +39,7 @@ def main():
         *differences("yorwethul.h", numbers_of_header(header), "crates/yorwethul_c", numbers_of_crate()),
         *differences("yorwethul.h", in_rust(declared(header)), "bindings/rust", declared_in_rust()),
         *rust_numbers_differ(numbers_of_header(header)),
+        *page_differs(numbers_of_header(header)),
         *versions_differ(numbers_of_header(header)["VERSION"]),
     ]
     for fault in faults:
@@ -119,6 +120,14 @@ def rust_numbers_differ(wanted):
     left_out = {"UNKNOWN_FLAG", "VERSION", "LONGEST_TEXT"}
     ours = {name: number for name, number in wanted.items() if name not in left_out}
     return differences("yorwethul.h", ours, "bindings/rust", {name: int(number) for name, number in told})
+
+
+def page_differs(wanted):
+    """Where the page in web/ names another status, by its place in a list."""
+    told = re.search(r"const statuses = \[(.*?)\];", (TOP / "web/index.html").read_text())[1]
+    names = [name.upper().replace(" ", "_") for name in re.findall(r'"([^"]*)"', told)]
+    statuses = {name: number for name, number in wanted.items() if name not in ("VERSION", "LONGEST_TEXT", "EXPLICIT_TYPES")}
+    return differences("yorwethul.h", statuses, "web/index.html", {name: number for number, name in enumerate(names)})
 
 
 def versions_differ(number):
