@@ -1,7 +1,11 @@
-/* What the library wants of C where there is no C library, in WebAssembly: a heap, and a few functions. The heap is one region
- * that grows, and is taken back whole by page_reset before each call. */
+/* What the library wants of C where there is no C library, in WebAssembly: a heap, and a few
+ * functions. The heap is one region that grows, and is taken back whole by page_reset before each
+ * call. */
 typedef unsigned long size_t;
-typedef struct { _Bool ok; unsigned char *block; } tried;
+typedef struct {
+    _Bool ok;
+    unsigned char *block;
+} tried;
 
 extern unsigned char __heap_base;
 static unsigned char *front;
@@ -62,14 +66,17 @@ void *memset(void *to, int byte, size_t count) {
 void *memmove(void *to, const void *from, size_t count) {
     unsigned char *out = to;
     const unsigned char *in = from;
-    if (out < in) while (count--) *out++ = *in++;
-    else while (count--) out[count] = in[count];
+    if (out < in)
+        while (count--) *out++ = *in++;
+    else
+        while (count--) out[count] = in[count];
     return to;
 }
 
 int memcmp(const void *one, const void *other, size_t count) {
     const unsigned char *a = one, *b = other;
-    for (; count--; a++, b++) if (*a != *b) return *a - *b;
+    for (; count--; a++, b++)
+        if (*a != *b) return *a - *b;
     return 0;
 }
 
@@ -77,14 +84,21 @@ int bcmp(const void *one, const void *other, size_t count) { return memcmp(one, 
 
 /* What clang calls for whole numbers of 16 bytes. */
 typedef unsigned __int128 wide;
-typedef union { wide whole; struct { unsigned long low, high; } parts; } pair;
+typedef union {
+    wide whole;
+    struct {
+        unsigned long low, high;
+    } parts;
+} pair;
 
 __int128 __multi3(__int128 one, __int128 other) {
     pair a = {.whole = (wide)one}, b = {.whole = (wide)other};
     const unsigned long half = 0xffffffff;
-    unsigned long a0 = a.parts.low & half, a1 = a.parts.low >> 32, b0 = b.parts.low & half, b1 = b.parts.low >> 32;
+    unsigned long a0 = a.parts.low & half, a1 = a.parts.low >> 32, b0 = b.parts.low & half,
+                  b1 = b.parts.low >> 32;
     unsigned long low = a0 * b0, middle = a1 * b0 + (low >> 32), more = a0 * b1 + (middle & half);
-    unsigned long high = a1 * b1 + (middle >> 32) + (more >> 32) + a.parts.high * b.parts.low + a.parts.low * b.parts.high;
+    unsigned long high = a1 * b1 + (middle >> 32) + (more >> 32) + a.parts.high * b.parts.low +
+                         a.parts.low * b.parts.high;
     pair product = {.parts = {(more << 32) | (low & half), high}};
     return (__int128)product.whole;
 }
@@ -92,7 +106,9 @@ __int128 __multi3(__int128 one, __int128 other) {
 __int128 __ashlti3(__int128 value, int count) {
     pair x = {.whole = (wide)value}, y;
     count &= 127;
-    y.parts.high = count == 0 ? x.parts.high : count < 64 ? x.parts.high << count | x.parts.low >> (64 - count) : x.parts.low << (count - 64);
+    y.parts.high = count == 0   ? x.parts.high
+                   : count < 64 ? x.parts.high << count | x.parts.low >> (64 - count)
+                                : x.parts.low << (count - 64);
     y.parts.low = count < 64 ? x.parts.low << count : 0;
     return (__int128)y.whole;
 }
@@ -100,7 +116,9 @@ __int128 __ashlti3(__int128 value, int count) {
 __int128 __lshrti3(__int128 value, int count) {
     pair x = {.whole = (wide)value}, y;
     count &= 127;
-    y.parts.low = count == 0 ? x.parts.low : count < 64 ? x.parts.low >> count | x.parts.high << (64 - count) : x.parts.high >> (count - 64);
+    y.parts.low = count == 0   ? x.parts.low
+                  : count < 64 ? x.parts.low >> count | x.parts.high << (64 - count)
+                               : x.parts.high >> (count - 64);
     y.parts.high = count < 64 ? x.parts.high >> count : 0;
     return (__int128)y.whole;
 }

@@ -11,11 +11,13 @@ static std::string write_wgsl(const std::string &json, uint32_t flags = 0) {
     std::string text(json.size() + 256, '\0');
     for (;;) {
         size_t needed = 0;
-        auto status = yorwethul_write(bytes, json.size(), flags, reinterpret_cast<uint8_t *>(&text[0]), text.size(), &needed);
+        auto status = yorwethul_write(bytes, json.size(), flags,
+                                      reinterpret_cast<uint8_t *>(&text[0]), text.size(), &needed);
         bool is_whole = needed <= text.size();
         text.resize(needed);
         if (!is_whole) continue;
-        if (status != YORWETHUL_DONE) throw std::runtime_error(text + " (status " + std::to_string(status) + ")");
+        if (status != YORWETHUL_DONE)
+            throw std::runtime_error(text + " (status " + std::to_string(status) + ")");
         return text;
     }
 }

@@ -1,14 +1,15 @@
-/* Calls the library in bulk, of which the answers must stay what they are, and of which nothing may be left:
+/* Calls the library in bulk, of which the answers must stay what they are, and of which nothing may
+ * be left:
  *
  *   hammer calls COUNT FILE..            so many calls, by turns
  *   hammer threads THREADS COUNT FILE..  so many calls on each of so many threads at once
  *   hammer refuse FILE..                 each allocation of each call refused in turn
  *   hammer cut COUNT FILE..              the front of each file, by so many lengths
  *   hammer flip SEED COUNT FILE..        each file so many times with one to three bytes changed
- *   hammer time FILE..                   microseconds a call, the least of several goes: to write, to check, and to parse alone
+ *   hammer time FILE..                   microseconds a call: to write, to check, to parse alone
  *
- * It is linked with -Wl,--wrap=malloc,--wrap=realloc,--wrap=free, so that what the library asks for is counted by thread.
- * Its status is 0 where all is as it must be. */
+ * It is linked with -Wl,--wrap=malloc,--wrap=realloc,--wrap=free, so that what the library asks for
+ * is counted by thread. Its status is 0 where all is as it must be. */
 #define _GNU_SOURCE
 #include <pthread.h>
 #include <stdio.h>
@@ -24,8 +25,9 @@ void *__real_malloc(size_t size);
 void *__real_realloc(void *block, size_t size);
 void __real_free(void *block);
 
-static _Thread_local int is_counted;                  /* during a call of the library */
-static _Thread_local long held, asked, refused_number; /* the allocation of this number is refused; 0: none */
+static _Thread_local int is_counted; /* during a call of the library */
+static _Thread_local long held, asked,
+    refused_number; /* the allocation of this number is refused; 0: none */
 
 static int is_refused(void) { return is_counted && ++asked == refused_number; }
 
@@ -36,7 +38,9 @@ void *__wrap_malloc(size_t size) {
     return block;
 }
 
-void *__wrap_realloc(void *block, size_t size) { return is_refused() ? NULL : __real_realloc(block, size); }
+void *__wrap_realloc(void *block, size_t size) {
+    return is_refused() ? NULL : __real_realloc(block, size);
+}
 
 void __wrap_free(void *block) {
     held -= is_counted && block;
@@ -53,12 +57,15 @@ struct answer {
     size_t needed;
 };
 
-static struct answer call(enum call which, const uint8_t *json, size_t length, uint8_t *out, size_t room) {
+static struct answer call(enum call which, const uint8_t *json, size_t length, uint8_t *out,
+                          size_t room) {
     struct answer it = {99, 77};
     is_counted = 1;
     switch (which) {
     case WRITE: it.status = yorwethul_write(json, length, 0, out, room, &it.needed); break;
-    case WRITE_EXPLICIT: it.status = yorwethul_write(json, length, YORWETHUL_EXPLICIT_TYPES, out, room, &it.needed); break;
+    case WRITE_EXPLICIT:
+        it.status = yorwethul_write(json, length, YORWETHUL_EXPLICIT_TYPES, out, room, &it.needed);
+        break;
     case CHECK: it.status = yorwethul_check(json, length, out, room, &it.needed); break;
     default: it.status = yorwethul_layout(json, length, out, room, &it.needed); break;
     }
@@ -80,7 +87,8 @@ static size_t room = 1 << 16; /* more than any text of these files */
 static long faults;
 
 static void fault(const char *what, const struct file *file, enum call which) {
-    if (__atomic_add_fetch(&faults, 1, __ATOMIC_SEQ_CST) <= 20) fprintf(stderr, "%s: %s of %s\n", what, names[which], file->name);
+    if (__atomic_add_fetch(&faults, 1, __ATOMIC_SEQ_CST) <= 20)
+        fprintf(stderr, "%s: %s of %s\n", what, names[which], file->name);
 }
 
 static void *memory(size_t size) {
@@ -94,7 +102,10 @@ static void load(char **words) {
         if (files_count == 256) exit(2);
         struct file *file = &files[files_count++];
         FILE *from = fopen(*words, "rb");
-        if (!from) { perror(*words); exit(2); }
+        if (!from) {
+            perror(*words);
+            exit(2);
+        }
         fseek(from, 0, SEEK_END);
         file->name = *words;
         file->length = (size_t)ftell(from);
@@ -109,13 +120,17 @@ static void load(char **words) {
             struct file *file = &files[i];
             file->texts[which] = memory(room);
             file->answers[which] = call(which, file->bytes, file->length, file->texts[which], room);
-            if (file->answers[which].needed > room) { fprintf(stderr, "%s: too long\n", file->name); exit(2); }
+            if (file->answers[which].needed > room) {
+                fprintf(stderr, "%s: too long\n", file->name);
+                exit(2);
+            }
         }
 }
 
 static int is_same(struct answer it, const uint8_t *out, const struct file *file, enum call which) {
     struct answer wanted = file->answers[which];
-    return it.status == wanted.status && it.needed == wanted.needed && !memcmp(out, file->texts[which], it.needed);
+    return it.status == wanted.status && it.needed == wanted.needed &&
+           !memcmp(out, file->texts[which], it.needed);
 }
 
 static void *many(void *count) {
@@ -125,7 +140,10 @@ static void *many(void *count) {
         const struct file *file = &files[i % files_count];
         struct answer it = call(which, file->bytes, file->length, out, room);
         if (!is_same(it, out, file, which)) fault("another answer", file, which);
-        if (held) { fault("memory is held", file, which); held = 0; }
+        if (held) {
+            fault("memory is held", file, which);
+            held = 0;
+        }
     }
     free(out);
     return NULL;
@@ -146,7 +164,10 @@ static void calls(long count) {
     many((void *)count);
     long after = resident();
     printf("%ld calls, %ld kB before and %ld after\n", count, before, after);
-    if (after > before + 1024) { fprintf(stderr, "memory grows\n"); faults++; }
+    if (after > before + 1024) {
+        fprintf(stderr, "memory grows\n");
+        faults++;
+    }
 }
 
 static void threads(int number, long count) {
@@ -158,8 +179,9 @@ static void threads(int number, long count) {
     printf("%ld calls on each of %d threads\n", count, number);
 }
 
-/* What a call answers of which one allocation was refused: that memory was, with no text. Nothing is held after it, and the
- * memory for the text is as it was. A call that does without that allocation answers as ever. */
+/* What a call answers of which one allocation was refused: that memory was, with no text. Nothing
+ * is held after it, and the memory for the text is as it was. A call that does without that
+ * allocation answers as ever. */
 static void refuse(void) {
     uint8_t *out = memory(room), *before = memory(room);
     long refusals = 0, done_without = 0;
@@ -176,10 +198,15 @@ static void refuse(void) {
                 struct answer it = call(which, file->bytes, file->length, out, room);
                 refused_number = 0;
                 int is_told = it.status == YORWETHUL_OUT_OF_MEMORY && it.needed == 0;
-                if (is_told && memcmp(out, before, room)) fault("bytes are written of a refused call", file, which);
-                if (!is_told && !is_same(it, out, file, which)) fault("a refused allocation isn't told", file, which);
+                if (is_told && memcmp(out, before, room))
+                    fault("bytes are written of a refused call", file, which);
+                if (!is_told && !is_same(it, out, file, which))
+                    fault("a refused allocation isn't told", file, which);
                 done_without += !is_told;
-                if (held) { fault("memory is held", file, which); held = 0; }
+                if (held) {
+                    fault("memory is held", file, which);
+                    held = 0;
+                }
             }
         }
     printf("%ld allocations refused in turn; %ld calls did without\n", refusals, done_without);
@@ -189,18 +216,28 @@ static void refuse(void) {
 
 static long by_status[8], inputs;
 
-/* The calls with bytes in a block of just their length, so that valgrind sees a byte too far. Any status that there is will do;
- * the bytes behind the text, or all where there is no room, are as they were. */
-static void hostile(const uint8_t *bytes, size_t length, const struct file *file, uint8_t *out, size_t small) {
+/* The calls with bytes in a block of just their length, so that valgrind sees a byte too far. Any
+ * status that there is will do; the bytes after the text, or all where there is no room, are as
+ * they were. */
+static void hostile(const uint8_t *bytes, size_t length, const struct file *file, uint8_t *out,
+                    size_t small) {
     uint8_t *copy = memory(length);
     memcpy(copy, bytes, length);
     for (enum call which = 0; which < CALLS; which++) {
         memset(out, 0xa5, small);
         struct answer it = call(which, copy, length, out, small);
-        if (it.status > YORWETHUL_TOO_LONG || it.status == YORWETHUL_UNKNOWN_FLAG || it.status == YORWETHUL_OUT_OF_MEMORY) fault("an odd status", file, which);
+        if (it.status > YORWETHUL_TOO_LONG || it.status == YORWETHUL_UNKNOWN_FLAG ||
+            it.status == YORWETHUL_OUT_OF_MEMORY)
+            fault("an odd status", file, which);
         for (size_t at = it.needed <= small ? it.needed : 0; at < small; at++)
-            if (out[at] != 0xa5) { fault("a byte that is not of the text is written", file, which); break; }
-        if (held) { fault("memory is held", file, which); held = 0; }
+            if (out[at] != 0xa5) {
+                fault("a byte that is not of the text is written", file, which);
+                break;
+            }
+        if (held) {
+            fault("memory is held", file, which);
+            held = 0;
+        }
         if (which == WRITE) by_status[it.status & 7]++;
     }
     inputs++;
@@ -208,8 +245,11 @@ static void hostile(const uint8_t *bytes, size_t length, const struct file *file
 }
 
 static void tell_hostile(void) {
-    printf("%ld hostile inputs: %ld written, %ld refused, %ld not accepted, %ld no module, %ld too deep, %ld too long\n", inputs, by_status[YORWETHUL_DONE],
-           by_status[YORWETHUL_REFUSED], by_status[YORWETHUL_NOT_ACCEPTED], by_status[YORWETHUL_NO_MODULE], by_status[YORWETHUL_TOO_DEEP], by_status[YORWETHUL_TOO_LONG]);
+    printf("%ld hostile inputs: %ld written, %ld refused, %ld not accepted, %ld no module, %ld too "
+           "deep, %ld too long\n",
+           inputs, by_status[YORWETHUL_DONE], by_status[YORWETHUL_REFUSED],
+           by_status[YORWETHUL_NOT_ACCEPTED], by_status[YORWETHUL_NO_MODULE],
+           by_status[YORWETHUL_TOO_DEEP], by_status[YORWETHUL_TOO_LONG]);
 }
 
 static void cut(long count) {
@@ -217,7 +257,8 @@ static void cut(long count) {
     for (int i = 0; i < files_count; i++) {
         long lengths = count < (long)files[i].length ? count : (long)files[i].length;
         for (long j = 0; j < lengths; j++)
-            hostile(files[i].bytes, files[i].length * (size_t)j / (size_t)lengths, &files[i], out, 1024);
+            hostile(files[i].bytes, files[i].length * (size_t)j / (size_t)lengths, &files[i], out,
+                    1024);
     }
     tell_hostile();
     free(out);
@@ -236,7 +277,7 @@ static void flip(unsigned seed, long count) {
                 case 1: bytes[at] = (uint8_t) "0123456789-[]{},\"e."[rand_r(&seed) % 19]; break;
                 case 2: bytes[at] = file->bytes[(size_t)rand_r(&seed) % file->length]; break;
                 case 3: bytes[at] ^= (uint8_t)(1 << rand_r(&seed) % 8); break;
-                default: /* another digit, so that the JSON stands: another handle, number or flag */
+                default: /* another digit: another handle, number or flag in JSON that stands */
                     while (at < file->length && (bytes[at] < '0' || bytes[at] > '9')) at++;
                     if (at < file->length) bytes[at] = (uint8_t)('0' + rand_r(&seed) % 10);
                 }
@@ -271,7 +312,8 @@ static double least(enum call which, const struct file *file, uint8_t *out) {
     return best;
 }
 
-/* The file in a list: that is no object, which is told once all is parsed. So it takes what the parser of JSON takes alone. */
+/* The file in a list: that is no object, which is told once all is parsed. So it takes what the
+ * parser of JSON takes alone. */
 static struct file in_a_list(const struct file *file) {
     struct file list = *file;
     list.length = file->length + 2;
@@ -286,8 +328,10 @@ static void tell_times(void) {
     uint8_t *out = memory(room);
     for (int i = 0; i < files_count; i++) {
         struct file list = in_a_list(&files[i]);
-        printf("%s: %zu bytes, text %zu: write %.1f us, check %.1f us, parse %.1f us\n", files[i].name, files[i].length, files[i].answers[WRITE].needed,
-               least(WRITE, &files[i], out), least(CHECK, &files[i], out), least(CHECK, &list, out));
+        printf("%s: %zu bytes, text %zu: write %.1f us, check %.1f us, parse %.1f us\n",
+               files[i].name, files[i].length, files[i].answers[WRITE].needed,
+               least(WRITE, &files[i], out), least(CHECK, &files[i], out),
+               least(CHECK, &list, out));
         free(list.bytes);
     }
     free(out);
@@ -296,11 +340,16 @@ static void tell_times(void) {
 int main(int count, char **words) {
     const char *mode = count > 2 ? words[1] : "";
     if (!strcmp(mode, "calls") && count > 3) load(words + 3), calls(atol(words[2]));
-    else if (!strcmp(mode, "threads") && count > 4) load(words + 4), threads(atoi(words[2]), atol(words[3]));
+    else if (!strcmp(mode, "threads") && count > 4)
+        load(words + 4), threads(atoi(words[2]), atol(words[3]));
     else if (!strcmp(mode, "refuse")) load(words + 2), refuse();
     else if (!strcmp(mode, "cut") && count > 3) load(words + 3), cut(atol(words[2]));
-    else if (!strcmp(mode, "flip") && count > 4) load(words + 4), flip((unsigned)atol(words[2]), atol(words[3]));
+    else if (!strcmp(mode, "flip") && count > 4)
+        load(words + 4), flip((unsigned)atol(words[2]), atol(words[3]));
     else if (!strcmp(mode, "time")) load(words + 2), tell_times();
-    else { fputs("which words? see the top of hammer.c\n", stderr); return 2; }
+    else {
+        fputs("which words? see the top of hammer.c\n", stderr);
+        return 2;
+    }
     return faults ? 1 : 0;
 }
