@@ -379,8 +379,8 @@ def library_tests(is_whole):
         yield "valgrind", test_valgrind, ["cc"]
     else:
         yield "the hammer", test_hammer, ["cc"]
-    yield "the Rust crate", test_rust, ["cargo"]
-    yield "the Rust crate for naga", test_rust_naga, ["cargo"]
+    yield "the Rust crate", test_rust, ["cargo", "cc"]
+    yield "the Rust crate for naga", test_rust_naga, ["cargo", "cc"]
 
 
 def main():
