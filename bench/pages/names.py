@@ -26,7 +26,7 @@ ANY = re.compile(r"\b(?:NAME|WHAT|PATH)\b")
 
 def files():
     """The files of the tree that names may stand in."""
-    for folder in ("crates", "bench", "examples", "scripts"):
+    for folder in ("crates", "bench", "bindings", "examples", "scripts", "web"):
         for path in sorted((TOP / folder).rglob("*")):
             parts = path.relative_to(TOP).parts
             if path.is_file() and "out" not in parts and "__pycache__" not in parts:

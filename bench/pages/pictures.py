@@ -61,6 +61,7 @@ LAYERS = [
     ]),
     ("programs", CODE, [
         ("yorwethul", "reads JSON"),
+        ("yorwethul_c", "calls from C"),
         ("wgsl_rows", "samples"),
     ]),
     ("examples", CODE, [

@@ -1,0 +1,150 @@
+#!/usr/bin/env python3
+"""Says where yorwethul.h, the exports of crates/yorwethul_c and the bindings differ.
+
+It compares the calls with their parameters, the statuses and flags with their numbers, the version and the longest text. Where
+it finds nothing it is quiet, and its status is 0. It reads sources alone. Run it from anywhere.
+"""
+
+import re
+import sys
+from pathlib import Path
+
+BINDINGS = Path(__file__).resolve().parent.parent
+TOP = BINDINGS.parent
+CRATE = TOP / "crates/yorwethul_c/src"
+RUST = BINDINGS / "rust"
+
+# How a parameter of an export is declared in C; a Global has no bytes.
+IN_C = {
+    "Global": [],
+    "&[u8]": ["const uint8_t *", "size_t"],
+    "&mut [u8]": ["uint8_t *", "size_t"],
+    "&mut usize": ["size_t *"],
+    "u32": ["uint32_t"],
+}
+# How Rust declares it.
+IN_RUST = {
+    "const uint8_t *": "*const u8",
+    "uint8_t *": "*mut u8",
+    "size_t": "usize",
+    "size_t *": "*mut usize",
+    "uint32_t": "u32",
+}
+
+
+def main():
+    header = re.sub(r"/\*.*?\*/", "", (BINDINGS / "c/yorwethul.h").read_text(), flags=re.DOTALL)
+    faults = [
+        *differences("yorwethul.h", declared(header), "crates/yorwethul_c", exported()),
+        *differences("yorwethul.h", numbers_of_header(header), "crates/yorwethul_c", numbers_of_crate()),
+        *differences("yorwethul.h", in_rust(declared(header)), "bindings/rust", declared_in_rust()),
+        *rust_numbers_differ(numbers_of_header(header)),
+        *page_differs(numbers_of_header(header)),
+        *versions_differ(numbers_of_header(header)["VERSION"]),
+    ]
+    for fault in faults:
+        print(fault)
+    sys.exit(1 if faults else 0)
+
+
+def differences(here, ours, there, theirs):
+    """Where two tables differ."""
+    return [
+        f"{name}: {ours.get(name, 'nothing')} in {here}, {theirs.get(name, 'nothing')} in {there}"
+        for name in sorted({*ours, *theirs})
+        if ours.get(name) != theirs.get(name)
+    ]
+
+
+# ---- calls
+
+
+def declared(header):
+    """Each call of the header with its parameters: names and types."""
+    calls = re.findall(r"uint32_t (yorwethul_\w+)\(([^)]*)\);", header)
+    return {name: [parameter(part) for part in parts.split(",") if part.strip() != "void"] for name, parts in calls}
+
+
+def parameter(text):
+    """The name of a parameter and its type."""
+    words = re.fullmatch(r"\s*(.*?)(\w+)\s*", text, re.DOTALL)
+    return words[2], " ".join(words[1].split())
+
+
+def exported():
+    """The calls that the crate exports. A slice is a pointer and a length."""
+    source = (CRATE / "lib.rt").read_text()
+    exports = re.findall(r'#\[unsafe\(no_mangle\)\]\npub extern "C" fn (\w+)\(([^)]*)\) -> u32', source)
+    return {name: [each for part in parts.split(",") if part.strip() for each in in_c(part)] for name, parts in exports}
+
+
+def in_c(part):
+    """What an export's parameter is in C."""
+    name, kind = (word.strip() for word in part.split(":"))
+    return [(each, ty) for each, ty in zip((name, f"{name}_length"), IN_C[kind])]
+
+
+def declared_in_rust():
+    """The calls that the Rust crate declares."""
+    source = (RUST / "src/sys.rs").read_text()
+    calls = re.findall(r"pub fn (\w+)\(([^)]*)\) -> u32;", source)
+    return {name: [tuple(word.strip() for word in part.split(":")) for part in parts.split(",") if part.strip()] for name, parts in calls}
+
+
+def in_rust(calls):
+    """The calls of the header as Rust declares them."""
+    return {name: [(each, IN_RUST[ty]) for each, ty in parts] for name, parts in calls.items()}
+
+
+# ---- numbers
+
+
+def numbers_of_header(header):
+    told = re.findall(r"YORWETHUL_(\w+) = (\d+)", header) + re.findall(r"#define YORWETHUL_(\w+) (\d+)u", header)
+    return {name: int(number) for name, number in told}
+
+
+def numbers_of_crate():
+    told = dict(re.findall(r"Status::(\w+) => (\d+),", (CRATE / "status.rt").read_text()))
+    numbers = {re.sub(r"(?<=.)(?=[A-Z])", "_", name).upper(): int(number) for name, number in told.items()}
+    answers = (CRATE / "answers.rt").read_text()
+    numbers["VERSION"] = int(re.search(r"fn yorwethul_version.*?\{\n    ([\d_]+)\n\}", (CRATE / "lib.rt").read_text(), re.DOTALL)[1])
+    numbers["LONGEST_TEXT"] = int(re.search(r"LONGEST_TEXT: usize = ([\d_]+);", answers)[1])
+    numbers["EXPLICIT_TYPES"] = int(re.search(r"flags_for\(flags == (\d+)\)", answers)[1])
+    return numbers
+
+
+def rust_numbers_differ(wanted):
+    """Where a constant of the Rust crate has another number. An unknown flag can't come there."""
+    told = re.findall(r"pub const (\w+): u32 = (\d+);", (RUST / "src/sys.rs").read_text())
+    left_out = {"UNKNOWN_FLAG", "VERSION", "LONGEST_TEXT"}
+    ours = {name: number for name, number in wanted.items() if name not in left_out}
+    return differences("yorwethul.h", ours, "bindings/rust", {name: int(number) for name, number in told})
+
+
+def page_differs(wanted):
+    """Where the page in web/ names another status, by its place in a list."""
+    told = re.search(r"const statuses = \[(.*?)\];", (TOP / "web/index.html").read_text())[1]
+    names = [name.upper().replace(" ", "_") for name in re.findall(r'"([^"]*)"', told)]
+    statuses = {name: number for name, number in wanted.items() if name not in ("VERSION", "LONGEST_TEXT", "EXPLICIT_TYPES")}
+    return differences("yorwethul.h", statuses, "web/index.html", {name: number for number, name in enumerate(names)})
+
+
+def versions_differ(number):
+    """Where another version than the header's is told."""
+    wanted = f"{number // 1_000_000}.{number // 1_000 % 1_000}.{number % 1_000}"
+    told = {
+        RUST / "Cargo.toml": r'(?m)^version = "(.*)"',
+        BINDINGS / "c/yorwethul.pc": r"(?m)^Version: (.*)",
+        BINDINGS / "c/yorwethul-config-version.cmake": r"PACKAGE_VERSION (\d.*)\)",
+        BINDINGS / "c/yorwethul.h": r"/\* (\d\S*); yorwethul_version",
+    }
+    found = {path: re.search(pattern, path.read_text()) for path, pattern in told.items()}
+    return [
+        f"{path.relative_to(TOP)}: version {match[1] if match else 'not told'}, by yorwethul.h {wanted}"
+        for path, match in found.items()
+        if not match or match[1] != wanted
+    ]
+
+
+main()

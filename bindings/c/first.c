@@ -1,0 +1,32 @@
+/* first FILE [explicit]: prints the text of a module. */
+#include <stdio.h>
+#include <stdlib.h>
+#include <string.h>
+#include "yorwethul.h"
+
+int main(int count, char **words) {
+    FILE *file = count > 1 ? fopen(words[1], "rb") : stdin;
+    if (!file) { perror(words[1]); return 2; }
+    size_t room = 1 << 16, length = 0, got;
+    uint8_t *json = malloc(room);
+    while (json && (got = fread(json + length, 1, room - length, file)) > 0)
+        if ((length += got) == room) json = realloc(json, room *= 2);
+    if (!json) return 2;
+    uint32_t flags = count > 2 && !strcmp(words[2], "explicit") ? YORWETHUL_EXPLICIT_TYPES : 0;
+    /* a text is nearly always shorter than its JSON, so that one call is enough */
+    size_t out_length = length + 256, needed;
+    uint8_t *out = malloc(out_length);
+    uint32_t status = YORWETHUL_OUT_OF_MEMORY;
+    while (out) {
+        status = yorwethul_write(json, length, flags, out, out_length, &needed);
+        if (needed <= out_length) break;
+        free(out);
+        out = malloc(out_length = needed);
+    }
+    if (!out || status == YORWETHUL_OUT_OF_MEMORY) { fputs("out of memory\n", stderr); return 2; }
+    fwrite(out, 1, needed, status == YORWETHUL_DONE ? stdout : stderr);
+    if (status != YORWETHUL_DONE) fprintf(stderr, " (status %u)\n", (unsigned)status);
+    free(out);
+    free(json);
+    return status != YORWETHUL_DONE;
+}

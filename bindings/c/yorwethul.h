@@ -1,0 +1,50 @@
+/* Yorwethul: WGSL from modules of naga's intermediate representation. docs/LIBRARY.md tells more.
+ *
+ * The JSON is naga 30's own, {"module": .., "info": ..}, as docs/JSON.md has it. Calls may be made from several
+ * threads at once. Nothing is kept between calls, and nothing has to be freed.
+ */
+#ifndef YORWETHUL_H
+#define YORWETHUL_H
+#include <stddef.h>
+#include <stdint.h>
+#ifdef __cplusplus
+extern "C" {
+#endif
+
+#define YORWETHUL_VERSION 1000u /* 0.1.0; yorwethul_version() tells that of the library */
+
+/* what a call gives */
+enum yorwethul_status {
+    YORWETHUL_DONE = 0,          /* out has what was asked for: WGSL, layouts, or nothing of yorwethul_check */
+    YORWETHUL_REFUSED = 1,       /* the module is accepted, and refused: "float literal" */
+    YORWETHUL_NOT_ACCEPTED = 2,  /* it is not accepted: "module.functions[0].expressions[3]: .." */
+    YORWETHUL_NO_MODULE = 3,     /* the bytes hold none; out tells where and why */
+    YORWETHUL_UNKNOWN_FLAG = 4,  /* a bit is set that no flag has */
+    YORWETHUL_OUT_OF_MEMORY = 5, /* memory was refused; *needed is 0 */
+    YORWETHUL_TOO_DEEP = 6,      /* lists and objects of the JSON nest more than 127 deep */
+    YORWETHUL_TOO_LONG = 7       /* the text would have more than YORWETHUL_LONGEST_TEXT bytes */
+};
+
+#define YORWETHUL_LONGEST_TEXT 67108864u
+
+/* flags */
+#define YORWETHUL_EXPLICIT_TYPES 1u /* each `let` tells its type */
+
+/* Each call gives a status. *needed is how many bytes its text has: what was asked for, or why it is not there, in
+ * UTF-8, with no 0 after it. If out_length is enough for it, the text stands at the front of out. Else out is as it
+ * was: call again with *needed bytes. No pointer may be null, not even with a length of 0, and out and needed lie
+ * over nothing else. */
+uint32_t yorwethul_write(const uint8_t *json, size_t json_length, uint32_t flags,
+                         uint8_t *out, size_t out_length, size_t *needed);
+uint32_t yorwethul_check(const uint8_t *json, size_t json_length,
+                         uint8_t *out, size_t out_length, size_t *needed);
+uint32_t yorwethul_layout(const uint8_t *json, size_t json_length,
+                          uint8_t *out, size_t out_length, size_t *needed);
+
+/* a million times the first number, a thousand times the second, and the third */
+uint32_t yorwethul_version(void);
+
+#ifdef __cplusplus
+}
+#endif
+#endif

@@ -1,0 +1,37 @@
+#!/usr/bin/env python3
+"""first.py LIBRARY FILE [explicit]: prints the text of a module, by the calls of LIBRARY, a libyorwethul.so."""
+
+import ctypes
+import sys
+from pathlib import Path
+
+DONE = 0
+EXPLICIT_TYPES = 1
+
+
+class Yorwethul:
+    def __init__(self, library):
+        self.calls = ctypes.CDLL(library)
+        text = [ctypes.c_char_p, ctypes.c_size_t, ctypes.POINTER(ctypes.c_size_t)]
+        self.calls.yorwethul_write.argtypes = [ctypes.c_char_p, ctypes.c_size_t, ctypes.c_uint32, *text]
+        self.calls.yorwethul_write.restype = ctypes.c_uint32
+
+    def write(self, json, flags=0):
+        """The status and the text of a module, whose JSON is given as bytes."""
+        needed = ctypes.c_size_t(len(json) + 256)
+        while True:
+            out = ctypes.create_string_buffer(needed.value or 1)
+            status = self.calls.yorwethul_write(json, len(json), flags, out, len(out), needed)
+            if needed.value <= len(out):
+                return status, out.raw[:needed.value].decode()
+
+
+def main():
+    library, file, *explicit = sys.argv[1:]
+    status, text = Yorwethul(library).write(Path(file).read_bytes(), EXPLICIT_TYPES if explicit else 0)
+    (sys.stdout if status == DONE else sys.stderr).write(text if status == DONE else f"{text} (status {status})\n")
+    sys.exit(status != DONE)
+
+
+if __name__ == "__main__":
+    main()

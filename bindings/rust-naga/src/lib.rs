@@ -1,0 +1,109 @@
+//! WGSL from naga's own modules, by [Yorwethul](yorwethul)'s writer: [`write`] stands where
+//! `naga::back::wgsl::write_string` would.
+//!
+//! ```no_run
+//! # fn shader() -> naga::Module { naga::Module::default() }
+//! use naga::valid::{Capabilities, ValidationFlags, Validator};
+//!
+//! let module = shader();
+//! let info = Validator::new(ValidationFlags::all(), Capabilities::all()).validate(&module).unwrap();
+//! let text = yorwethul_naga::write(&module, &info, yorwethul_naga::Flags::empty())?;
+//! # Ok::<(), yorwethul_naga::Error>(())
+//! ```
+//!
+//! Module and info go to the writer as JSON, through naga's `serde` forms. All of the module is told,
+//! so that what Yorwethul doesn't know is refused and not lost; of the info only the types of
+//! expressions, which is all that is asked of it.
+#![warn(missing_docs)]
+#![forbid(unsafe_code)]
+
+mod known;
+mod text;
+
+pub use yorwethul::{self, Flags};
+
+use known::Known;
+use naga::valid::ModuleInfo;
+use naga::Module;
+use std::fmt;
+
+/// A module with a longer JSON goes to a thread of its own, since deep operands take stack by the
+/// length of the JSON. A shorter one takes at most 640 KiB of the caller's.
+const LONGEST_HERE: usize = 64 << 10;
+
+/// Why there is no text.
+#[derive(Clone, Debug, PartialEq, Eq)]
+#[non_exhaustive]
+pub enum Error {
+    /// Yorwethul has none.
+    Yorwethul(yorwethul::Error),
+    /// The module has something that can't be told as JSON.
+    Untold(String),
+}
+
+impl Error {
+    /// The construct for which the module is refused.
+    pub fn construct(&self) -> Option<&str> {
+        match self {
+            Error::Yorwethul(error) => error.construct(),
+            Error::Untold(_) => None,
+        }
+    }
+}
+
+impl fmt::Display for Error {
+    fn fmt(&self, f: &mut fmt::Formatter<'_>) -> fmt::Result {
+        match self {
+            Error::Yorwethul(error) => error.fmt(f),
+            Error::Untold(why) => write!(f, "not told as JSON: {why}"),
+        }
+    }
+}
+
+impl std::error::Error for Error {
+    fn source(&self) -> Option<&(dyn std::error::Error + 'static)> {
+        match self {
+            Error::Yorwethul(error) => Some(error),
+            Error::Untold(_) => None,
+        }
+    }
+}
+
+impl From<yorwethul::Error> for Error {
+    fn from(error: yorwethul::Error) -> Error {
+        Error::Yorwethul(error)
+    }
+}
+
+/// Writes a module as WGSL.
+///
+/// # Panics
+///
+/// Where the info is that of a module with fewer functions, entry points or expressions, as naga's own
+/// index into it does.
+pub fn write(module: &Module, info: &ModuleInfo, flags: Flags) -> Result<String, Error> {
+    let json = json(module, info)?;
+    Ok(if json.len() <= LONGEST_HERE {
+        yorwethul::write_json(&json, flags)?
+    } else {
+        yorwethul::write_json_on_thread(&json, flags)?
+    })
+}
+
+/// Tells where the members of the module's structs stand in memory.
+///
+/// # Panics
+///
+/// As [`write`].
+pub fn layout(module: &Module, info: &ModuleInfo) -> Result<String, Error> {
+    Ok(yorwethul::layout_json(&json(module, info)?)?)
+}
+
+/// Module and info as JSON, for Yorwethul's other calls or its program.
+///
+/// # Panics
+///
+/// As [`write`].
+pub fn json(module: &Module, info: &ModuleInfo) -> Result<String, Error> {
+    text::to_json(&Known(module, info)).map_err(|error| Error::Untold(error.to_string()))
+}

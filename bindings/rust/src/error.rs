@@ -1,0 +1,86 @@
+use alloc::string::String;
+use core::fmt;
+
+/// Why there is no text.
+#[derive(Clone, Debug, PartialEq, Eq)]
+#[non_exhaustive]
+pub enum Error {
+    /// The module is accepted, and has a construct that is not written.
+    #[non_exhaustive]
+    Refused {
+        /// The construct: `float literal`.
+        construct: String,
+    },
+    /// The module is not accepted with what is known of it.
+    #[non_exhaustive]
+    NotAccepted {
+        /// Where: `module.functions[0].expressions[3]`, or `module.functions[0], statement 3`.
+        place: String,
+        /// What is wrong there.
+        fault: String,
+    },
+    /// The JSON holds no module.
+    #[non_exhaustive]
+    NoModule {
+        /// Where: `module.functions[2].expressions[7].Binary.left`. It is empty where the text is
+        /// no JSON, or is nothing like a module as a whole.
+        place: String,
+        /// Why: `no number`, or `no JSON at line 1, column 0`.
+        problem: String,
+    },
+    /// Memory was refused.
+    OutOfMemory,
+    /// Lists and objects of the JSON nest more than 127 deep.
+    TooDeep,
+    /// The text would have more than 64 MiB.
+    TooLong,
+    /// No thread could be started.
+    #[cfg(feature = "std")]
+    Thread(std::io::ErrorKind),
+    /// The archive that was linked gives a status that this crate does not know, or a text that is
+    /// not UTF-8. It is of another version.
+    Unknown(u32),
+}
+
+impl Error {
+    /// The construct for which the module is refused.
+    pub fn construct(&self) -> Option<&str> {
+        match self {
+            Error::Refused { construct } => Some(construct),
+            _ => None,
+        }
+    }
+
+    /// The place in the JSON, where one is told.
+    pub fn place(&self) -> Option<&str> {
+        match self {
+            Error::NotAccepted { place, .. } | Error::NoModule { place, .. } => Some(place)
+                .filter(|place| !place.is_empty())
+                .map(String::as_str),
+            _ => None,
+        }
+    }
+}
+
+impl fmt::Display for Error {
+    fn fmt(&self, f: &mut fmt::Formatter<'_>) -> fmt::Result {
+        match self {
+            Error::Refused { construct } => write!(f, "refused: {construct}"),
+            Error::NotAccepted { place, fault } => write!(f, "not accepted: {place}: {fault}"),
+            Error::NoModule { place, problem } if place.is_empty() => {
+                write!(f, "no module: {problem}")
+            }
+            Error::NoModule { place, problem } => write!(f, "no module: {place}: {problem}"),
+            Error::OutOfMemory => f.write_str("out of memory"),
+            Error::TooDeep => f.write_str("lists and objects nest more than 127 deep"),
+            Error::TooLong => f.write_str("text of more than 64 MiB"),
+            #[cfg(feature = "std")]
+            Error::Thread(kind) => write!(f, "no thread could be started: {kind}"),
+            Error::Unknown(status) => {
+                write!(f, "unknown answer of libyorwethul.a, status {status}")
+            }
+        }
+    }
+}
+
+impl core::error::Error for Error {}

@@ -1,0 +1,222 @@
+//! WGSL from modules of [naga]'s intermediate representation, by a writer that is proved faithful.
+//!
+//! [`write_json`] takes what `serde` writes of a module of naga 30 and of what its validator found
+//! out. Of the info only the types of expressions are needed:
+//!
+//! ```
+//! let json = r#"{
+//!     "module": {
+//!         "types": [{"inner": {"Scalar": {"kind": "Sint", "width": 4}}}],
+//!         "functions": [{
+//!             "name": "double", "arguments": [{"name": "x", "ty": 0}], "result": {"ty": 0},
+//!             "expressions": [
+//!                 {"FunctionArgument": 0}, {"Binary": {"op": "Add", "left": 0, "right": 0}}],
+//!             "body": [{"Emit": {"start": 1, "end": 2}}, {"Return": {"value": 1}}]
+//!         }]
+//!     },
+//!     "info": {"functions": [[0, 0]]}
+//! }"#;
+//! let text = yorwethul::write_json(json, yorwethul::Flags::empty())?;
+//! assert_eq!(text, "fn double(x: i32) -> i32 {\n    return (x + x);\n}\n\n");
+//! # Ok::<(), yorwethul::Error>(())
+//! ```
+//!
+//! The crate `yorwethul-naga` takes a `naga::Module` with its `ModuleInfo`.
+//!
+//! # What is proved
+//!
+//! The archive is a library in Rattle, Rust with contracts, in which every function is proved: each
+//! call ends, keeps to its memory, and gives a text that does what the module does, or one of the
+//! errors. That the module is what the JSON says is tested and not proved, and so is this crate,
+//! which is Rust. Its page is `docs/LIBRARY.md` in Yorwethul's repository.
+//!
+//! # The stack
+//!
+//! A call takes some 128 KiB of stack, and up to 8 bytes more for each byte of the JSON where
+//! operands stand deep in one another. For JSON of whatever origin call [`write_json_on_thread`],
+//! or call on a thread that has [`stack_size`] bytes.
+//!
+//! # Without std
+//!
+//! Without the feature `std` the crate wants `alloc` alone, and the archive the functions `malloc`,
+//! `realloc`, `free`, `memcpy`, `memmove`, `memset` and `bcmp` of C.
+//!
+//! [naga]: https://docs.rs/naga
+
+#![no_std]
+#![warn(missing_docs)]
+
+extern crate alloc;
+#[cfg(feature = "std")]
+extern crate std;
+
+mod error;
+mod flags;
+mod sys;
+#[cfg(test)]
+mod tests;
+
+pub use error::Error;
+pub use flags::Flags;
+
+use alloc::string::String;
+use alloc::vec::Vec;
+
+/// Writes the module that the JSON holds, `{"module": .., "info": ..}`, as WGSL.
+///
+/// Deep operands take much stack: see [`write_json_on_thread`].
+pub fn write_json(json: &str, flags: Flags) -> Result<String, Error> {
+    text_of(json.len(), |out, needed| {
+        // SAFETY: `json`, `out` and `needed` are references, so that none is null and nothing else
+        // reaches what `out` and `needed` lead to meanwhile; the lengths are theirs. The library
+        // writes bytes to `out` alone.
+        unsafe {
+            sys::yorwethul_write(
+                json.as_ptr(),
+                json.len(),
+                flags.bits(),
+                out.as_mut_ptr(),
+                out.len(),
+                needed,
+            )
+        }
+    })
+}
+
+/// Says whether the module that the JSON holds is accepted: `Ok`, or [`Error::NotAccepted`].
+///
+/// ```
+/// let json = r#"{"module": {}, "info": {"functions": [[0]]}}"#;
+/// let error = yorwethul::check_json(json).unwrap_err();
+/// assert_eq!(error.place(), Some("module"));
+/// assert_eq!(yorwethul::check_json(r#"{"module": {}, "info": {}}"#), Ok(()));
+/// ```
+pub fn check_json(json: &str) -> Result<(), Error> {
+    let text = text_of(0, |out, needed| {
+        // SAFETY: as in `write_json`.
+        unsafe {
+            sys::yorwethul_check(
+                json.as_ptr(),
+                json.len(),
+                out.as_mut_ptr(),
+                out.len(),
+                needed,
+            )
+        }
+    });
+    text.map(drop)
+}
+
+/// Tells where the members of the module's structs stand in memory, a line for each struct and each
+/// member.
+///
+/// ```
+/// let json = r#"{
+///     "module": {"types": [
+///         {"inner": {"Scalar": {"kind": "Uint", "width": 4}}},
+///         {"name": "Count", "inner": {"Struct": {"span": 4, "members": [
+///             {"name": "value", "ty": 0, "offset": 0}]}}}
+///     ]},
+///     "info": {}
+/// }"#;
+/// let told = yorwethul::layout_json(json)?;
+/// assert_eq!(told, "struct Count: align 4, size 4\n    value: offset 0, align 4, size 4\n");
+/// # Ok::<(), yorwethul::Error>(())
+/// ```
+pub fn layout_json(json: &str) -> Result<String, Error> {
+    text_of(json.len(), |out, needed| {
+        // SAFETY: as in `write_json`.
+        unsafe {
+            sys::yorwethul_layout(
+                json.as_ptr(),
+                json.len(),
+                out.as_mut_ptr(),
+                out.len(),
+                needed,
+            )
+        }
+    })
+}
+
+/// [`write_json`] on a thread of its own, whose stack is enough for the JSON.
+#[cfg(feature = "std")]
+pub fn write_json_on_thread(json: &str, flags: Flags) -> Result<String, Error> {
+    use std::thread::{scope, Builder};
+    scope(|scope| {
+        let thread = Builder::new()
+            .name("yorwethul".into())
+            .stack_size(stack_size(json))
+            .spawn_scoped(scope, || write_json(json, flags))
+            .map_err(|error| Error::Thread(error.kind()))?;
+        // what panicked there goes on here
+        thread
+            .join()
+            .unwrap_or_else(|panic| std::panic::resume_unwind(panic))
+    })
+}
+
+/// How many bytes of stack are enough for a call with this JSON.
+pub const fn stack_size(json: &str) -> usize {
+    json.len().saturating_mul(8).saturating_add(256 << 10)
+}
+
+/// The version of the archive: a million times the first number, a thousand times the second, and
+/// the third.
+pub fn library_version() -> u32 {
+    // SAFETY: it takes nothing.
+    unsafe { sys::yorwethul_version() }
+}
+
+/// The text of a call, which puts it into the memory that it is given, tells its length, and gives
+/// a status. It is called again where it told a greater length.
+fn text_of(guess: usize, call: impl Fn(&mut [u8], &mut usize) -> u32) -> Result<String, Error> {
+    let mut length = guess.max(256);
+    loop {
+        let mut out = memory(length)?;
+        let mut needed = 0;
+        let status = call(&mut out, &mut needed);
+        if needed <= out.len() {
+            out.truncate(needed);
+            out.shrink_to_fit();
+            let text = String::from_utf8(out).map_err(|_| Error::Unknown(status))?;
+            return answer(status, text);
+        }
+        length = needed;
+    }
+}
+
+/// So many bytes.
+fn memory(length: usize) -> Result<Vec<u8>, Error> {
+    let mut out = Vec::new();
+    out.try_reserve_exact(length)
+        .map_err(|_| Error::OutOfMemory)?;
+    out.resize(length, 0);
+    Ok(out)
+}
+
+/// What a status says of its text.
+fn answer(status: u32, text: String) -> Result<String, Error> {
+    Err(match status {
+        sys::DONE => return Ok(text),
+        sys::REFUSED => Error::Refused { construct: text },
+        sys::NOT_ACCEPTED => {
+            let (place, fault) = placed(&text);
+            Error::NotAccepted { place, fault }
+        }
+        sys::NO_MODULE => {
+            let (place, problem) = placed(&text);
+            Error::NoModule { place, problem }
+        }
+        sys::OUT_OF_MEMORY => Error::OutOfMemory,
+        sys::TOO_DEEP => Error::TooDeep,
+        sys::TOO_LONG => Error::TooLong,
+        // an unknown flag too: the flags here are known
+        unknown => Error::Unknown(unknown),
+    })
+}
+
+/// The place in front of a reason, and the reason.
+fn placed(text: &str) -> (String, String) {
+    let (place, reason) = text.split_once(": ").unwrap_or(("", text));
+    (place.into(), reason.into())
+}

@@ -1,0 +1,131 @@
+//! What is made of what a library gives, here by calls that stand for it.
+
+use super::*;
+use alloc::string::ToString;
+use core::cell::Cell;
+
+/// A call that gives this status and this text, as `yorwethul.h` says.
+fn giving<'a>(status: u32, text: &'a [u8]) -> impl Fn(&mut [u8], &mut usize) -> u32 + 'a {
+    move |out, needed| {
+        *needed = text.len();
+        if let Some(front) = out.get_mut(..text.len()) {
+            front.copy_from_slice(text);
+        }
+        status
+    }
+}
+
+fn told(status: u32, text: &str) -> Result<String, Error> {
+    text_of(0, giving(status, text.as_bytes()))
+}
+
+#[test]
+fn a_text_that_fits_takes_one_call() {
+    let calls = Cell::new(0);
+    let text = text_of(3000, |out, needed| {
+        calls.set(calls.get() + 1);
+        giving(sys::DONE, &[b'x'; 3000])(out, needed)
+    });
+    assert_eq!(text, Ok("x".repeat(3000)));
+    assert_eq!(calls.get(), 1);
+}
+
+#[test]
+fn a_longer_text_takes_two() {
+    let calls = Cell::new(0);
+    let text = text_of(3000, |out, needed| {
+        calls.set(calls.get() + 1);
+        giving(sys::DONE, &[b'x'; 3001])(out, needed)
+    });
+    assert_eq!(text, Ok("x".repeat(3001)));
+    assert_eq!(calls.get(), 2);
+}
+
+#[test]
+fn a_longer_error_takes_two() {
+    let construct = "long ".repeat(100);
+    assert_eq!(
+        told(sys::REFUSED, &construct),
+        Err(Error::Refused { construct })
+    );
+}
+
+#[test]
+fn nothing_is_a_text() {
+    assert_eq!(told(sys::DONE, ""), Ok(String::new()));
+}
+
+#[test]
+fn each_status_is_told() {
+    let statuses = [
+        (1, "float literal", "refused: float literal"),
+        (
+            2,
+            "module.types[3]: bad",
+            "not accepted: module.types[3]: bad",
+        ),
+        (3, "module: missing", "no module: module: missing"),
+        (3, "not UTF-8", "no module: not UTF-8"),
+        (4, "a bit", "unknown answer of libyorwethul.a, status 4"),
+        (5, "", "out of memory"),
+        (6, "deep", "lists and objects nest more than 127 deep"),
+        (7, "long", "text of more than 64 MiB"),
+        (8, "?", "unknown answer of libyorwethul.a, status 8"),
+    ];
+    for (status, text, shown) in statuses {
+        assert_eq!(told(status, text).unwrap_err().to_string(), shown);
+    }
+}
+
+#[test]
+fn a_place_is_apart_from_its_reason() {
+    let error = told(
+        sys::NOT_ACCEPTED,
+        "module.functions[0], statement 3: no: such",
+    )
+    .unwrap_err();
+    assert_eq!(error.place(), Some("module.functions[0], statement 3"));
+    assert!(matches!(error, Error::NotAccepted { fault, .. } if fault == "no: such"));
+    let error = told(sys::NO_MODULE, "no JSON at line 1, column 0").unwrap_err();
+    assert_eq!(error.place(), None);
+    assert_eq!(error.construct(), None);
+    let error = told(sys::REFUSED, "float literal").unwrap_err();
+    assert_eq!(error.construct(), Some("float literal"));
+    assert_eq!(error.place(), None);
+}
+
+#[test]
+fn a_text_that_is_no_utf8_is_unknown() {
+    assert_eq!(
+        text_of(0, giving(sys::DONE, &[0xff])),
+        Err(Error::Unknown(0))
+    );
+}
+
+#[test]
+fn memory_that_is_not_there_is_told() {
+    assert_eq!(
+        text_of(usize::MAX, giving(sys::DONE, b"")),
+        Err(Error::OutOfMemory)
+    );
+    let call = |_: &mut [u8], needed: &mut usize| {
+        *needed = usize::MAX;
+        sys::DONE
+    };
+    assert_eq!(text_of(0, call), Err(Error::OutOfMemory));
+}
+
+#[test]
+fn an_error_goes_between_threads_and_into_a_box() {
+    fn asks<T: Send + Sync + core::error::Error + 'static>() {}
+    asks::<Error>();
+}
+
+#[test]
+fn flags_are_bits() {
+    let mut flags = Flags::empty();
+    assert!(!flags.contains(Flags::EXPLICIT_TYPES) && flags == Flags::default());
+    flags |= Flags::EXPLICIT_TYPES;
+    assert_eq!(flags | Flags::empty(), Flags::EXPLICIT_TYPES);
+    assert_eq!((flags.bits(), flags.contains(Flags::empty())), (1, true));
+}

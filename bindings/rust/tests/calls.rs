@@ -1,0 +1,181 @@
+//! What the calls give, by the archive.
+
+use std::thread;
+use yorwethul::{
+    check_json, layout_json, library_version, stack_size, write_json, write_json_on_thread,
+};
+use yorwethul::{Error, Flags};
+
+const DOUBLE: &str = r#"{
+    "module": {
+        "types": [{"inner": {"Scalar": {"kind": "Sint", "width": 4}}}],
+        "functions": [{
+            "name": "double", "arguments": [{"name": "x", "ty": 0}], "result": {"ty": 0},
+            "named_expressions": {"1": "sum"},
+            "expressions": [
+                {"FunctionArgument": 0}, {"Binary": {"op": "Add", "left": 0, "right": 0}}],
+            "body": [{"Emit": {"start": 1, "end": 2}}, {"Return": {"value": 1}}]
+        }]
+    },
+    "info": {"functions": [[0, 0]]}
+}"#;
+
+const TEXT: &str = "\
+fn double(x: i32) -> i32 {
+    let sum = (x + x);
+    return sum;
+}
+
+";
+
+/// A function with so many negations in one another.
+fn nested(depth: usize) -> String {
+    let negations: String = (0..depth)
+        .map(|operand| format!(r#",{{"Unary":{{"op":"Negate","expr":{operand}}}}}"#))
+        .collect();
+    let types = vec!["0"; depth + 1].join(",");
+    let end = depth + 1;
+    format!(
+        r#"{{"module":{{"types":[{{"inner":{{"Scalar":{{"kind":"Sint","width":4}}}}}}],
+        "functions":[{{"name":"deep","arguments":[{{"name":"x","ty":0}}],"result":{{"ty":0}},
+        "expressions":[{{"FunctionArgument":0}}{negations}],
+        "body":[{{"Emit":{{"start":1,"end":{end}}}}},{{"Return":{{"value":{depth}}}}}]}}]}},
+        "info":{{"functions":[[{types}]]}}}}"#
+    )
+}
+
+#[test]
+fn a_module_is_written() {
+    assert_eq!(write_json(DOUBLE, Flags::empty()).as_deref(), Ok(TEXT));
+    let explicit = TEXT.replace("let sum =", "let sum: i32 =");
+    assert_eq!(write_json(DOUBLE, Flags::EXPLICIT_TYPES), Ok(explicit));
+    assert_eq!(check_json(DOUBLE), Ok(()));
+    assert_eq!(layout_json(DOUBLE).as_deref(), Ok(""));
+}
+
+#[test]
+fn an_empty_module_has_an_empty_text() {
+    assert_eq!(
+        write_json(r#"{"module":{},"info":{}}"#, Flags::empty()).as_deref(),
+        Ok("")
+    );
+}
+
+#[test]
+fn a_refused_module_tells_the_construct() {
+    let half = DOUBLE
+        .replace("\"Sint\"", "\"Float\"")
+        .replace(r#"{"FunctionArgument": 0}"#, r#"{"Literal": {"F32": 0.5}}"#);
+    let error = write_json(&half, Flags::empty()).unwrap_err();
+    assert_eq!(error.construct(), Some("float literal"));
+    assert_eq!(error.to_string(), "refused: float literal");
+    assert_eq!(check_json(&half), Ok(()));
+}
+
+#[test]
+fn a_module_that_is_not_accepted_tells_the_place() {
+    let odd = DOUBLE.replace("\"left\": 0", "\"left\": 1");
+    for error in [
+        write_json(&odd, Flags::empty()).unwrap_err(),
+        check_json(&odd).unwrap_err(),
+        layout_json(&odd).unwrap_err(),
+    ] {
+        assert!(matches!(error, Error::NotAccepted { .. }), "{error}");
+        assert_eq!(error.place(), Some("module.functions[0].expressions[1]"));
+    }
+}
+
+#[test]
+fn what_is_no_module_tells_why() {
+    for (json, place, shown) in [
+        ("", None, "no module: no JSON at line 1, column 0"),
+        ("{}", Some("module"), "no module: module: missing"),
+        ("[]", None, "no module: no object"),
+    ] {
+        let error = write_json(json, Flags::empty()).unwrap_err();
+        assert_eq!((error.place(), error.to_string().as_str()), (place, shown));
+    }
+    let odd = DOUBLE.replace("\"left\": 0", "\"left\": true");
+    let error = write_json(&odd, Flags::empty()).unwrap_err();
+    assert_eq!(
+        error.place(),
+        Some("module.functions[0].expressions[1].Binary.left")
+    );
+}
+
+#[test]
+fn what_nests_too_deep_is_told() {
+    assert_eq!(check_json(&"[".repeat(1000)), Err(Error::TooDeep));
+}
+
+#[test]
+fn threads_give_one_text() {
+    thread::scope(|scope| {
+        for _ in 0..8 {
+            scope.spawn(|| {
+                for _ in 0..500 {
+                    assert_eq!(write_json(DOUBLE, Flags::empty()).as_deref(), Ok(TEXT));
+                }
+            });
+        }
+    });
+}
+
+#[test]
+fn deep_operands_take_a_stack() {
+    let json = nested(200_000);
+    let text = write_json_on_thread(&json, Flags::empty()).unwrap();
+    assert_eq!(text.matches("-(").count(), 200_000);
+    assert!(stack_size(&json) > 8 * json.len());
+}
+
+#[test]
+fn a_text_longer_than_its_json_is_whole() {
+    // parts at an index that is such a part, each of which is written out twice
+    let mut expressions = vec![
+        String::from(r#"{"FunctionArgument":0}"#),
+        String::from(r#"{"FunctionArgument":1}"#),
+    ];
+    let mut types = vec!["2", "0"];
+    for _ in 0..9 {
+        let index = expressions.len() - 1;
+        expressions.push(format!(r#"{{"Access":{{"base":0,"index":{index}}}}}"#));
+        expressions.push(format!(
+            r#"{{"Access":{{"base":{},"index":{index}}}}}"#,
+            index + 1
+        ));
+        types.extend(["1", "0"]);
+    }
+    let (end, last) = (expressions.len(), expressions.len() - 1);
+    let json = format!(
+        r#"{{"module":{{"types":[{{"inner":{{"Scalar":{{"kind":"Sint","width":4}}}}}},
+        {{"inner":{{"Array":{{"base":0,"size":{{"Constant":4}},"stride":4}}}}}},
+        {{"inner":{{"Array":{{"base":1,"size":{{"Constant":4}},"stride":16}}}}}}],
+        "functions":[{{"arguments":[{{"ty":2}},{{"ty":0}}],"result":{{"ty":0}},
+        "expressions":[{}],
+        "body":[{{"Emit":{{"start":2,"end":{end}}}}},{{"Return":{{"value":{last}}}}}]}}]}},
+        "info":{{"functions":[[{}]]}}}}"#,
+        expressions.join(","),
+        types.join(",")
+    );
+    let text = write_json(&json, Flags::empty()).unwrap();
+    assert!(
+        text.len() > json.len(),
+        "{} bytes of {}",
+        text.len(),
+        json.len()
+    );
+    assert!(text.ends_with("}\n\n"));
+}
+
+#[test]
+fn the_archive_has_the_version_of_the_crate() {
+    let numbers: Vec<u32> = env!("CARGO_PKG_VERSION")
+        .split('.')
+        .map(|number| number.parse().unwrap())
+        .collect();
+    assert_eq!(
+        library_version(),
+        numbers[0] * 1_000_000 + numbers[1] * 1_000 + numbers[2]
+    );
+}

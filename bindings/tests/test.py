@@ -1,0 +1,411 @@
+#!/usr/bin/env python3
+"""test.py [FOLDER] [--whole]: tests what stands around the library, and the library itself where FOLDER has its archive, as
+./dist and bindings/c/pack.sh make it. FOLDER is out/dist at the top, if nothing is told.
+
+It tells what it tries, and what it leaves out since the machine lacks it. Where there is no archive, programs in C, C++,
+Python and Rust are tried against stub.c, which gives what it is told. Nothing is asked of a network. It takes less than a
+minute; with --whole, as ./dist runs it, the hammer makes a million calls and 100,000 hostile inputs, which takes ten.
+The status is 0 where all passed. Run it from anywhere.
+"""
+
+import ctypes
+import functools
+import json
+import os
+import re
+import shutil
+import subprocess
+import sys
+import tempfile
+import time
+from pathlib import Path
+
+HERE = Path(__file__).resolve().parent
+BINDINGS = HERE.parent
+TOP = BINDINGS.parent
+CRATES = TOP / "crates"
+EXAMPLES = sorted((TOP / "examples").glob("*.json"))
+WARNINGS = ["-Wall", "-Wextra", "-pedantic"]
+DONE, REFUSED, NOT_ACCEPTED, NO_MODULE, UNKNOWN_FLAG, OUT_OF_MEMORY, TOO_DEEP = range(7)
+
+# What `hammer` is told: so many calls, on so many threads, so many lengths and changes of each file.
+SHORT = {"calls": 20_000, "threads": 1_000, "cut": 300, "flip": 400}
+WHOLE = {"calls": 1_000_000, "threads": 20_000, "cut": 10_000, "flip": 12_000}
+
+
+class Fault(Exception):
+    """Why a test failed."""
+
+
+def run(*words, wanted=0, **more):
+    """What a command prints, which must end with this status."""
+    done = subprocess.run([str(word) for word in words], capture_output=True, text=True, **more)
+    if done.returncode != wanted:
+        raise Fault(f"{' '.join(map(str, words))}: status {done.returncode}\n{done.stdout[-3000:]}{done.stderr[-3000:]}")
+    return done.stdout
+
+
+def must(holds, told):
+    if not holds:
+        raise Fault(told)
+
+
+def find(*names):
+    """The first of these commands that there is. Cargo counts where its compiler is no older than the crates ask for."""
+    return next(filter(None, map(find_one, names)), None)
+
+
+@functools.cache
+def find_one(name):
+    if name == "cargo" and rust_version() < (1, 81):
+        return None
+    return shutil.which(name)
+
+
+def rust_version():
+    told = subprocess.run(["rustc", "--version"], capture_output=True, text=True).stdout if shutil.which("rustc") else ""
+    numbers = re.match(r"rustc (\d+)\.(\d+)", told)
+    return tuple(map(int, numbers.groups())) if numbers else (0, 0)
+
+
+# ---- what stands around it
+
+
+def test_agreement(_):
+    print(run(sys.executable, BINDINGS / "c/agree.py"), end="")
+
+
+def test_header(room):
+    """The header alone, as C and as C++."""
+    for compiler, standard in ((find("cc"), "c99"), (find("c++"), "c++11")):
+        if compiler:
+            language = standard[:-2]
+            run(compiler, f"-x{language}", f"-std={standard}", *WARNINGS, "-Werror", "-fsyntax-only", BINDINGS / "c/yorwethul.h")
+    run("cc", *WARNINGS, "-std=c11", "-c", BINDINGS / "c/heap.c", "-o", room / "heap.o")
+
+
+def test_stubs(room):
+    """The programs to copy, by the stub: a text, one that is longer than the first guess, and an error."""
+    stub = make_stub(room)
+    programs = [[compile_c(room, stub / "libyorwethul.a")]]
+    if find("c++"):
+        programs.append([compile_cpp(room, stub / "libyorwethul.a")])
+    programs.append([sys.executable, BINDINGS / "python/first.py", stub / "libyorwethul.so"])
+    for program in programs:
+        for order, text, status in (("0 1 abc", "abc", 0), ("0 200 abc", "abc" * 200, 0), ("0 0 ", "", 0), ("2 1 wrong", "", 1), ("", "", 1)):
+            told = run(*program, write(room / "order", order), wanted=status)
+            must(told == text, f"{program}: {told!r} of {order!r}")
+
+
+def make_stub(room):
+    """A folder with the stub in place of the library."""
+    folder = room / "stub"
+    folder.mkdir(exist_ok=True)
+    run("cc", "-O1", "-fPIC", *WARNINGS, "-std=c11", f"-I{BINDINGS / 'c'}", "-c", HERE / "stub.c", "-o", folder / "stub.o")
+    run("ar", "rcsD", folder / "libyorwethul.a", folder / "stub.o")
+    run("cc", "-shared", folder / "stub.o", "-o", folder / "libyorwethul.so")
+    return folder
+
+
+def test_rust_stub(room):
+    """The Rust crate's own tests, which ask nothing of the library, and what its build says where there is none."""
+    folder = copy_crates(room)
+    environment = cargo_environment(room, make_stub(room))
+    run("cargo", "test", "--offline", "--quiet", "--lib", cwd=folder / "rust", env=environment)
+    run("cargo", "check", "--offline", "--quiet", "--no-default-features", cwd=folder / "rust", env=environment)
+    build = room / "build"
+    run("rustc", "--edition=2021", folder / "rust/build.rs", "-o", build)
+    told = {"CARGO_MANIFEST_DIR": str(folder), "TARGET": "aarch64-apple-darwin"}
+    for change, words in (
+        ({}, "the package has an archive for x86_64-unknown-linux-gnu alone, and the target is aarch64-apple-darwin"),
+        ({"TARGET": "x86_64-unknown-linux-gnu"}, "this is the crate without its archive"),
+        ({"YORWETHUL_LIB_DIR": "/nowhere"}, "YORWETHUL_LIB_DIR names a folder without libyorwethul.a"),
+    ):
+        done = subprocess.run([build], env={**told, **change}, capture_output=True, text=True)
+        must(done.returncode == 1 and words in done.stderr, f"build.rs: {done.stderr}")
+
+
+def copy_crates(room):
+    """A folder with the Rust crates, so that nothing is made in the tree."""
+    folder = room / "crates"
+    if not folder.exists():
+        for crate in ("rust", "rust-naga", "naga_standin"):
+            if (BINDINGS / crate).exists():
+                shutil.copytree(BINDINGS / crate, folder / crate, ignore=shutil.ignore_patterns("target", "Cargo.lock", "lib"))
+    return folder
+
+
+def cargo_environment(room, library):
+    return {**os.environ, "CARGO_TARGET_DIR": str(room / "target"), "YORWETHUL_LIB_DIR": str(library)}
+
+
+def write(path, text):
+    path.write_text(text)
+    return path
+
+
+def compile_c(room, archive):
+    run("cc", *WARNINGS, "-std=c11", f"-I{BINDINGS / 'c'}", BINDINGS / "c/first.c", archive, "-o", room / "first")
+    return room / "first"
+
+
+def compile_cpp(room, archive):
+    run("c++", *WARNINGS, "-std=c++11", f"-I{BINDINGS / 'c'}", BINDINGS / "c/first.cpp", archive, "-o", room / "first_cpp")
+    return room / "first_cpp"
+
+
+# ---- the library
+
+
+class Library:
+    """The calls of a libyorwethul.so."""
+
+    def __init__(self, path):
+        self.calls = ctypes.CDLL(str(path))
+
+    def call(self, name, data, *flags, room=None):
+        """The status and the text of a call."""
+        size = 4 * len(data) + 65_536 if room is None else room
+        out = ctypes.create_string_buffer(b"\xa5" * size, size + 1)
+        needed = ctypes.c_size_t(77)
+        words = [ctypes.c_char_p(data), ctypes.c_size_t(len(data)), *map(ctypes.c_uint32, flags), out, ctypes.c_size_t(size), ctypes.byref(needed)]
+        status = getattr(self.calls, f"yorwethul_{name}")(*words)
+        held = out.raw[:size]
+        front = needed.value if needed.value <= size else 0
+        must(set(held[front:]) <= {0xA5}, f"{name}: a byte is written that is not of the text")
+        return status, held[:front].decode() if front == needed.value else None
+
+
+def test_names(folder, _):
+    """Only the calls can be seen in the archive."""
+    if not find("nm"):
+        return "no nm"
+    wanted = {"yorwethul_write", "yorwethul_check", "yorwethul_layout", "yorwethul_version"}
+    told = run("nm", "-g", "--defined-only", folder / "libyorwethul.a")
+    seen = {line.split()[-1] for line in told.splitlines() if " " in line}
+    must(seen == wanted, f"the archive shows {sorted(seen ^ wanted)}")
+
+
+def test_programs(folder, room):
+    """The programs to copy print of the examples what the program yorwethul prints."""
+    programs = [[compile_c(room, folder / "libyorwethul.a")]]
+    if find("c++"):
+        programs.append([compile_cpp(room, folder / "libyorwethul.a")])
+    programs.append([sys.executable, BINDINGS / "python/first.py", folder / "libyorwethul.so"])
+    if find("cmake"):
+        run("cmake", "-S", BINDINGS / "c", "-B", room / "cmake", f"-Dyorwethul_DIR={folder}")
+        run("cmake", "--build", room / "cmake")
+        programs.append([room / "cmake/first"])
+    if find("pkg-config"):
+        told = run("pkg-config", "--cflags", "--libs", "yorwethul", env={**os.environ, "PKG_CONFIG_PATH": str(folder)}).split()
+        run("cc", BINDINGS / "c/first.c", *told, "-o", room / "first_by_name")
+        programs.append([room / "first_by_name"])
+    answers = (CRATES / "yorwethul/stdout").read_text().splitlines()
+    for example, answer in zip(EXAMPLES, map(json.loads, answers)):
+        is_written = "refused" not in answer
+        for program in programs:
+            told = run(*program, example, wanted=0 if is_written else 1)
+            must(told == (answer["text"] if is_written else ""), f"{program}: another text of {example.name}")
+
+
+def test_lines(folder, _):
+    """The library answers the lines of the program's test as the program does."""
+    library = Library(folder / "libyorwethul.so")
+    lines = zip((CRATES / "yorwethul/stdin").read_bytes().splitlines(), (CRATES / "yorwethul/stdout").read_text().splitlines())
+    for line, answer in ((line, json.loads(answer)) for line, answer in lines):
+        if answer.get("error", "").startswith("explicit_types"):
+            continue
+        explicit = b'"explicit_types":true' in line
+        if "refused" in answer:
+            wanted = (REFUSED, answer["refused"])
+        elif "text" in answer:
+            wanted = (DONE, answer["text"])
+        elif "not_accepted" in answer:
+            wanted = (NOT_ACCEPTED, "{place}: {fault}".format(**answer["not_accepted"]))
+        else:
+            wanted = (NO_MODULE, answer["error"])
+        told = library.call("write", line, int(explicit))
+        must(told == wanted, f"{told} of {line[:200]}, by the program {wanted}")
+        checked = library.call("check", line)
+        must(checked == (wanted if wanted[0] in (NOT_ACCEPTED, NO_MODULE) else (DONE, "")), f"check: {checked} of {line[:200]}")
+    must(library.call("write", b"{}", 2) == (UNKNOWN_FLAG, "a bit is set that no flag has"), "an unknown flag")
+
+
+def test_cases(folder, _):
+    """The library answers all cases of wgsl_cases as it is told there, with either setting of the flags."""
+    library = Library(folder / "libyorwethul.so")
+    cases = [(json.loads(line), line) for line in (CRATES / "wgsl_cases/stdin").read_bytes().splitlines()]
+    answers = cut_answers((CRATES / "wgsl_cases/stdout").read_text(), [case["name"] for case, _ in cases])
+    count = 0
+    for (case, line), wanted in zip(cases, answers):
+        if case.get("counted"):
+            continue
+        for explicit in (0, 1):
+            status, text = library.call("write", line, explicit)
+            must((status, text) == wanted_of(wanted[explicit], text), f"{case['name']}: {status} {text!r}, wanted {wanted[explicit]!r}")
+            count += 1
+    return f"{count} answers"
+
+
+def cut_answers(output, names):
+    """Of each case the answer without and with types."""
+    at, answers = 0, []
+    for name, following in zip(names, [*names[1:], None]):
+        head = f"== {name}\n"
+        must(output.startswith(head, at), f"stdout of wgsl_cases has no {name} there")
+        end = output.find(f"\n== {following}\n", at + len(head) - 1) + 1 if following else len(output)
+        told = output[at + len(head):end]
+        plain, typed, with_types = told.partition(f"== {name}, with types\n")
+        answers.append((plain, with_types if typed else plain))
+        at = end
+    return answers
+
+
+def wanted_of(answer, text):
+    """The status and the text that the library owes where wgsl_cases tells this. It tells places in other words."""
+    front, _, last = answer[:-1].rpartition("\n")
+    if last.startswith("not accepted: "):
+        _, fault = last.removeprefix("not accepted: ").split(": ", 1)
+        return NOT_ACCEPTED, (text if text and text.endswith(f": {fault}") else fault)
+    if last.startswith("refused: "):
+        return REFUSED, last.removeprefix("refused: ")
+    return DONE, answer
+
+
+def test_memory(folder, _):
+    """A text is put where there is room for it, and nothing where there is a byte less."""
+    library = Library(folder / "libyorwethul.so")
+    for example in EXAMPLES:
+        data = example.read_bytes()
+        for name, flags in (("write", [0]), ("write", [1]), ("layout", []), ("check", [])):
+            status, text = library.call(name, data, *flags)
+            length = len(text.encode())
+            must(library.call(name, data, *flags, room=length) == (status, text), f"{name} of {example.name} with just enough")
+            if length:
+                must(library.call(name, data, *flags, room=length - 1) == (status, None), f"{name} of {example.name} with too little")
+
+
+def test_depth(folder, _):
+    """What nests too deep has a status of its own, and so has what only looks so."""
+    library = Library(folder / "libyorwethul.so")
+    for data, wanted in (
+        (b"[" * 128, TOO_DEEP), (b'{"a":' * 500_000, TOO_DEEP), (b"[" * 127, NO_MODULE), (b'["' + b"[" * 500 + b'"', NO_MODULE),
+        (b'{"module": {}, "info": {}, "x": ' + b"[" * 126 + b"]" * 126 + b"}", DONE), (b"\xff", NO_MODULE), (b"", NO_MODULE), (b"\0" * 300, NO_MODULE),
+    ):
+        for name, flags in (("write", [0]), ("check", []), ("layout", [])):
+            told = library.call(name, data, *flags)
+            must(told[0] == wanted, f"{name}: {told} of {data[:40]}")
+
+
+def test_hammer(folder, room, counts=None):
+    """Many calls, on threads too, with refused allocations and hostile bytes."""
+    counts = counts or SHORT
+    words = ["-Wl,--wrap=malloc,--wrap=realloc,--wrap=free", "-lpthread", "-o", room / "hammer"]
+    run("cc", "-O2", *WARNINGS, "-std=gnu11", f"-I{BINDINGS / 'c'}", HERE / "hammer.c", folder / "libyorwethul.a", *words)
+    told = run(room / "hammer", "calls", counts["calls"], *EXAMPLES)
+    told += run(room / "hammer", "threads", 8, counts["threads"], *EXAMPLES)
+    told += run(room / "hammer", "refuse", *EXAMPLES)
+    told += run(room / "hammer", "cut", counts["cut"], *EXAMPLES)
+    for seed in (1, 2):
+        told += run(room / "hammer", "flip", seed, counts["flip"], *EXAMPLES)
+    return "\n    ".join(["", *told.splitlines()])
+
+
+def test_whole_hammer(folder, room):
+    """The same, with all that is promised of it."""
+    return test_hammer(folder, room, WHOLE)
+
+
+def test_valgrind(folder, room):
+    """No byte outside of what is given is read or written, of a few hostile inputs."""
+    if not find("valgrind"):
+        return "no valgrind"
+    words = ["valgrind", "--quiet", "--error-exitcode=9", room / "hammer"]
+    run(*words, "cut", 5, *EXAMPLES[:3])
+    run(*words, "flip", 3, 5, *EXAMPLES[:3])
+
+
+def test_rust(folder, room):
+    """All tests of the Rust crate, with those of its documentation, and its example."""
+    crate = copy_crates(room) / "rust"
+    environment = cargo_environment(room, folder)
+    run("cargo", "test", "--offline", "--quiet", cwd=crate, env=environment)
+    answers = (CRATES / "yorwethul/stdout").read_text().splitlines()
+    for example, answer in zip(EXAMPLES, map(json.loads, answers)):
+        is_written = "refused" not in answer
+        told = run("cargo", "run", "--offline", "--quiet", "--example", "write", "--", example, cwd=crate, env=environment, wanted=0 if is_written else 1)
+        must(told == (answer["text"] if is_written else ""), f"the Rust example prints another text of {example.name}")
+
+
+def test_rust_naga(folder, room):
+    """The crate for naga, against the stand-in for it, which wants serde: from cargo's cache or from Debian's packages."""
+    crate = copy_crates(room) / "rust-naga"
+    environment = {**cargo_environment(room, folder), "RUSTFLAGS": "--cfg naga_standin"}
+    words = ["--offline", "--quiet", "--config", 'patch.crates-io.naga.path="../naga_standin"', *serde_of_debian()]
+    if subprocess.run(["cargo", "tree", *words], cwd=crate, env=environment, capture_output=True).returncode:
+        return "left out, since there is no serde"
+    run("cargo", "test", *words, cwd=crate, env=environment)
+
+
+def serde_of_debian():
+    """The words by which cargo finds Debian's crates, where serde is one of them."""
+    registry = Path("/usr/share/cargo/registry")
+    if not list(registry.glob("serde-1*")):
+        return []
+    return ["--config", 'source.crates-io.replace-with="debian"', "--config", f'source.debian.directory="{registry}"']
+
+
+# ---- all of them
+
+
+def tests(folder, is_whole):
+    """Each test, with what it wants of the machine."""
+    yield "header, exports and bindings agree", test_agreement, [], ()
+    yield "the header compiles", test_header, ["cc"], ()
+    yield "programs by the stub", test_stubs, ["cc", "ar"], ()
+    yield "the Rust crate by the stub", test_rust_stub, ["cc", "ar", "cargo", "rustc"], ()
+    yield from ((name, test, needs, (folder,)) for name, test, needs in library_tests(is_whole))
+
+
+def library_tests(is_whole):
+    yield "names in the archive", test_names, []
+    yield "programs in C, C++ and Python", test_programs, ["cc"]
+    yield "the program's lines", test_lines, []
+    yield "the cases of wgsl_cases", test_cases, []
+    yield "the caller's memory", test_memory, []
+    yield "depth", test_depth, []
+    if is_whole:
+        yield "the hammer, whole", test_whole_hammer, ["cc"]
+        yield "valgrind", test_valgrind, ["cc"]
+    else:
+        yield "the hammer", test_hammer, ["cc"]
+    yield "the Rust crate", test_rust, ["cargo", "cc"]
+    yield "the Rust crate for naga", test_rust_naga, ["cargo", "cc"]
+
+
+def main():
+    words = [word for word in sys.argv[1:] if word != "--whole"]
+    folder = Path(words[0]).resolve() if words else TOP / "out/dist"
+    has_archive = (folder / "libyorwethul.a").is_file()
+    if words and not has_archive:
+        sys.exit(f"there is no libyorwethul.a in {folder}")
+    failed = 0
+    with tempfile.TemporaryDirectory() as name:
+        for title, test, needs, more in tests(folder, "--whole" in sys.argv):
+            missing = [need for need in needs if not find(need)]
+            if missing or (more and not has_archive):
+                why = f"no {', '.join(missing)}" if missing else "no archive has been built: ./dist makes one"
+                print(f"skipped: {title}: {why}")
+                continue
+            start = time.monotonic()
+            try:
+                told = test(*more, Path(name))
+            except Fault as fault:
+                failed += 1
+                print(f"FAILED: {title}: {fault}")
+            else:
+                print(f"passed: {title} ({time.monotonic() - start:.1f} s){': ' + told if told else ''}", flush=True)
+    sys.exit(1 if failed else 0)
+
+
+main()

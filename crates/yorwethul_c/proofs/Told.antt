@@ -1,0 +1,134 @@
+-- What a call tells, from what its steps say.
+use Rattle.std.proofs.Common.{◌≡◌, ◌≤◌, ◌∙◌, ℕ, Bool, List, [], Err, None, Ok, Option, Result, Some, ap, inl, inr, is_none, refl, subst, sym}
+use Rattle.std.specs.Prelude.{◌⊎◌, IfErr, IfSome, IsTrue}
+use Rattle.naga_ir.specs.declared.module.Module.{Module}
+use Rattle.naga_info.specs.declared.info.ModuleInfo.{ModuleInfo}
+use Rattle.module_meaning.specs.Accepted.{is_accepted}
+use Rattle.naga_back.specs.declared.flags.WriterFlags.{WriterFlags}
+use Rattle.naga_form.specs.Declarations.{written_program}
+use Rattle.wgsl_text.specs.Reading.{layout}
+use Rattle.naga_wgsl_fns.specs.FunctionText.{annotates_types}
+use Rattle.naga_wgsl_fns.specs.declared.error.Error.{Error}
+use Rattle.naga_wgsl_fns.specs.declared.error.Error.TheVariants as error
+use Rattle.naga_wgsl_out.specs.Checked.{IsCounted}
+use Rattle.naga_wgsl_out.specs.Headline.{FaithfulWriting}
+use Rattle.naga_wgsl_out.specs.Writing.{AppendsItsText}
+use Rattle.naga_acceptance.specs.Faults.{Fails}
+use Rattle.naga_acceptance.specs.declared.faults.Unaccepted.{Unaccepted}
+use Rattle.yorwethul_c.specs.Answers.{IsAccepted, IsNotAccepted, IsStopped, IsWritten, LacksMemory, Says, SaysOfError, SaysOfWritten}
+use Rattle.yorwethul_c.specs.Answers.{TellsOfChecking, TellsOfLayouts, TellsOfReading, TellsOfWriting}
+use Rattle.yorwethul_c.specs.Answers.{annotates, status_of_error}
+use Rattle.yorwethul_c.specs.declared.status.Status.{Status}
+use Rattle.yorwethul_c.specs.declared.status.Status.TheVariants as status
+
+pub lacking : (Tells : Status → List ℕ → Type 0) (told : Status) (text : List ℕ) →
+    Tells status.OutOfMemory [] → LacksMemory told text → Tells told text
+lacking Tells told text lacks less =
+    subst (λ s. Tells s text) (sym less.0)
+    (subst (λ t. Tells status.OutOfMemory t) (sym less.1) lacks)
+
+pub said : (Tells : Status → List ℕ → Type 0) (wanted told : Status) (text : List ℕ) →
+    Tells wanted text → Tells status.OutOfMemory [] → Says wanted told text → Tells told text
+said Tells wanted told text tells lacks (inl is) = subst (λ s. Tells s text) (sym is) tells
+said Tells wanted told text tells lacks (inr less) = lacking Tells told text lacks less
+
+-- ---- what is said of reading is told by each call
+
+pub unread_written : (json : List ℕ) (flags : ℕ) (told : Status) (text : List ℕ) → TellsOfReading json told text →
+    TellsOfWriting json flags told text
+unread_written json flags status.NoModule text tells = tells
+unread_written json flags status.TooDeep text tells = tells
+unread_written json flags status.OutOfMemory text tells = tells
+unread_written json flags status.Done text tells = absurd tells
+unread_written json flags status.Refused text tells = absurd tells
+unread_written json flags status.NotAccepted text tells = absurd tells
+unread_written json flags status.UnknownFlag text tells = absurd tells
+unread_written json flags status.TooLong text tells = absurd tells
+
+pub unread_checked : (json : List ℕ) (told : Status) (text : List ℕ) → TellsOfReading json told text → TellsOfChecking json told text
+unread_checked json status.NoModule text tells = tells
+unread_checked json status.TooDeep text tells = tells
+unread_checked json status.OutOfMemory text tells = tells
+unread_checked json status.Done text tells = absurd tells
+unread_checked json status.Refused text tells = absurd tells
+unread_checked json status.NotAccepted text tells = absurd tells
+unread_checked json status.UnknownFlag text tells = absurd tells
+unread_checked json status.TooLong text tells = absurd tells
+
+pub unread_laid_out : (json : List ℕ) (told : Status) (text : List ℕ) → TellsOfReading json told text → TellsOfLayouts json told text
+unread_laid_out json status.NoModule text tells = tells
+unread_laid_out json status.TooDeep text tells = tells
+unread_laid_out json status.OutOfMemory text tells = tells
+unread_laid_out json status.Done text tells = absurd tells
+unread_laid_out json status.Refused text tells = absurd tells
+unread_laid_out json status.NotAccepted text tells = absurd tells
+unread_laid_out json status.UnknownFlag text tells = absurd tells
+unread_laid_out json status.TooLong text tells = absurd tells
+
+-- ---- what was asked of the module
+
+pub faulty : (m : Module) (read : ModuleInfo) (found : Option Unaccepted) (fault : Unaccepted) →
+    found ≡ Some fault → IfSome found (Fails m read) → IsNotAccepted
+faulty m read found fault is fails =
+    record { m = m; read = read; fault = fault; fails = subst (λ r. IfSome r (Fails m read)) is fails }
+
+pub faulty_writing : {A : Type 0} (m : Module) (read : ModuleInfo) (given : Result A Unaccepted) (fault : Unaccepted) →
+    given ≡ Err fault → IfErr given (Fails m read) → IsNotAccepted
+faulty_writing m read given fault is fails =
+    record { m = m; read = read; fault = fault; fails = subst (λ r. IfErr r (Fails m read)) is fails }
+
+pub accepted_by : (m : Module) (read : ModuleInfo) (found : Option Unaccepted) →
+    found ≡ None → is_none found ≡ is_accepted m read → IsAccepted
+accepted_by m read found is accepts =
+    record { m = m; read = read; accepted = sym accepts ∙ ap is_none is }
+
+-- ---- what the writer did
+
+-- of what is written no failure is told
+no_failures : (explicit : Bool) (m : Module) (info : ModuleInfo) (content : List ℕ) (failures : ℕ) →
+    FaithfulWriting explicit m info (Ok tt) [] content 0 failures →
+    FaithfulWriting explicit m info (Ok tt) [] content 0 0
+no_failures explicit m info content failures f =
+    record { refusals = f.refusals; reading = f.reading; interface = f.interface; runs = f.runs }
+
+-- it stopped by an error
+stopped : (json : List ℕ) (flags : ℕ) (e : Error) (told : Status) (text : List ℕ) → IsStopped flags (status_of_error e) →
+    SaysOfError e told text → TellsOfWriting json flags told text
+stopped json flags (error.Memory e) told text is says =
+    said (TellsOfWriting json flags) status.OutOfMemory told text (says.1 refl) refl says.0
+stopped json flags (error.FmtError e) told text is says =
+    said (TellsOfWriting json flags) status.TooLong told text is refl says.0
+stopped json flags (error.Custom e) told text is says =
+    said (TellsOfWriting json flags) status.Refused told text is refl says.0
+stopped json flags (error.Unimplemented e) told text is says =
+    said (TellsOfWriting json flags) status.Refused told text is refl says.0
+stopped json flags (error.UnsupportedRelationalFunction e) told text is says =
+    said (TellsOfWriting json flags) status.Refused told text is refl says.0
+stopped json flags (error.Unsupported kind value) told text is says =
+    said (TellsOfWriting json flags) status.Refused told text is refl says.0
+
+pub wrote : (json : List ℕ) (flags : ℕ) (writer : WriterFlags) (m : Module) (read info : ModuleInfo)
+    (answer : Result Unit Error) (content : List ℕ) (failures : ℕ) (told : Status) (text : List ℕ) →
+    flags ≤ 1 → IsTrue (is_accepted m read) → IsCounted m read info →
+    annotates_types writer ≡ annotates flags →
+    FaithfulWriting (annotates_types writer) m info answer [] content 0 failures →
+    AppendsItsText m info writer answer [] content →
+    SaysOfWritten answer content told text → TellsOfWriting json flags told text
+wrote json flags writer m read info (Ok tt) content failures told text known accepted counted explicit faithful
+    appends (inl is) =
+    let moved : FaithfulWriting (annotates flags) m info (Ok tt) [] text 0 0 =
+    subst (λ now. FaithfulWriting (annotates flags) m info (Ok tt) [] now 0 0) (sym is.1)
+    (no_failures (annotates flags) m info content failures
+    (subst (λ e. FaithfulWriting e m info (Ok tt) [] content 0 failures) explicit faithful)) in
+    let text_is : text ≡ layout (written_program m info (annotates flags)) =
+    is.1 ∙ (appends ∙ ap (λ e. layout (written_program m info e)) explicit) in
+    let done : IsWritten flags text =
+    record { flags_are_known = known; m = m; read = read; info = info; accepted = accepted; counted = counted; faithful = moved; text_is = text_is } in
+    subst (λ s. TellsOfWriting json flags s text) (sym is.0) done
+wrote json flags writer m read info (Ok tt) content failures told text known accepted counted explicit faithful
+    appends (inr less) = lacking (TellsOfWriting json flags) told text refl less
+wrote json flags writer m read info (Err e) content failures told text known accepted counted explicit faithful
+    appends says =
+    stopped json flags e told text
+    (record { flags_are_known = known; m = m; read = read; info = info; error = e; beginning = content; failures = failures; accepted = accepted; counted = counted; faithful = subst (λ x. FaithfulWriting x m info (Err e) [] content 0 failures) explicit faithful; told_is = refl })
+    says

@@ -1,0 +1,154 @@
+-- What a call from C answers: a status, and a text in the caller's memory.
+--
+-- Throughout, m is a module, read is what is known of it, info is the same with the uses counted, and
+-- json is the bytes that a call was given.
+use Rattle.std.specs.Prelude.{◌≡◌, ◌≤◌, ⊤, ℕ, ◌==◌, ◌++◌, ◌⊎◌, Bool, IsTrue, List, [], length}
+use Rattle.std.specs.Prelude.{drop, if◌then◌else◌, nat_le, Result, Ok, Err}
+use Rattle.naga_ir.specs.declared.module.Module.{Module}
+use Rattle.naga_info.specs.declared.info.ModuleInfo.{ModuleInfo}
+use Rattle.naga_acceptance.specs.Faults.{Fails}
+use Rattle.naga_acceptance.specs.declared.faults.Unaccepted.{Unaccepted}
+use Rattle.module_meaning.specs.Accepted.{is_accepted}
+use Rattle.naga_form.specs.Declarations.{written_program}
+use Rattle.wgsl_text.specs.Reading.{layout}
+use Rattle.naga_wgsl_fns.specs.declared.error.Error.{Error}
+use Rattle.naga_wgsl_fns.specs.declared.error.Error.TheVariants as error
+use Rattle.naga_wgsl_out.specs.Checked.{IsCounted}
+use Rattle.naga_wgsl_out.specs.Headline.{FaithfulWriting}
+use Rattle.yorwethul_c.specs.Nesting.{nest_past}
+use Rattle.yorwethul_c.specs.declared.nesting.Within.TheVariants as within
+use Rattle.yorwethul_c.specs.declared.status.Status.{Status}
+use Rattle.yorwethul_c.specs.declared.status.Status.TheVariants as status
+
+-- ---- the caller's memory
+
+-- The memory, after a text was put to its front; where it is too short, it is as it was.
+abbrev pub with_text : (text memory : List ℕ) → List ℕ
+with_text text memory =
+    if nat_le (length text) (length memory) then text ++ drop (length text) memory else memory
+
+-- the number of a status in yorwethul.h
+abbrev pub number_of : Status → ℕ
+number_of status.Done = 0
+number_of status.Refused = 1
+number_of status.NotAccepted = 2
+number_of status.NoModule = 3
+number_of status.UnknownFlag = 4
+number_of status.OutOfMemory = 5
+number_of status.TooDeep = 6
+number_of status.TooLong = 7
+
+-- A call gave this number, told how many bytes its text needs, and left the memory after it so.
+-- Tells is what is so where this status is told with this text.
+pub record HandsOut (Tells : Status → List ℕ → Type 0) (number needed : ℕ)
+    (before after : List ℕ) : Type 0 where
+  pub told : Status
+  pub text : List ℕ
+  pub tells : Tells told text
+  pub number_is : number ≡ number_of told
+  pub needed_is : needed ≡ length text
+  pub memory : after ≡ with_text text before
+
+-- ---- what each status tells
+
+-- the status of an error of the writer, whose sink fails only past the longest text
+abbrev pub status_of_error : Error → Status
+status_of_error (error.Memory e) = status.OutOfMemory
+status_of_error (error.FmtError e) = status.TooLong
+status_of_error _ = status.Refused
+
+-- one bit is a flag: that `let`s tell their types
+abbrev pub annotates : (flags : ℕ) → Bool
+annotates flags = flags == 1
+
+-- The text is that of an accepted module, faithfully written.
+pub record IsWritten (flags : ℕ) (text : List ℕ) : Type 0 where
+  pub flags_are_known : flags ≤ 1
+  pub m : Module
+  pub read : ModuleInfo
+  pub info : ModuleInfo
+  pub accepted : IsTrue (is_accepted m read)
+  pub counted : IsCounted m read info
+  pub faithful : FaithfulWriting (annotates flags) m info (Ok tt) [] text 0 0
+  pub text_is : text ≡ layout (written_program m info (annotates flags))
+
+-- The writer stopped at an accepted module, by an error of this status. So a refusal is for a
+-- listed construct that stands in the module.
+pub record IsStopped (flags : ℕ) (told : Status) : Type 0 where
+  pub flags_are_known : flags ≤ 1
+  pub m : Module
+  pub read : ModuleInfo
+  pub info : ModuleInfo
+  pub error : Error
+  pub beginning : List ℕ
+  pub failures : ℕ
+  pub accepted : IsTrue (is_accepted m read)
+  pub counted : IsCounted m read info
+  pub faithful : FaithfulWriting (annotates flags) m info (Err error) [] beginning 0 failures
+  pub told_is : status_of_error error ≡ told
+
+-- A module was read that is accepted.
+pub record IsAccepted : Type 0 where
+  pub m : Module
+  pub read : ModuleInfo
+  pub accepted : IsTrue (is_accepted m read)
+
+-- A module was read that is not accepted, for this fault.
+pub record IsNotAccepted : Type 0 where
+  pub m : Module
+  pub read : ModuleInfo
+  pub fault : Unaccepted
+  pub fails : Fails m read fault
+
+-- of what is read: no module stands in the bytes, more than 127 lists and objects of them are open
+-- at once, or memory was refused, and then there is no text
+abbrev pub TellsOfReading : (json : List ℕ) → Status → (text : List ℕ) → Type 0
+TellsOfReading json status.NoModule text = ⊤
+TellsOfReading json status.TooDeep text = IsTrue (nest_past 127 within.Outside 0 json)
+TellsOfReading json status.OutOfMemory text = text ≡ []
+TellsOfReading json _ text = ⊥
+
+-- of a module that is to be written
+abbrev pub TellsOfWriting : (json : List ℕ) (flags : ℕ) → Status → (text : List ℕ) → Type 0
+TellsOfWriting json flags status.Done text = IsWritten flags text
+TellsOfWriting json flags status.Refused text = IsStopped flags status.Refused
+TellsOfWriting json flags status.TooLong text = IsStopped flags status.TooLong
+TellsOfWriting json flags status.NotAccepted text = IsNotAccepted
+TellsOfWriting json flags status.UnknownFlag text = 2 ≤ flags
+TellsOfWriting json flags told text = TellsOfReading json told text
+
+-- of one that is only asked whether it is accepted: then there is no text
+abbrev pub TellsOfChecking : (json : List ℕ) → Status → (text : List ℕ) → Type 0
+TellsOfChecking json status.Done text = IsAccepted × (text ≡ [])
+TellsOfChecking json status.NotAccepted text = IsNotAccepted
+TellsOfChecking json told text = TellsOfReading json told text
+
+-- of one whose layouts are asked for: it is refused where its items get no names
+abbrev pub TellsOfLayouts : (json : List ℕ) → Status → (text : List ℕ) → Type 0
+TellsOfLayouts json status.Done text = IsAccepted
+TellsOfLayouts json status.Refused text = IsAccepted
+TellsOfLayouts json status.NotAccepted text = IsNotAccepted
+TellsOfLayouts json told text = TellsOfReading json told text
+
+-- ---- steps on the way
+
+-- memory was refused
+abbrev pub LacksMemory : Status → (text : List ℕ) → Type 0
+LacksMemory told text = (told ≡ status.OutOfMemory) × (text ≡ [])
+
+-- this status is told, unless there is no memory for the text
+abbrev pub Says : (wanted told : Status) → (text : List ℕ) → Type 0
+Says wanted told text = (told ≡ wanted) ⊎ LacksMemory told text
+
+-- what is told of an error of the writer
+abbrev pub SaysOfError : Error → Status → (text : List ℕ) → Type 0
+SaysOfError error told text =
+    Says (status_of_error error) told text
+    × (status_of_error error ≡ status.OutOfMemory → text ≡ [])
+
+-- what is told of the writer's answer, and of what its sink holds
+abbrev pub SaysOfWritten : Result Unit Error → (content : List ℕ) → Status → (text : List ℕ) →
+    Type 0
+SaysOfWritten (Ok _) content told text =
+    ((told ≡ status.Done) × (text ≡ content)) ⊎ LacksMemory told text
+SaysOfWritten (Err error) content told text = SaysOfError error told text

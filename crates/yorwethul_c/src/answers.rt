@@ -1,0 +1,199 @@
+//! What becomes of a module, as a status and a text.
+
+ghost use Rattle.std.specs.Prelude.{◌≡◌, ◌≤◌, ℕ, IfErr, IfOk, List, string_bytes};
+ghost use Rattle.yorwethul_c.specs.Answers.{LacksMemory, Says, SaysOfError, SaysOfWritten};
+ghost use Rattle.yorwethul_c.specs.Answers.{TellsOfChecking, TellsOfLayouts, TellsOfReading};
+ghost use Rattle.yorwethul_c.specs.Answers.{TellsOfWriting};
+
+use crate::nesting::nests_past;
+use crate::status::{Status, status_of};
+use module_answers::{JsonPlace, Written, flags_for, layout_table, write};
+use naga_json::{Known, ReadError, read_known};
+use naga_wgsl_out::info::{Unaccepted, unaccepted};
+use naga_wgsl_out::sinks::Limited;
+use naga_wgsl_out::wgsl::Error;
+use std::alloc::{AllocError, Global};
+use std::fmt::Display;
+
+/// How many bytes a text may have. Shaders have shorter ones by far, and a hostile module of a few
+/// kilobytes can ask for a text without end.
+const LONGEST_TEXT: usize = 67_108_864;
+
+/// How deep lists and objects may nest, for the reader of JSON.
+const DEEPEST: usize = 127;
+
+/// A status with its text: what was asked for, or why it is not there.
+#[derive(Drop)]
+pub struct Answer {
+    /// The status.
+    pub status: Status,
+    /// The text.
+    pub text: String,
+}
+
+/// Writes the module that the JSON holds with what is known of it.
+pub fn written(alloc: Global, json: &[u8], flags: u32) -> Answer
+    ensures { TellsOfWriting json.now flags result.status (string_bytes result.text) }
+{
+    if flags > 1 {
+        return told(alloc, Status::UnknownFlag, "a bit is set that no flag has");
+    }
+    match known_in(alloc, json) {
+        Ok(mut known) => written_known(alloc, &mut known, flags),
+        Err(answer) => answer,
+    }
+}
+
+/// Says whether the module that the JSON holds is accepted.
+pub fn checked(alloc: Global, json: &[u8]) -> Answer
+    ensures { TellsOfChecking json.now result.status (string_bytes result.text) }
+{
+    match known_in(alloc, json) {
+        Ok(known) => checked_known(alloc, &known),
+        Err(answer) => answer,
+    }
+}
+
+/// Tells where the members of the structs stand of the module that the JSON holds.
+pub fn laid_out(alloc: Global, json: &[u8]) -> Answer
+    ensures { TellsOfLayouts json.now result.status (string_bytes result.text) }
+{
+    match known_in(alloc, json) {
+        Ok(known) => laid_out_known(alloc, &known),
+        Err(answer) => answer,
+    }
+}
+
+/// Reads the module, or tells why there is none.
+fn known_in(alloc: Global, json: &[u8]) -> Result<Known, Answer>
+    ensures { IfErr result (λ a. TellsOfReading json.now a.status (string_bytes a.text)) }
+{
+    let Ok(text) = std::str::from_utf8(json) else {
+        return Err(told(alloc, Status::NoModule, "not UTF-8"));
+    };
+    match read_known(alloc, text) {
+        Ok(known) => Ok(known),
+        Err(error) => Err(unread(alloc, json, error)),
+    }
+}
+
+/// Tells why no module was read.
+fn unread(alloc: Global, json: &[u8], error: ReadError) -> Answer
+    ensures { TellsOfReading json.now result.status (string_bytes result.text) }
+{
+    match error {
+        ReadError::OutOfMemory => out_of_memory(alloc),
+        ReadError::NoJson { .. } if nests_past(json, DEEPEST) => {
+            told(
+                alloc,
+                Status::TooDeep,
+                "lists and objects nest more than 127 deep",
+            )
+        }
+        error => told(alloc, Status::NoModule, error),
+    }
+}
+
+fn written_known(alloc: Global, known: &mut Known, flags: u32) -> Answer
+    requires known { flags ≤ 1 }
+    ensures { (json : List ℕ) → TellsOfWriting json flags result.status (string_bytes result.text) }
+{
+    let sink = Limited::new(alloc, LONGEST_TEXT);
+    match write(
+        alloc,
+        &known.module,
+        &mut known.info,
+        flags_for(flags == 1),
+        sink,
+    ) {
+        Ok(written) => told_written(alloc, written),
+        Err(fault) => not_accepted(alloc, fault),
+    }
+}
+
+fn told_written(alloc: Global, written: Written<Limited>) -> Answer
+    ensures { SaysOfWritten written.answer written.sink.text result.status
+        (string_bytes result.text) }
+{
+    let Written { answer, sink } = written;
+    match answer {
+        Ok(()) => settled(alloc, Status::Done, String::from_str(alloc, sink.text())),
+        Err(error) => told_error(alloc, error),
+    }
+}
+
+fn told_error(alloc: Global, error: Error) -> Answer
+    ensures { SaysOfError error result.status (string_bytes result.text) }
+{
+    match status_of(&error) {
+        Status::OutOfMemory => out_of_memory(alloc),
+        Status::TooLong => told(alloc, Status::TooLong, "text of more than 67108864 bytes"),
+        status => told(alloc, status, error),
+    }
+}
+
+fn checked_known(alloc: Global, known: &Known) -> Answer
+    ensures { (json : List ℕ) → TellsOfChecking json result.status (string_bytes result.text) }
+{
+    match unaccepted(&known.module, &known.info) {
+        Some(fault) => not_accepted(alloc, fault),
+        None => Answer {
+            status: Status::Done,
+            text: String::new(alloc),
+        },
+    }
+}
+
+fn laid_out_known(alloc: Global, known: &Known) -> Answer
+    ensures { (json : List ℕ) → TellsOfLayouts json result.status (string_bytes result.text) }
+{
+    match unaccepted(&known.module, &known.info) {
+        Some(fault) => not_accepted(alloc, fault),
+        None => match layout_table(alloc, &known.module, &known.info) {
+            Ok(text) => Answer {
+                status: Status::Done,
+                text,
+            },
+            Err(Error::Memory(_)) => out_of_memory(alloc),
+            Err(reason) => told(alloc, Status::Refused, reason),
+        },
+    }
+}
+
+fn not_accepted(alloc: Global, fault: Unaccepted) -> Answer
+    ensures { Says Status.NotAccepted result.status (string_bytes result.text) }
+{
+    let place = JsonPlace(fault.item);
+    let fault = fault.fault;
+    let text = format!(in alloc; "{place}: {fault}");
+    settled(alloc, Status::NotAccepted, text)
+}
+
+/// A status with what is told of it.
+fn told(alloc: Global, status: Status, text: impl Display + Drop) -> Answer
+    ensures { Says status result.status (string_bytes result.text) }
+{
+    let text = format!(in alloc; "{text}");
+    settled(alloc, status, text)
+}
+
+/// A status with its text, if there was memory for it.
+fn settled(alloc: Global, status: Status, text: Result<String, AllocError>) -> Answer
+    ensures text { IfOk text (λ t. (result.status ≡ status)
+        × (string_bytes result.text ≡ string_bytes t)) }
+    ensures memory { IfErr text (λ _. LacksMemory result.status (string_bytes result.text)) }
+{
+    match text {
+        Ok(text) => Answer { status, text },
+        Err(_) => out_of_memory(alloc),
+    }
+}
+
+fn out_of_memory(alloc: Global) -> Answer
+    ensures { LacksMemory result.status (string_bytes result.text) }
+{
+    Answer {
+        status: Status::OutOfMemory,
+        text: String::new(alloc),
+    }
+}

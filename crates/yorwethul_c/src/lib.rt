@@ -1,0 +1,68 @@
+//! What C calls, as `yorwethul.h` declares it: each call tells a status, and puts a text into memory
+//! of the caller's, as `snprintf` does.
+#![tactic(auto)]
+
+mod answers;
+mod copying;
+mod nesting;
+mod status;
+
+ghost use Rattle.std.specs.Prelude.{◌≡◌};
+ghost use Rattle.yorwethul_c.specs.Answers.{HandsOut, TellsOfChecking, TellsOfLayouts};
+ghost use Rattle.yorwethul_c.specs.Answers.{TellsOfWriting};
+
+use crate::answers::{checked, laid_out, written};
+use crate::copying::hand_out;
+use std::alloc::Global;
+
+#[cfg(test)]
+mod tests;
+
+/// Writes the module that the JSON holds with what is known of it, at most `LONGEST_TEXT` bytes.
+#[unsafe(no_mangle)]
+pub extern "C" fn yorwethul_write(
+    alloc: Global,
+    json: &[u8],
+    flags: u32,
+    out: &mut [u8],
+    needed: &mut usize,
+) -> u32
+    ensures { HandsOut (TellsOfWriting json.now flags) result needed.new out.old out.new }
+{
+    hand_out(written(alloc, json, flags), out, needed)
+}
+
+/// Says whether the module is accepted, and else where it is not and why.
+#[unsafe(no_mangle)]
+pub extern "C" fn yorwethul_check(
+    alloc: Global,
+    json: &[u8],
+    out: &mut [u8],
+    needed: &mut usize,
+) -> u32
+    ensures { HandsOut (TellsOfChecking json.now) result needed.new out.old out.new }
+{
+    hand_out(checked(alloc, json), out, needed)
+}
+
+/// Tells where the members of the module's structs stand in memory, or why they can't.
+#[unsafe(no_mangle)]
+pub extern "C" fn yorwethul_layout(
+    alloc: Global,
+    json: &[u8],
+    out: &mut [u8],
+    needed: &mut usize,
+) -> u32
+    ensures { HandsOut (TellsOfLayouts json.now) result needed.new out.old out.new }
+{
+    hand_out(laid_out(alloc, json), out, needed)
+}
+
+/// The version of the library: a million times the first number, a thousand times the second, and
+/// the third.
+#[unsafe(no_mangle)]
+pub extern "C" fn yorwethul_version() -> u32
+    ensures { result ≡ 1000 }
+{
+    1_000
+}

@@ -1,0 +1,81 @@
+//! How deep JSON nests.
+
+ghost use Rattle.std.specs.Prelude.{◌≡◌, ◌<◌, ◌^◌};
+ghost use Rattle.yorwethul_c.specs.Nesting.{nest_past, opened_after, within_after};
+ghost use Rattle.yorwethul_c.specs.declared.nesting.Within.TheVariants as within;
+
+/// Where a byte of JSON stands.
+#[derive(Clone, Copy, Debug, PartialEq, Eq)]
+pub enum Within {
+    /// Outside of strings.
+    Outside,
+    /// In a string.
+    Text,
+    /// In a string, right after a backslash.
+    Escape,
+}
+
+impl Within {
+    /// Where the next byte stands.
+    fn after(self, byte: u8) -> Self
+        ensures { result ≡ within_after self byte }
+    {
+        match self {
+            Within::Outside => {
+                if byte == b'"' {
+                    Within::Text
+                } else {
+                    Within::Outside
+                }
+            }
+            Within::Text => {
+                if byte == b'"' {
+                    Within::Outside
+                } else if byte == b'\\' {
+                    Within::Escape
+                } else {
+                    Within::Text
+                }
+            }
+            Within::Escape => Within::Text,
+        }
+    }
+
+    /// How many lists and objects are open after the byte, if so many were open in front of it.
+    fn opened_after(self, byte: u8, opened: usize) -> usize
+        requires { opened < 2 ^ 63 }
+        ensures { result ≡ opened_after self byte opened }
+    {
+        match self {
+            Within::Outside => {
+                if byte == b'[' || byte == b'{' {
+                    opened + 1
+                } else if byte == b']' || byte == b'}' {
+                    opened.saturating_sub(1)
+                } else {
+                    opened
+                }
+            }
+            Within::Text | Within::Escape => opened,
+        }
+    }
+}
+
+/// Whether more lists and objects than this stand open somewhere in the bytes, by their brackets
+/// outside of strings. It is the question why a reader of JSON stopped, so that it does not ask for
+/// the rest.
+pub fn nests_past(json: &[u8], most: usize) -> bool
+    requires { most < 2 ^ 63 }
+    ensures { result ≡ nest_past most within.Outside 0 json.now }
+{
+    let mut opened: usize = 0;
+    let mut within = Within::Outside;
+    for byte in json {
+        opened = within.opened_after(*byte, opened);
+        if opened > most {
+            return true;
+        }
+        within = within.after(*byte);
+    }
+    false
+}
