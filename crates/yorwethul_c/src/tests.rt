@@ -145,6 +145,6 @@ fn a_short_memory_is_left(rt: HostRuntime) {
     assert_eq!(rt; (status, needed), (0, DOUBLE_TEXT.len()));
     assert_eq!(rt; out, [7; 256]);
     let _ = called(&rt, Call::Write(0), DOUBLE, &mut out[..needed], &mut needed);
-    assert_eq!(rt; &out[..needed], DOUBLE_TEXT.as_bytes());
+    assert!(rt; needed == DOUBLE_TEXT.len() && out.starts_with(DOUBLE_TEXT.as_bytes()));
     assert_eq!(rt; yorwethul_version(), 1_000);
 }
