@@ -2,7 +2,7 @@
 --
 -- Throughout, d is the context of a function's expressions es, h a handle, e an expression, r
 -- what is known of its type, and t a tree of constants (ts are several).
-use Rattle.std.specs.Prelude.{ℕ, zero, suc, Bool, true, false, ◌||◌, List, [], ◌∷◌, ◌++◌, take}
+use Rattle.std.specs.Prelude.{ℕ, zero, suc, Bool, true, false, List, [], ◌∷◌, ◌++◌, take}
 use Rattle.std.specs.Prelude.{length, slice_get, Option, Some, None, if◌then◌else◌, codes}
 use Rattle.std.specs.Prelude.{unwrap_or}
 use Rattle.std.specs.List.{flat_map}
@@ -11,7 +11,6 @@ use Rattle.naga_ir.specs.Operands.{expression_operands, level_operands}
 use Rattle.naga_ir.specs.declared.expression.Expression as ir
 use Rattle.naga_ir.specs.declared.expression.Expression.TheVariants as expression
 use Rattle.naga_ir.specs.declared.expression.SampleLevel.{SampleLevel}
-use Rattle.naga_ir.specs.declared.expression.SampleLevel.TheVariants as level
 use Rattle.naga_ir.specs.declared.expression.SwizzleComponent.{SwizzleComponent}
 use Rattle.naga_ir.specs.declared.expression.SwizzleComponent.TheVariants as component
 use Rattle.naga_ir.specs.declared.operators.BinaryOperator.TheVariants as binary
@@ -23,11 +22,11 @@ use Rattle.naga_info.specs.declared.info.TypeResolution.TheVariants.{Handle}
 use Rattle.naga_info.specs.Resolution.{inner_of, handle_of}
 use Rattle.module_meaning.specs.ExpressionOperators.{ExpressionContext, applied_operator}
 use Rattle.module_meaning.specs.ExpressionOperators.{constructor, part_operator}
-use Rattle.module_meaning.specs.ExpressionOperators.{type_with, load_operator}
+use Rattle.module_meaning.specs.ExpressionOperators.{type_with, load_operator, level_of}
 use Rattle.module_meaning.specs.Literals.{literal_value}
 use Rattle.module_meaning.specs.OperatorTable.{Operator as TableOperator, Splat, Sample, Gather}
 use Rattle.module_meaning.specs.OperatorTable.{Texel, ImageSize, CountOf, WithoutForm, PartAt, asks}
-use Rattle.module_meaning.specs.OperatorTable.{run_word}
+use Rattle.module_meaning.specs.OperatorTable.{run_word, is_zero_by_name, zero_is_written}
 use Rattle.module_meaning.specs.Shapes.{operator_shape}
 use Rattle.module_meaning.specs.TypeIdentity.{vector_number}
 use Rattle.shader_runs.specs.Value.{Selector, MemberNamed, ElementAt, ValueType, PointerType}
@@ -257,17 +256,17 @@ computed_over d tree_of h e =
 abbrev pub zero_level : ConstantTree
 zero_level = Fixed (Opaque (codes "f32") 0)
 
--- level zero as that number; where a sampling gathers, compares or clamps, it is at level zero by
--- the name of its built-in, which has no parameter for it
+-- that number, where level zero is written
 abbrev pub written_zero : SampleLevel → (by_name : Bool) → List ConstantTree
-written_zero level.Zero false = zero_level ∷ []
-written_zero _ by_name = []
+written_zero level by_name =
+    if zero_is_written (level_of level) by_name then zero_level ∷ [] else []
 
 -- A sampling asks its built-in, with operands in the order of the built-in's parameters: the image
 -- for `t`, the sampler for `s` and the coordinate for `coords`; the layer for `array_index` and
 -- what is compared for `depth_ref`, where it has these; for `level`, `bias`, or `ddx` and `ddy`
 -- what its level tells; and the offset for `offset`. Level zero and an offset that is a constant,
--- which has this tree, are written out, and stand after all that have handles.
+-- which has this tree, are written out, and stand after all that have handles. What a gather has
+-- for `component` is no operand: it belongs to the operator's word.
 abbrev pub sample_shape :
     ir.Expression → (offset_tree : Option ConstantTree) → Option TableOperator → Expression
 sample_shape
@@ -278,7 +277,8 @@ sample_shape
     (image ∷ sampler ∷ coordinate ∷ option_to_list array_index ++ option_to_list depth_ref ++
     level_operands level ++ (if is_some tree then [] else option_to_list offset))
     (trees
-    (written_zero level (is_some gather || (is_some depth_ref || clamp)) ++ option_to_list tree))
+    (written_zero level (is_zero_by_name (is_some gather) (is_some depth_ref) clamp) ++
+    option_to_list tree))
 sample_shape e tree operator = Result
 
 -- ---- expressions

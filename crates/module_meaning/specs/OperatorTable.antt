@@ -149,7 +149,7 @@ sample_word level compares false =
 sample_word Zero false true = Some (codes "textureSampleBaseClampToEdge")
 sample_word level compares true = None
 
--- a component's number is written as an operand, and belongs to the word
+-- A component's number is no operand: it is written before them, and belongs to the word.
 abbrev pub component_word : Option SwizzleComponent → List ℕ
 component_word None = codes ""
 component_word (Some component.X) = codes " 0"
@@ -371,10 +371,20 @@ math_count math.ExtractBits = 3
 math_count math.InsertBits = 4
 math_count _ = 1
 
--- Level zero is written as the number `0.0`, but not where something is compared or clamped.
+-- A sampling at level zero that gathers, compares or clamps is so by its built-in's name, which has
+-- no parameter for a level.
+abbrev pub is_zero_by_name : (gathers compares clamped : Bool) → Bool
+is_zero_by_name gathers compares clamped = gathers || (compares || clamped)
+
+-- Level zero is written as the number `0.0`, unless the built-in's name tells it.
+abbrev pub zero_is_written : Level → (by_name : Bool) → Bool
+zero_is_written Zero false = true
+zero_is_written _ by_name = false
+
 abbrev pub level_count : Level → (compares clamped : Bool) → ℕ
 level_count Automatic compares clamped = 0
-level_count Zero compares clamped = if compares || clamped then 0 else 1
+level_count Zero compares clamped =
+    if_there (zero_is_written Zero (is_zero_by_name false compares clamped))
 level_count Exact compares clamped = 1
 level_count Biased compares clamped = 1
 level_count Graded compares clamped = 2

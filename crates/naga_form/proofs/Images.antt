@@ -12,12 +12,13 @@ use Rattle.module_meaning.specs.ExpressionOperators.{level_of, sample_operator}
 use Rattle.module_meaning.specs.ExpressionShapes.{trees, written_zero}
 use Rattle.module_meaning.specs.OperatorTable.{Gather, Level, Sample, run_word, sample_word}
 use Rattle.module_meaning.specs.OperatorTable.{Automatic, Biased, Exact, Graded, Zero}
+use Rattle.module_meaning.specs.OperatorTable.{zero_is_written}
 use Rattle.module_meaning.specs.Sampling.{sampling_is_written}
 use Rattle.naga_form.proofs.Operators.{AllReadLike, callee_of}
 use Rattle.naga_form.proofs.WrittenHandles.{all_rest}
 use Rattle.naga_form.specs.Expressions.{PlainForm, as_value, value_forms}
 use Rattle.naga_form.specs.Images.{component_then, gathered_component, operands_then, sampling_form}
-use Rattle.naga_form.specs.Images.{component_number, sampling_word, zero_is_written, zero_then}
+use Rattle.naga_form.specs.Images.{component_number, sampling_word, zero_then}
 use Rattle.naga_ir.specs.declared.expression.SampleLevel.{SampleLevel}
 use Rattle.naga_ir.specs.declared.expression.SampleLevel.TheVariants as level
 use Rattle.naga_ir.specs.declared.expression.SwizzleComponent.{SwizzleComponent}
@@ -141,7 +142,7 @@ module _ (operand : ℕ → PlainForm) (like : ℕ → runs.Plain) (outer : Modu
   behind_read : (l : SampleLevel) (unwritten : Bool) (offset : List Expression)
       (c : Option ConstantTree) →
       arguments_read (operands offset) ≡ constant_forms outer (trees (option_to_list c)) →
-      arguments_read (zero_then (zero_is_written l unwritten) (operands offset)) ≡
+      arguments_read (zero_then (zero_is_written (level_of l) unwritten) (operands offset)) ≡
       constant_forms outer (trees (written_zero l unwritten ++ option_to_list c))
   behind_read level.Zero false offset c same = ap (more (LiteralOf (Opaque (codes "f32") 0))) same
   behind_read level.Zero true offset c same = same
@@ -155,14 +156,15 @@ module _ (operand : ℕ → PlainForm) (like : ℕ → runs.Plain) (outer : Modu
       arguments_read (operands offset) ≡ constant_forms outer (trees (option_to_list c)) →
       let op = sample_operator of_depths gather (level_of l) compares clamped arrayed with_offset in
       expression_read
-      (sampling_form op (zero_is_written l unwritten) (value_forms operand (h ∷ hs)) offset) ≡
+      (sampling_form op (zero_is_written (level_of l) unwritten) (value_forms operand (h ∷ hs))
+      offset) ≡
       Apply (run_word op)
       (runs.value_forms_then like (h ∷ hs)
       (constant_forms outer (trees (written_zero l unwritten ++ option_to_list c))))
   sampling_read gather l compares clamped arrayed with_offset of_depths unwritten is h hs same offset
       c behind =
       let op = sample_operator of_depths gather (level_of l) compares clamped arrayed with_offset in
-      let last = zero_then (zero_is_written l unwritten) (operands offset) in
+      let last = zero_then (zero_is_written (level_of l) unwritten) (operands offset) in
       let args = operands_then (value_forms operand (h ∷ hs)) last in
       λ i. Apply
       (word_read gather l compares clamped arrayed with_offset of_depths is (as_value (operand h))
@@ -268,7 +270,7 @@ module _ (e : Expression) (es offset : List Expression) (are : Each IsExpression
       plain_is (run_word (Sample l compares clamped arrayed with_offset))
       (word_called l compares clamped arrayed with_offset is)
 
-  none_gathered : (l : SampleLevel) → zero_is_written l true ≡ false
+  none_gathered : (l : SampleLevel) → zero_is_written (level_of l) true ≡ false
   none_gathered level.Zero = refl
   none_gathered _ = refl
 
@@ -277,7 +279,7 @@ module _ (e : Expression) (es offset : List Expression) (are : Each IsExpression
       is_some (sample_word (level_of l) compares clamped) ≡ true →
       IsExpression
       (sampling_form (Sample (level_of l) compares clamped arrayed with_offset)
-      (zero_is_written l (compares || clamped)) (e ∷ es) offset)
+      (zero_is_written (level_of l) (compares || clamped)) (e ∷ es) offset)
   by_level level.Zero false false arrayed with_offset is = level_is arrayed with_offset
   by_level level.Zero false true arrayed with_offset is =
       sample_is Zero false true arrayed with_offset is
@@ -299,7 +301,7 @@ module _ (e : Expression) (es offset : List Expression) (are : Each IsExpression
       IsExpression
       (sampling_form
       (sample_operator of_depths gather (level_of l) compares clamped arrayed with_offset)
-      (zero_is_written l (is_some gather || (compares || clamped))) (e ∷ es) offset)
+      (zero_is_written (level_of l) (is_some gather || (compares || clamped))) (e ∷ es) offset)
   sampling_is None l compares clamped arrayed with_offset of_depths is =
       by_level l compares clamped arrayed with_offset is
   sampling_is (Some c) l compares clamped arrayed with_offset true is =

@@ -10,7 +10,7 @@ use Rattle.module_meaning.specs.ExpressionOperators.{constructor}
 use Rattle.module_meaning.specs.ExpressionShapes.{constant_shape, swizzle_letters}
 use Rattle.shader_runs.specs.Text.{PartOf}
 use Rattle.shader_runs.specs.Value.{MemberNamed, Truth}
-use Rattle.module_meaning.specs.OperatorTable.{run_word}
+use Rattle.module_meaning.specs.OperatorTable.{run_word, zero_is_written}
 use Rattle.shader_runs.specs.Program.{Constructed, Fixed, no_constant}
 use Rattle.naga_form.specs.Expressions.{operator_type}
 use Rattle.naga_form.proofs.Operators.{SpellsIf, SpellsTypes, constructor_spelled, operator_spelled}
@@ -25,7 +25,7 @@ use Rattle.naga_form.proofs.ConstantForms.{IsReadAs}
 use Rattle.naga_form.proofs.Images.{sampling_read, without_offset}
 use Rattle.naga_form.proofs.Operators.{AllReadLike}
 use Rattle.naga_form.specs.Expressions.{constant_form, value_forms}
-use Rattle.naga_form.specs.Images.{sampling_form, zero_is_written}
+use Rattle.naga_form.specs.Images.{sampling_form}
 use Rattle.naga_ir.specs.Operands.{level_operands}
 use Rattle.shader_runs.specs.Form.{constant_forms}
 use Rattle.shader_runs.specs.Program.{ConstantTree}
@@ -339,8 +339,8 @@ module _ (m : Module) (n : Naming) (code : Source)
           (is_some array_index) (is_some o) in
           let c = option_and_then tree_of o in
           expression_read
-          (sampling_form op (zero_is_written level unwritten) (value_forms operand (image ∷ hs))
-          (map (constant_form code) (option_to_list o))) ≡
+          (sampling_form op (zero_is_written (level_of level) unwritten)
+          (value_forms operand (image ∷ hs)) (map (constant_form code) (option_to_list o))) ≡
           Apply (run_word op)
           (runs.value_forms_then like
           (image ∷ sampler ∷ coordinate ∷ option_to_list array_index ++ option_to_list depth_ref ++

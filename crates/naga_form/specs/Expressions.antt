@@ -6,7 +6,7 @@
 -- expression, op an operator, and t are the names that types are spelled with.
 use Rattle.std.specs.Prelude.{ℕ, List, [], ◌∷◌, Option, Bool, true, false, suc, None, Some}
 use Rattle.std.specs.Prelude.{slice_get, zero}
-use Rattle.std.specs.Prelude.{length, map, codes, ◌||◌}
+use Rattle.std.specs.Prelude.{length, map, codes}
 use Rattle.std.specs.Option.{option_map, option_map_or, option_and_then, is_some, option_to_list}
 use Rattle.naga_ir.specs.declared.expression.Expression as ir
 use Rattle.naga_ir.specs.declared.expression.Expression.TheVariants as expression
@@ -24,10 +24,11 @@ use Rattle.shader_runs.specs.Scope.{Availability, Bound, Handles, Naming}
 use Rattle.shader_runs.specs.Value.{Selector, MemberNamed, ElementAt}
 use Rattle.module_meaning.specs.Conversions.{conversion_target, keeps_bits}
 use Rattle.module_meaning.specs.ExpressionOperators.{ExpressionContext, applied_operator}
-use Rattle.module_meaning.specs.ExpressionOperators.{constructor}
+use Rattle.module_meaning.specs.ExpressionOperators.{constructor, level_of}
 use Rattle.module_meaning.specs.ExpressionOperators.{load_operator, scalar_behind, type_known}
 use Rattle.module_meaning.specs.ExpressionShapes.{Declared, part_selector, swizzle_letters}
-use Rattle.module_meaning.specs.OperatorTable.{Operator, WithoutForm, PartAt}
+use Rattle.module_meaning.specs.OperatorTable.{Operator, WithoutForm, PartAt, is_zero_by_name}
+use Rattle.module_meaning.specs.OperatorTable.{zero_is_written}
 use Rattle.module_meaning.specs.ExpressionContexts.{declared, types_known}
 pub use Rattle.module_meaning.specs.ExpressionContexts.{is_handle_variable}
 use Rattle.module_meaning.specs.Types.{type_names}
@@ -41,7 +42,7 @@ use Rattle.naga_ir.specs.Operands.{expression_operands}
 use Rattle.naga_ir.specs.declared.module.Function as ir_function
 use Rattle.naga_ir.specs.declared.module.Module.{Module}
 use Rattle.naga_form.specs.ConstantForms.{written_constant_form, written_out}
-use Rattle.naga_form.specs.Images.{sampling_form, zero_is_written}
+use Rattle.naga_form.specs.Images.{sampling_form}
 use Rattle.naga_form.specs.Operators.{notation, applied_form}
 
 -- a plain form: a value or a reference
@@ -217,9 +218,9 @@ own_plain n source operand
     image sampler gather coordinate array_index offset level depth_ref clamp) =
     let e = expression.ImageSample
     image sampler gather coordinate array_index offset level depth_ref clamp in
-    let unwritten = is_some gather || (is_some depth_ref || clamp) in
-    sampled_plain source operand (zero_is_written level unwritten) (sampling_operands e) offset
-    (applied_operator source.declared.context e)
+    let by_name = is_zero_by_name (is_some gather) (is_some depth_ref) clamp in
+    sampled_plain source operand (zero_is_written (level_of level) by_name) (sampling_operands e)
+    offset (applied_operator source.declared.context e)
 own_plain n source operand e =
     let a = source.declared.context in
     applied_plain no_form (operator_type a source.type_names e) operand (expression_operands e)

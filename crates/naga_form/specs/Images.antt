@@ -4,8 +4,6 @@
 -- Throughout, op is an operator, and es are the forms of operands.
 use Rattle.std.specs.Prelude.{ℕ, Bool, true, false, List, [], ◌∷◌, ◌++◌, codes, Option, Some, None}
 use Rattle.module_meaning.specs.OperatorTable.{Operator, Gather, if_word, run_word}
-use Rattle.naga_ir.specs.declared.expression.SampleLevel.{SampleLevel}
-use Rattle.naga_ir.specs.declared.expression.SampleLevel.TheVariants as level
 use Rattle.naga_ir.specs.declared.expression.SwizzleComponent.{SwizzleComponent}
 use Rattle.naga_ir.specs.declared.expression.SwizzleComponent.TheVariants as component
 use Rattle.wgsl_text.specs.Expressions.{Expression, Arguments, Argument, NumberArgument}
@@ -19,7 +17,8 @@ component_number component.Y = 1
 component_number component.Z = 2
 component_number component.W = 3
 
--- A gather tells its component in front of its operands, and not in its word.
+-- A gather's component is written before its operands, and not in the word that is called; to the
+-- runs it belongs to the operator's word.
 abbrev pub gathered_component : Operator → Option ℕ
 gathered_component (Gather (Some component) level compares clamped arrayed offset) =
     Some (component_number component)
@@ -29,11 +28,6 @@ abbrev pub sampling_word : Operator → List ℕ
 sampling_word (Gather component level compares clamped arrayed offset) =
     codes "textureGather" ++ if_word compares (codes "Compare")
 sampling_word op = run_word op
-
--- Level zero is written as a number where nothing is gathered, compared or clamped.
-abbrev pub zero_is_written : SampleLevel → (unwritten : Bool) → Bool
-zero_is_written level.Zero false = true
-zero_is_written _ unwritten = false
 
 -- ---- arguments
 abbrev pub component_then : Option ℕ → Arguments → Arguments

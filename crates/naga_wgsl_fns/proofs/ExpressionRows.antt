@@ -14,7 +14,7 @@ use Rattle.module_meaning.specs.ExpressionOperators.{is_depth_image, level_of, s
 use Rattle.module_meaning.specs.ExpressionOperators.{type_known}
 use Rattle.naga_form.proofs.Images.{without_offset}
 use Rattle.naga_form.specs.Expressions.{constant_form, sampling_operands}
-use Rattle.naga_form.specs.Images.{sampling_form, zero_is_written}
+use Rattle.naga_form.specs.Images.{sampling_form}
 use Rattle.naga_ir.specs.Operands.{level_operands}
 use Rattle.naga_ir.specs.Operands.{expression_operands}
 use Rattle.naga_ir.specs.declared.expression.Expression as ir
@@ -44,7 +44,7 @@ use Rattle.naga_wgsl_fns.specs.FunctionText.{named_in}
 use Rattle.naga_wgsl_fns.specs.FunctionText.{type_names_of}
 use Rattle.module_meaning.specs.ExpressionOperators.{is_atomic_pointer}
 use Rattle.module_meaning.specs.OperatorTable.{AtomicLoad, Operator, run_word}
-use Rattle.module_meaning.specs.OperatorTable.{WithoutForm}
+use Rattle.module_meaning.specs.OperatorTable.{WithoutForm, zero_is_written}
 use Rattle.naga_form.specs.Operators.{Called, Infix, Notation, Prefix, applied_form, notation}
 use Rattle.naga_form.specs.Operators.{operator_form}
 use Rattle.naga_form.specs.Operators.{unary_form}
@@ -153,7 +153,7 @@ module _ (n : Naming) (code : Source) (before : OperandsStandBefore code.express
       let unwritten = is_some gather || (is_some depth_ref || clamp) in
       ap
       (λ es. ValueForm
-      (sampling_form op (zero_is_written level unwritten) es
+      (sampling_form op (zero_is_written (level_of level) unwritten) es
       (map (constant_form code) (option_to_list offset))))
       (operands_same a b h (sampling_operands e)
       (all_below h (sampling_operands e)

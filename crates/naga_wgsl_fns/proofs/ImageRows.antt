@@ -10,6 +10,7 @@ use Rattle.std.proofs.lemmas.List.{append-nil}
 use Rattle.module_meaning.specs.ExpressionOperators.{level_of, query_operator}
 use Rattle.module_meaning.specs.ExpressionOperators.{sample_operator, texel_of}
 use Rattle.module_meaning.specs.OperatorTable.{Sample, Splat, Texel, if_word, run_word}
+use Rattle.module_meaning.specs.OperatorTable.{zero_is_written}
 use Rattle.module_meaning.specs.WrittenOut.{is_written_out, written_out_over, written_out_within}
 use Rattle.naga_form.proofs.Operators.{query_is_called}
 use Rattle.naga_form.specs.ConstantForms.{constant_form_over, constant_form_within, no_constant_form}
@@ -17,8 +18,7 @@ use Rattle.naga_form.specs.ConstantForms.{built_form}
 use Rattle.naga_form.specs.Expressions.{as_value, constant_form, own_if, own_plain}
 use Rattle.naga_form.specs.Expressions.{value_forms}
 use Rattle.naga_form.specs.Images.{component_number, component_then, gathered_component}
-use Rattle.naga_form.specs.Images.{operands_then, sampling_form, sampling_word, zero_is_written}
-use Rattle.naga_form.specs.Images.{zero_then}
+use Rattle.naga_form.specs.Images.{operands_then, sampling_form, sampling_word, zero_then}
 use Rattle.naga_form.specs.Operators.{applied_form, notation, Called}
 use Rattle.naga_ir.specs.Operands.{expression_operands, level_operands, query_operands}
 use Rattle.naga_ir.specs.declared.expression.Expression as ir
@@ -166,10 +166,10 @@ furthers_then f table (h ∷ hs) ks args =
     (text (more_arguments_pieces (operands_then (value_forms (form_at f table) ks) args)))))
 
 level_then : (l : SampleLevel) (is_in_word : Bool) (args : Arguments) →
-    text (more_arguments_pieces (zero_then (zero_is_written l is_in_word) args)) ≡
+    text (more_arguments_pieces (zero_then (zero_is_written (level_of l) is_in_word) args)) ≡
     joined_texts (level_text l is_in_word) (text (more_arguments_pieces args))
 unfolding joined_texts
-level_then l is_in_word args = by (zero_is_written l is_in_word)
+level_then l is_in_word args = by (zero_is_written (level_of l) is_in_word)
   where
     by : (b : Bool) →
         text (more_arguments_pieces (zero_then b args)) ≡
@@ -303,7 +303,7 @@ sampling_row f table handle image sampler gather coordinate array_index offset l
     let d = option_to_list depth_ref in
     let in_word = is_some gather || (is_some depth_ref || clamp) in
     let offsets = arguments_of (map (constant_form (source f)) (option_to_list offset)) in
-    let last = zero_then (zero_is_written l in_word) offsets in
+    let last = zero_then (zero_is_written (level_of l) in_word) offsets in
     let behind = a ++ (d ++ (level_operands l ++ [])) in
     let word = is_some depth_ref in
     let op =
@@ -312,7 +312,7 @@ sampling_row f table handle image sampler gather coordinate array_index offset l
     ap (λ o. expression_layout (as_value (own_if (naming f) (source f) form o))) at
     ∙ (ap
     (λ hs. expression_layout
-    (sampling_form op (zero_is_written l in_word)
+    (sampling_form op (zero_is_written (level_of l) in_word)
     (value_forms form (image ∷ sampler ∷ coordinate ∷ hs))
     (map (constant_form (source f)) (option_to_list offset))))
     (append_assoc (a ++ d) (level_operands l) [] ∙ append_assoc a d (level_operands l ++ []))

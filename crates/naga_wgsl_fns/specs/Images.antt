@@ -4,8 +4,9 @@ use Rattle.std.specs.Prelude.{if◌then◌else◌, Option, Some, None}
 use Rattle.std.specs.Option.{option_map_or}
 use Rattle.module_meaning.specs.ExpressionOperators.{is_depth_image, level_of, sample_operator}
 use Rattle.module_meaning.specs.ExpressionOperators.{type_known}
+use Rattle.module_meaning.specs.OperatorTable.{zero_is_written}
 use Rattle.naga_form.specs.Expressions.{constant_form}
-use Rattle.naga_form.specs.Images.{sampling_word, zero_is_written}
+use Rattle.naga_form.specs.Images.{sampling_word}
 use Rattle.naga_ir.specs.declared.expression.Expression as ir
 use Rattle.naga_ir.specs.declared.expression.Expression.TheVariants as expression
 use Rattle.naga_ir.specs.declared.expression.SampleLevel.{SampleLevel}
@@ -53,7 +54,7 @@ furthers_text f table (h ∷ hs) = next_operand_text f table false h ++ furthers
 
 -- the level `0.0`, where it is written
 abbrev pub level_text : SampleLevel → (is_in_word : Bool) → List ℕ
-level_text level is_in_word = if zero_is_written level is_in_word then codes ", 0.0" else []
+level_text level is_in_word = if zero_is_written (level_of level) is_in_word then codes ", 0.0" else []
 
 -- an offset, as a constant
 unfoldable pub offset_text : FunctionText → (offset : Option ℕ) → List ℕ
