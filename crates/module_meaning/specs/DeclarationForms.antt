@@ -97,12 +97,22 @@ pub record HeadHasForm (m : Module) (number : ℕ) : Type 0 where
   pub stage : (p : EntryPoint) → entry_point_numbered m number ≡ Some p →
       IsTrue (stage_has_form p p.stage)
 
--- The items that a function may name have forms, as far as its runs and what its identifiers stand
--- for hang on them: the types of variables, and each initialiser.
+-- The items that a function or an initialiser may name have forms, as far as runs and values hang
+-- on them: the types of variables, and the initialisers of constants with names. Those of overrides
+-- and of variables may have none.
 pub record ItemsHaveForms (m : Module) : Type 0 where
   pub variables : (i : ℕ) (v : GlobalVariable) → slice_get m.global_variables i ≡ Some v →
       IsTrue (is_spellable m (Handle v.ty))
-  pub initialisers : (handle : ℕ) → IsInitialiser m handle → IsTrue (global_is_written m handle)
+  pub constants : (i : ℕ) (c : Constant) → slice_get m.constants i ≡ Some c →
+      IsTrue (is_some c.name) → IsTrue (global_is_written m c.init)
+
+-- The initialisers of overrides and of variables have forms. No run hangs on these.
+pub record OtherInitialisersHaveForms (m : Module) : Type 0 where
+  pub overrides : (i : ℕ) (o : Override) (handle : ℕ) → slice_get m.overrides i ≡ Some o →
+      o.init ≡ Some handle → IsTrue (global_is_written m handle)
+  pub variables : (i : ℕ) (v : GlobalVariable) (handle : ℕ) →
+      slice_get m.global_variables i ≡ Some v → v.init ≡ Some handle →
+      IsTrue (global_is_written m handle)
 
 -- All that the module declares has a form, and no fault stands against a struct that is concerned:
 -- a member that can't be left where it is, or an array of another stride than WGSL gives it.

@@ -17,6 +17,7 @@ use Rattle.wgsl_text.specs.Declarations.{Program}
 use Rattle.wgsl_text.specs.Reading.{type_layout}
 use Rattle.wgsl_text.specs.Types.{TypeSpecifier, IsType}
 use Rattle.module_meaning.specs.Bindings.{functions_named}
+use Rattle.module_meaning.specs.DeclarationForms.{OtherInitialisersHaveForms}
 use Rattle.module_meaning.specs.DeclaredItems.{module_initialiser_targets, module_stage_targets}
 use Rattle.module_meaning.specs.DeclaredItems.{resolution_items}
 use Rattle.module_meaning.specs.Names.{expression_name, LabelNames, module_names, name_in}
@@ -85,11 +86,13 @@ OwnMembersResolve m =
     (words_of_members (module_names m) h t)
     ≡ Some i
 
--- Each name outside of functions does.
-pub record ItemsResolve (m : Module) (info : ModuleInfo) (program : Program) : Type 0 where
-  -- the initialisers of overrides and of variables
-  pub initialisers : program_initialiser_targets program
-      ≡ map (map Some) (module_initialiser_targets m info)
+-- Each identifier and each word of the initialisers of overrides and of variables does.
+abbrev pub InitialisersResolve : Module → ModuleInfo → Program → Type 0
+InitialisersResolve m info program =
+    program_initialiser_targets program ≡ map (map Some) (module_initialiser_targets m info)
+
+-- Each name outside of functions and initialisers does.
+pub record ItemsResolve (m : Module) (program : Program) : Type 0 where
   -- the variables that entry points name: outputs of meshes and payloads
   pub stages : stage_targets program ≡ map (map Some) (module_stage_targets m)
   -- what types name
@@ -102,15 +105,18 @@ pub record ItemsResolve (m : Module) (info : ModuleInfo) (program : Program) : T
 pub record ResolvesUnder (named : LabelNames) (m : Module) (info : ModuleInfo) (program : Program) :
     Type 0 where
   pub bodies : BodiesResolve named m info program
-  pub items : ItemsResolve m info program
+  pub initialisers : InitialisersResolve m info program
+  pub items : ItemsResolve m program
   -- no name that a function gives hides what types name
   pub not_hidden : IsTrue (types_are_not_hidden program)
 
--- Each does that stands in the function with this number or outside of functions.
+-- Each does that stands in the function with this number or outside of functions. Initialisers are
+-- asked for their forms, and no other item is.
 pub record ResolvesAt (named : LabelNames) (m : Module) (info : ModuleInfo) (program : Program)
     (number : ℕ) : Type 0 where
   pub body : BodyResolves named m info program number
-  pub items : ItemsResolve m info program
+  pub initialisers : OtherInitialisersHaveForms m → InitialisersResolve m info program
+  pub items : ItemsResolve m program
   -- no name that it gives hides what types name
   pub not_hidden : IfSome (slice_get (functions_of program) number)
       (λ f. IsTrue (hides_no_type program (function_read f)))

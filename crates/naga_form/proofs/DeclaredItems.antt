@@ -12,11 +12,12 @@ use Rattle.naga_ir.specs.declared.module.Module.{Module}
 use Rattle.naga_names.specs.declared.key.NameKey.TheVariants as key
 use Rattle.naga_words.specs.Spelling.{is_struct}
 use Rattle.module_meaning.specs.Accepted.{is_accepted}
-use Rattle.module_meaning.specs.DeclarationForms.{ItemsHaveForms, OfOverride, OfVariable}
-use Rattle.module_meaning.specs.DeclaredItems.{initialiser_meant, module_initialiser_targets}
+use Rattle.module_meaning.specs.DeclarationForms.{OtherInitialisersHaveForms}
+use Rattle.module_meaning.specs.DeclaredItems.{initialiser_meant}
 use Rattle.module_meaning.specs.DeclaredItems.{module_stage_targets, resolution_items}
 use Rattle.module_meaning.specs.Names.{LabelNames, module_names}
-use Rattle.module_meaning.specs.Resolution.{ItemsResolve, MembersResolve, TypesResolve}
+use Rattle.module_meaning.specs.Resolution.{InitialisersResolve, ItemsResolve, MembersResolve}
+use Rattle.module_meaning.specs.Resolution.{TypesResolve}
 use Rattle.module_meaning.specs.Types.{type_names}
 use Rattle.module_meaning.specs.Undeclared.{is_declared, is_undeclared}
 use Rattle.module_meaning.specs.ExpressionForms.{global_is_written}
@@ -24,7 +25,7 @@ use Rattle.module_meaning.proofs.ExpressionForms.{spellable_parts}
 use Rattle.shader_runs.specs.Resolution.{Lookup, text_names}
 use Rattle.text_meaning.specs.Abstraction.{program_read}
 use Rattle.text_meaning.specs.Resolution.{initialiser_targets, item_named}
-use Rattle.text_meaning.specs.Resolution.{program_initialiser_targets, stage_targets, struct_named}
+use Rattle.text_meaning.specs.Resolution.{stage_targets, struct_named}
 use Rattle.text_meaning.specs.Resolution.{StructItem, type_items, ValueItem}
 use Rattle.wgsl_text.proofs.Types.{named_text}
 use Rattle.wgsl_text.proofs.Words.{passes}
@@ -59,7 +60,7 @@ plain_names_no_item w plain =
     ∙ (free_parts (type_layout (Named w)) free).no_item
 
 module _ (m : Module) (info : ModuleInfo) (explicit : Bool) (labels : LabelNames)
-    (accepted : IsTrue (is_accepted m info)) (items : ItemsHaveForms m) where
+    (accepted : IsTrue (is_accepted m info)) where
   abbrev program : Program
   program = program_under labels m info explicit
 
@@ -72,7 +73,7 @@ module _ (m : Module) (info : ModuleInfo) (explicit : Bool) (labels : LabelNames
       ≡ map Some (initialiser_meant m info o)
   one_resolves None is = refl
   one_resolves (Some h) is =
-      initialiser_found m info explicit labels accepted items h (is h refl)
+      initialiser_found m info explicit labels accepted h (is h refl)
 
   -- those of declarations in their order, each made of an item by a form that has its initialiser
   each_resolves : {X Y : Type 0} (form : ℕ × X → Y) (value : Y → Option Expression)
@@ -88,15 +89,14 @@ module _ (m : Module) (info : ModuleInfo) (explicit : Bool) (labels : LabelNames
       let rest = each_resolves form value init same (k + 1) xs (λ i y at. is (suc i) y at) in
       λ i. here i ∷ rest i
 
-  pub initialisers_resolve : program_initialiser_targets program
-      ≡ map (map Some) (module_initialiser_targets m info)
-  initialisers_resolve =
+  pub initialisers_resolve : OtherInitialisersHaveForms m → InitialisersResolve m info program
+  initialisers_resolve others =
       let overrides = each_resolves (override_form (module_names m) (type_names m) m)
       (λ o. o.value) (λ o. o.init) (λ k o. refl) 0 m.overrides
-      (λ i o at h init. items.initialisers h (OfOverride i o h at init)) in
+      (λ i o at h init. others.overrides i o h at init) in
       let variables = each_resolves (variable_form (module_names m) (type_names m) m)
       (λ v. v.value) (λ v. v.init) (λ k v. refl) 0 m.global_variables
-      (λ i v at h init. items.initialisers h (OfVariable i v h at init)) in
+      (λ i v at h init. others.variables i v h at init) in
       (λ i. overrides i ++ variables i)
       ∙ sym (map-append (map Some) (map (λ o. initialiser_meant m info o.init) m.overrides)
       (map (λ v. initialiser_meant m info v.init) m.global_variables))
@@ -105,7 +105,7 @@ module _ (m : Module) (info : ModuleInfo) (explicit : Bool) (labels : LabelNames
   pub stages_resolve : stage_targets program ≡ map (map Some) (module_stage_targets m)
   stages_resolve =
       stages_named (module_names m) names (length m.global_variables)
-      (variable_found m info explicit labels accepted items) explicit labels m info
+      (variable_found m info explicit labels accepted) explicit labels m info
       (length m.functions) m.entry_points.items info.entry_points.items
       (entry_points_counted m info accepted) (stage_variables_within m info accepted)
 
@@ -133,7 +133,7 @@ module _ (m : Module) (info : ModuleInfo) (explicit : Bool) (labels : LabelNames
         ap (λ k. option_or (option_map StructItem k) (option_map ValueItem (names w)))
         (ap (struct_named program.structs) name ∙ override_not_found m info explicit labels o lt)
         ∙ ap (option_map ValueItem)
-        (override_found m info explicit labels accepted items o lt);
+        (override_found m info explicit labels accepted o lt);
   }
 
   pub types_resolve : TypesResolve m program
@@ -154,10 +154,9 @@ module _ (m : Module) (info : ModuleInfo) (explicit : Bool) (labels : LabelNames
   pub members_resolve : MembersResolve m program
   members_resolve = members_found m info explicit labels
 
-  -- ---- all of them
-  pub items_resolve : ItemsResolve m info program
+  -- ---- all outside of initialisers
+  pub items_resolve : ItemsResolve m program
   items_resolve = record {
-    initialisers = initialisers_resolve;
     stages = stages_resolve;
     types = types_resolve;
     members = members_resolve;

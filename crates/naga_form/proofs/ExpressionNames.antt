@@ -246,6 +246,13 @@ module _ (m : Module) where
           (ap (slice_get (all_functions m)) (sym (eqb-true g number same)) ∙ found) later
       by false other = expression_names_are g f found
 
+  -- and those of each may be such others
+  pub names_of_each_are : (later : (number : ℕ) → List (List ℕ)) →
+      AreLabelNames m
+      (λ number.
+      name_of_label wgsl_names (item_labels m ++ later number) (labels_named_in m number))
+  names_of_each_are later g f found = names_behind_at g f found (later g)
+
   -- ---- what names of labels are
   module _ (f : ir_function.Function) (named : (label : ℕ) → List ℕ)
       (are : AreLabelNamesOf m f named) where

@@ -27,7 +27,6 @@ use Rattle.shader_runs.proofs.Names.{length-form_functions, length-functions_of}
 use Rattle.shader_runs.proofs.ScopeRules.{scope_check_is_the_rules}
 use Rattle.text_meaning.specs.Abstraction.{function_read, program_read}
 use Rattle.module_meaning.specs.Accepted.{is_accepted}
-use Rattle.module_meaning.specs.DeclarationForms.{ItemsHaveForms}
 use Rattle.module_meaning.specs.ExpressionContexts.{declared, types_known}
 use Rattle.module_meaning.specs.FunctionNumbers.{all_functions, all_infos}
 use Rattle.module_meaning.specs.FunctionShapes.{function_shape}
@@ -315,8 +314,8 @@ module _ (m : Module) (info : ModuleInfo) (accepted : IsTrue (is_accepted m info
             omega (arith, shapes, all, first, told, joined, spelled, named_ones, taken)
 
         -- what the law asks of them
-        pub one_fits : ItemsHaveForms m → OneFits p n later own between first_namings
-        one_fits items =
+        pub one_fits : OneFits p n later own between first_namings
+        one_fits =
             let is = accepted_at m info accepted g f es at in
             let both = zip_parts (all_functions m) (all_infos info) g (f, es) at in
             let first = first_shapes_counted count (omega (arith, few, within)) in
@@ -326,7 +325,7 @@ module _ (m : Module) (info : ModuleInfo) (accepted : IsTrue (is_accepted m info
             let fits =
             function_fits_at g f es at have scope (first_shapes g) before_counted (first_shapes_tell g) in
             record {
-              items = subst (λ fs. ItemsFit p n fs) texts_around (items_fit m info explicit named accepted items);
+              items = subst (λ fs. ItemsFit p n fs) texts_around (items_fit m info explicit named accepted);
               others = later_shapes;
               uncalled = uncalled;
               functions = ap (λ fs. later_shapes ++ (own.function ∷ fs)) (sym before) ∙ shapes_around;

@@ -33,7 +33,6 @@ use Rattle.text_meaning.specs.Vocabulary.{vocabulary_read}
 use Rattle.module_meaning.specs.Accepted.{is_accepted}
 use Rattle.module_meaning.specs.DeclarationForms.{DeclarationsHaveForms, IsInitialiser}
 use Rattle.module_meaning.specs.DeclarationForms.{ItemsHaveForms}
-use Rattle.module_meaning.proofs.DeclarationForms.{items_have_forms}
 use Rattle.module_meaning.specs.ExpressionContexts.{global_tree}
 use Rattle.module_meaning.specs.ExpressionForms.{global_is_written, global_is_written_over}
 use Rattle.module_meaning.specs.ExpressionForms.{global_is_written_within}
@@ -89,8 +88,7 @@ written_within m h is = by (slice_get m.global_expressions h) refl is
     by None at is = absurd cc
     by (Some e) at is = slice_get_within m.global_expressions h e at
 
-module _ (m : Module) (info : ModuleInfo) (accepted : IsTrue (is_accepted m info))
-    (items : ItemsHaveForms m) where
+module _ (m : Module) (info : ModuleInfo) (accepted : IsTrue (is_accepted m info)) where
   abbrev shape : shapes.Module
   shape = module_shape m info
 
@@ -127,12 +125,12 @@ module _ (m : Module) (info : ModuleInfo) (accepted : IsTrue (is_accepted m info
         )
 
     -- and the text has it in every world
-    pub values_alike : (explicit : Bool) (labels : LabelNames) (world : World) →
+    pub values_alike : ItemsHaveForms m → (explicit : Bool) (labels : LabelNames) (world : World) →
         let program = program_under labels m info explicit in
         text_initialiser_value (program_read program) shape.parts settings world meaning
         (vocabulary_read program) (expression_read (global_form m (type_names m) h)) ≡
         global_expression_value m info settings meaning h
-    values_alike explicit labels world =
+    values_alike items explicit labels world =
         let program : Program = program_under labels m info explicit in
         let read = written_is_read m info (declarations_are m info accepted).size h is in
         ap
@@ -149,7 +147,7 @@ module _ (m : Module) (info : ModuleInfo) (accepted : IsTrue (is_accepted m info
         (text_initialiser_value (form_module_with shape outer (program_read program).functions)
         shape.parts settings world meaning outer.vocabulary) read.2
         ∙ (initialisers_are_alike shape outer (program_read program).functions
-        (items_fit m info explicit labels accepted items) settings fit meaning typed world tree
+        (items_fit m info explicit labels accepted) settings fit meaning typed world tree
         (global_words m info accepted h tree tree_is)
         (global_in_range m info accepted h tree (written_within m h is) tree_is)
         ∙ sym (ap (option_and_then (module_initialiser_value shape settings meaning)) tree_is))))
@@ -161,7 +159,8 @@ module _ (m : Module) (info : ModuleInfo) (accepted : IsTrue (is_accepted m info
       let value = global_has_value settings fit meaning typed h is in (
         value.0,
         value.1,
-        λ world. values_alike settings fit meaning typed h is explicit labels world ∙ value.1,
+        λ items world.
+            values_alike settings fit meaning typed h is items explicit labels world ∙ value.1,
       )
 
 -- ---- initialisers
@@ -170,5 +169,4 @@ pub initialisers_have_values : (m : Module) (info : ModuleInfo) → IsTrue (is_a
     (meaning : Meaning) → IsTyped (module_shape m info) meaning → (h : ℕ) → IsInitialiser m h →
     (v : Value) × (global_expression_value m info settings meaning h ≡ Some v)
 initialisers_have_values m info accepted declarations settings fit meaning typed h initial =
-    global_has_value m info accepted (items_have_forms m declarations) settings fit meaning typed h
-    (declarations.initialisers h initial)
+    global_has_value m info accepted settings fit meaning typed h (declarations.initialisers h initial)

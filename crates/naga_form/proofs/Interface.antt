@@ -455,8 +455,8 @@ module _ (m : Module) (info : ModuleInfo) (explicit : Bool) (labels : LabelNames
       let same : (h : ℕ) → IsInitialiser m h →
       read (global_form m (type_names m) h) ≡ value h =
       λ h initial.
-      values_alike m info accepted items settings fit meaning typed h
-      (declarations.initialisers h initial) explicit labels world in
+      values_alike m info accepted settings fit meaning typed h
+      (declarations.initialisers h initial) items explicit labels world in
       let first : length m.functions + 0 ≡ length m.functions = omega arith in
       let names = module_names m in
       let entry_points =

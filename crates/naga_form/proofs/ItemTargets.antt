@@ -11,7 +11,6 @@ use Rattle.naga_info.specs.declared.info.ModuleInfo.{ModuleInfo}
 use Rattle.naga_ir.specs.declared.module.Module.{Module}
 use Rattle.naga_names.proofs.Refusal.{element}
 use Rattle.module_meaning.specs.Accepted.{is_accepted}
-use Rattle.module_meaning.specs.DeclarationForms.{ItemsHaveForms}
 use Rattle.module_meaning.specs.ExpressionContexts.{expression_context, global_tree}
 use Rattle.module_meaning.specs.ExpressionContexts.{override_number}
 use Rattle.module_meaning.specs.ModuleShapes.{module_shape, variable_shape}
@@ -38,12 +37,12 @@ use Rattle.naga_form.proofs.FixedNames.{constant_no_variable, variables_tell}
 use Rattle.naga_form.proofs.ModuleFits.{counts, global_words}
 use Rattle.naga_form.proofs.NamedConstants.{override_within}
 use Rattle.naga_form.proofs.Operators.{spelled_as_trees, SpellsTypes}
-use Rattle.naga_form.proofs.TextItems.{items_fit, reads_items}
+use Rattle.naga_form.proofs.TextItems.{items_fit, reads_names}
 use Rattle.naga_form.specs.ConstantForms.{global_form}
 use Rattle.naga_form.specs.Declarations.{program_under}
 
 module _ (m : Module) (info : ModuleInfo) (explicit : Bool) (named : LabelNames)
-    (accepted : IsTrue (is_accepted m info)) (items : ItemsHaveForms m) where
+    (accepted : IsTrue (is_accepted m info)) where
   abbrev p : shapes.Module
   p = module_shape m info
 
@@ -56,22 +55,22 @@ module _ (m : Module) (info : ModuleInfo) (explicit : Bool) (named : LabelNames)
   abbrev fs : List TextFunction
   fs = (program_read program).functions
 
-  program_reads : program_read program ≡ form_module_with p n fs
-  program_reads = reads_items m info explicit named accepted items
-
   fits : ItemsFit p n fs
-  fits = items_fit m info explicit named accepted items
+  fits = items_fit m info explicit named accepted
 
   -- what each name stands for
   abbrev names : Lookup
   names = text_names (program_read program)
+
+  names_are : names ≡ text_names (form_module_with p n fs)
+  names_are = reads_names m info explicit named accepted
 
   pub variable_found : (v : ℕ) → v < length m.global_variables →
       names (global_name (module_names m) v) ≡ Some (GlobalTarget v)
   variable_found v lt =
       let counted = mapped_length (variable_shape m) m.global_variables in
       let within = subst (λ k. v < k) (sym counted) lt in
-      ap (λ t. text_names t (global_name (module_names m) v)) program_reads
+      ap (λ found. found (global_name (module_names m) v)) names_are
       ∙ global_stands p n fs fits (variables_tell m p (counts m info accepted)) v within
       (λ i li. constant_no_variable m p (counts m info accepted) i v li within)
 
@@ -80,7 +79,7 @@ module _ (m : Module) (info : ModuleInfo) (explicit : Bool) (named : LabelNames)
   override_found o lt =
       let x = element m.overrides o lt in
       ap names ((names_are_read m).overrides o)
-      ∙ (ap (λ t. text_names t (n.constant (override_number m o))) program_reads
+      ∙ (ap (λ found. found (n.constant (override_number m o))) names_are
       ∙ constant_stands p n fs fits (override_number m o) (override_within m info o x.0 x.1))
 
   -- ---- initialisers
@@ -97,6 +96,6 @@ module _ (m : Module) (info : ModuleInfo) (explicit : Bool) (named : LabelNames)
       let tree =
       globals_are m info accepted (types_are_distinguished m) h read.0 read.1 in
       ap (tree_targets names) read.2
-      ∙ (ap (λ t. tree_targets (text_names t) (constant_form n read.0)) program_reads
+      ∙ (ap (λ found. tree_targets found (constant_form n read.0)) names_are
       ∙ (tree_resolves p n fs fits read.0 tree.range (global_words m info accepted h read.0 read.1)
       ∙ ap (λ o. map Some (option_map_or constant_targets o [])) (sym read.1)))

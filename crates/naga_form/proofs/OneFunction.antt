@@ -49,7 +49,7 @@ use Rattle.naga_form.proofs.Abstraction.{function_reads}
 use Rattle.naga_form.proofs.AcceptedFunctions.{accepted_at, functions_known, of_number}
 use Rattle.naga_form.proofs.AcceptedGroups.{declarations_are}
 use Rattle.naga_form.proofs.Bindings.{annotations_are}
-use Rattle.naga_form.proofs.DeclaredItems.{items_resolve}
+use Rattle.naga_form.proofs.DeclaredItems.{initialisers_resolve, items_resolve}
 use Rattle.naga_form.proofs.FirstFunctions.{between, first_namings, first_shapes}
 use Rattle.naga_form.proofs.FirstFunctions.{first_shapes_counted, first_shapes_tell, function_fits_at}
 use Rattle.naga_form.proofs.FirstFunctions.{later, one_fits, texts_around}
@@ -60,7 +60,7 @@ use Rattle.std.specs.Option.{option_map}
 use Rattle.module_meaning.specs.FunctionShapes.{function_shape}
 use Rattle.naga_form.proofs.HiddenNames.{function_hides_none}
 use Rattle.naga_form.proofs.Resolution.{leaves_are_own}
-use Rattle.naga_form.proofs.TextItems.{are_forms, items_fit, n, p, reads_items}
+use Rattle.naga_form.proofs.TextItems.{are_forms, items_fit, n, p, reads_items, reads_names}
 use Rattle.module_meaning.proofs.SideBySide.{zip_at}
 
 module _ (named : LabelNames) (explicit : Bool) (names : NameMap) (m : Module) (info : ModuleInfo) where
@@ -133,7 +133,7 @@ module _ (m : Module) (info : ModuleInfo) (explicit : Bool) (named : LabelNames)
         annotations = ap (λ l. slice_get l g) (annotations_are m info explicit named accepted);
       }
 
-  module _ (are : AreLabelNames m named) (items : ItemsHaveForms m) where
+  module _ (are : AreLabelNames m named) where
     -- ---- resolution
     one_resolves : (g : ℕ) → WrittenHaveFormsAt explicit m info g → ScopeHoldsIn m info g →
         (f : ir_function.Function) (es : List ExpressionInfo) → slice_get (all_functions m) g ≡ Some f →
@@ -152,9 +152,9 @@ module _ (m : Module) (info : ModuleInfo) (explicit : Bool) (named : LabelNames)
         let is = accepted_at m info accepted g f es there in
         let text = program_read (program_under named m info explicit) in
         ap (text_function_targets (text_names text)) (read_at g have f es at known)
-        ∙ (ap (λ t. text_function_targets (text_names t) (form_function (function_naming (module_names m) (named g) m info g f es))) (reads_items m info explicit named accepted items)
+        ∙ (ap (λ names. text_function_targets names (form_function (function_naming (module_names m) (named g) m info g f es))) (reads_names m info explicit named accepted)
         ∙ function_resolves_as_meant (module_shape m info) (outer_names (module_names m) m) text.functions
-        (items_fit m info explicit named accepted items) callees (omega (arith, counted, within))
+        (items_fit m info explicit named accepted) callees (omega (arith, counted, within))
         (function_naming (module_names m) (named g) m info g f es)
         (function_fits_at m info accepted explicit named are g f es there have scope callees counted (first_shapes_tell m info accepted g))
         (leaves_are_own m info is.callees f is.ranges es))
@@ -191,17 +191,18 @@ module _ (m : Module) (info : ModuleInfo) (explicit : Bool) (named : LabelNames)
     resolves_at g have scope =
         record {
           body = body_resolves g have scope;
-          items = items_resolve m info explicit named accepted items;
+          initialisers = initialisers_resolve m info explicit named accepted;
+          items = items_resolve m info explicit named accepted;
           not_hidden = hides_none_at g have;
         }
 
     -- ---- runs
     -- where this is asked of those that it calls too
-    pub runs_at : (g count : ℕ) → ((k : ℕ) → k ≤ g → k ≤ length m.functions → k ≤ count) → count ≤ g →
+    pub runs_at : ItemsHaveForms m → (g count : ℕ) → ((k : ℕ) → k ≤ g → k ≤ length m.functions → k ≤ count) → count ≤ g →
         WrittenHaveFormsAt explicit m info g → ScopeHoldsIn m info g →
         WrittenHaveFormsBefore explicit m info count → ScopesHoldBefore m info count →
         RunsAt m info (program_under named m info explicit) g
-    runs_at g count all few own_forms own_scope have scopes settings fit meaning typed f found arguments
+    runs_at items g count all few own_forms own_scope have scopes settings fit meaning typed f found arguments
         typed_arguments world turns past keeps =
         let shape_of : (ir_function.Function × List ExpressionInfo) → shapes.Function =
         λ k. function_shape m info k.0 k.1 in
@@ -227,22 +228,23 @@ module _ (m : Module) (info : ModuleInfo) (explicit : Bool) (named : LabelNames)
         ∙ ap (form_module_with (p m info explicit named) (n m info explicit named))
         (texts_around m info accepted explicit named are count have scopes g own.0.0 own.0.1 own.1 own_forms own_scope few enough))
         ∙ one_runs_alike shape outer later naming between first
-        (one_fits m info accepted explicit named are count have scopes g own.0.0 own.0.1 own.1 own_forms own_scope few enough items)
+        (one_fits m info accepted explicit named are count have scopes g own.0.0 own.0.1 own.1 own_forms own_scope few enough)
         settings fit meaning typed arguments
         (subst (λ f. IsTrue (has_types shape.parts f.argument_types arguments)) (sym own.2) typed_arguments)
         world turns past keeps)
 
     -- by its number
-    pub numbered_runs_at : (g : ℕ) → WrittenHaveFormsAt explicit m info g → ScopeHoldsIn m info g →
+    pub numbered_runs_at : (g : ℕ) → ItemsHaveForms m → WrittenHaveFormsAt explicit m info g →
+        ScopeHoldsIn m info g →
         WrittenHaveFormsBefore explicit m info (callee_count m (function_type m g)) →
         ScopesHoldBefore m info (callee_count m (function_type m g)) →
         RunsAt m info (program_under named m info explicit) g
-    numbered_runs_at g own_forms own_scope = by (nat_lt g (length m.functions)) refl
+    numbered_runs_at g items own_forms own_scope = by (nat_lt g (length m.functions)) refl
       where
         by : (b : Bool) → nat_lt g (length m.functions) ≡ b →
             let count = callee_count m (if b then item.Function g else item.EntryPoint (g - length m.functions)) in
             WrittenHaveFormsBefore explicit m info count → ScopesHoldBefore m info count →
             RunsAt m info (program_under named m info explicit) g
-        by true is = runs_at g g (λ k le there. le) (omega arith) own_forms own_scope
+        by true is = runs_at items g g (λ k le there. le) (omega arith) own_forms own_scope
         by false is =
-            runs_at g (length m.functions) (λ k le there. there) (ltb-false g (length m.functions) is) own_forms own_scope
+            runs_at items g (length m.functions) (λ k le there. there) (ltb-false g (length m.functions) is) own_forms own_scope

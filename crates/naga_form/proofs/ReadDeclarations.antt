@@ -31,9 +31,10 @@ use Rattle.shader_runs.specs.Form.{constants_from, globals_from, names_from}
 use Rattle.shader_runs.specs.Program as shapes
 use Rattle.shader_runs.specs.Program.{AtPlace, Fixed, Held, pointer_to}
 use Rattle.shader_runs.specs.Scope.{ModuleNames}
+use Rattle.shader_runs.specs.Text.{ModuleVariable, TextConstant}
 use Rattle.text_meaning.specs.Abstraction.{constant_read, expression_read, global_pointer_read}
 use Rattle.text_meaning.specs.Abstraction.{module_variable_read}
-use Rattle.module_meaning.specs.DeclarationForms.{IsInitialiser, ItemsHaveForms}
+use Rattle.module_meaning.specs.DeclarationForms.{ItemsHaveForms}
 use Rattle.module_meaning.specs.ExpressionContexts.{global_tree, named_count, override_number}
 use Rattle.module_meaning.specs.ExpressionContexts.{zero_of_type}
 use Rattle.module_meaning.specs.ExpressionTypes.{variable_type}
@@ -135,6 +136,29 @@ module _ (m : Module) where
         pointer = variable_read m v (spelled 0 v refl) i;
       } ∷ rest i
 
+  -- it has the name that its shape has there, whatever its type
+  variables_named_from : (k : ℕ) (vs : List GlobalVariable) →
+      map (λ (g : ModuleVariable). g.name)
+      (map module_variable_read (map (variable_form names t m) (enumerate_from k vs))) ≡
+      map (λ (g : ModuleVariable). g.name)
+      (globals_from outer.global k (map (variable_shape m) vs))
+  variables_named_from k [] = refl
+  variables_named_from k (v ∷ vs) =
+      let rest =
+      variables_named_from (k + 1) vs
+      ∙ ap
+      (λ n. map (λ (g : ModuleVariable). g.name)
+      (globals_from outer.global n (map (variable_shape m) vs))) (add-one k) in
+      λ i. global_name names k ∷ rest i
+
+  pub variables_named :
+      map (λ (g : ModuleVariable). g.name)
+      (map module_variable_read
+      (map (variable_form names t m) (enumerate_from 0 m.global_variables))) ≡
+      map (λ (g : ModuleVariable). g.name)
+      (globals_from outer.global 0 (map (variable_shape m) m.global_variables))
+  variables_named = variables_named_from 0 m.global_variables
+
   pub variables_read : ItemsHaveForms m →
       map module_variable_read (map (variable_form names t m) (enumerate_from 0 m.global_variables))
       ≡ globals_from outer.global 0 (map (variable_shape m) m.global_variables)
@@ -169,19 +193,83 @@ module _ (m : Module) where
         ∙ (λ i. names_from outer.constant (first i) (sym (overrides_counted m info) i))
 
     -- ---- constants
+    abbrev all : List ℕ
+    all = named_handles 0 m.constants
+
+    behind : (k : ℕ) (cs : List Constant) (i : ℕ) →
+        slice_get (named_handles (k + 1) cs) i ≡ slice_get (named_handles (suc k) cs) i
+    behind k cs i = ap (λ h. slice_get (named_handles h cs) i) (add-one k)
+
+    -- one with a name has that which its number has in the runs
+    name_by_number : (k number : ℕ) → Some k ≡ slice_get all number →
+        constant_name names k ≡ outer.constant number
+    name_by_number k number =
+        ap (λ o. name_in names
+        (option_map_or key.Constant o (key.Override (number - named_count m.constants))))
+
+    -- they have the names that they have in the runs, whatever their initialisers
+    constants_named_from : (k number : ℕ) (cs : List Constant) →
+        ((i : ℕ) → slice_get (named_handles k cs) i ≡ slice_get all (number + i)) →
+        map (λ (c : TextConstant). c.name)
+        (map constant_read (filter_map (constant_form names t m) (enumerate_from k cs))) ≡
+        map (λ (c : TextConstant). c.name)
+        (constants_from outer number (map (initialiser m info) (filter is_named cs)))
+    constants_named_from k number [] at = refl
+    constants_named_from k number (c ∷ cs) at =
+        by (is_named c) at (λ n numbered. constants_named_from (k + 1) n cs numbered)
+      where
+        by : (b : Bool) →
+            ((i : ℕ) →
+            slice_get
+            (if b then k ∷ named_handles (suc k) cs else named_handles (suc k) cs) i ≡
+            slice_get all (number + i)) →
+            ((n : ℕ) →
+            ((i : ℕ) → slice_get (named_handles (k + 1) cs) i ≡ slice_get all (n + i)) →
+            map (λ (c : TextConstant). c.name)
+            (map constant_read (filter_map (constant_form names t m) (enumerate_from (k + 1) cs))) ≡
+            map (λ (c : TextConstant). c.name)
+            (constants_from outer n (map (initialiser m info) (filter is_named cs)))) →
+            map (λ (c : TextConstant). c.name)
+            (map constant_read
+            (cons_option
+            (if b then Some (record {
+              name = constant_name names k;
+              type = type_form t c.ty;
+              value = global_form m t c.init;
+            }) else None)
+            (filter_map (constant_form names t m) (enumerate_from (k + 1) cs)))) ≡
+            map (λ (c : TextConstant). c.name)
+            (constants_from outer number
+            (map (initialiser m info) (if b then c ∷ filter is_named cs else filter is_named cs)))
+        by true here more =
+            let first : Some k ≡ slice_get all number =
+            here 0 ∙ ap (slice_get all) (add-zero number) in
+            let name : constant_name names k ≡ outer.constant number =
+            name_by_number k number first in
+            let rest = more (suc number) later in
+            λ i. name i ∷ rest i
+          where
+            later : (i : ℕ) →
+                slice_get (named_handles (k + 1) cs) i ≡ slice_get all (suc number + i)
+            later i =
+                let moved : number + suc i ≡ suc number + i = omega arith in
+                behind k cs i ∙ (here (suc i) ∙ ap (slice_get all) moved)
+        by false here more = more number (λ i. behind k cs i ∙ here i)
+
+    pub constants_named :
+        map (λ (c : TextConstant). c.name)
+        (map constant_read (filter_map (constant_form names t m) (enumerate_from 0 m.constants))) ≡
+        map (λ (c : TextConstant). c.name)
+        (constants_from outer 0 (map (initialiser m info) (named_constants m)))
+    constants_named =
+        constants_named_from 0 0 m.constants
+        (λ i. let same : i ≡ 0 + i = omega arith in ap (slice_get all) same)
+
     module _ (size : length m.global_expressions ≡ length info.const_expression_types.items)
         (items : ItemsHaveForms m) where
-      -- an initialiser is read as its tree
-      pub initialisers_read : (h : ℕ) → IsInitialiser m h →
-          IsReadAs outer (global_tree m info h) (global_form m t h)
-      initialisers_read h is = written_is_read m info size h (items.initialisers h is)
-
-      abbrev all : List ℕ
-      all = named_handles 0 m.constants
-
       constants_read_from : (k number : ℕ) (cs : List Constant) →
           ((i : ℕ) (c : Constant) → slice_get cs i ≡ Some c → is_named c ≡ true →
-          IsInitialiser m c.init) →
+          global_is_written m c.init ≡ true) →
           ((i : ℕ) → slice_get (named_handles k cs) i ≡ slice_get all (number + i)) →
           map constant_read (filter_map (constant_form names t m) (enumerate_from k cs)) ≡
           constants_from outer number (map (initialiser m info) (filter is_named cs))
@@ -191,10 +279,6 @@ module _ (m : Module) where
           (λ n numbered.
           constants_read_from (k + 1) n cs (λ i d here. initial (suc i) d here) numbered)
         where
-          behind : (i : ℕ) →
-              slice_get (named_handles (k + 1) cs) i ≡ slice_get (named_handles (suc k) cs) i
-          behind i = ap (λ h. slice_get (named_handles h cs) i) (add-one k)
-
           by : (b : Bool) → is_named c ≡ b →
               ((i : ℕ) →
               slice_get
@@ -215,13 +299,11 @@ module _ (m : Module) where
               constants_from outer number
               (map (initialiser m info) (if b then c ∷ filter is_named cs else filter is_named cs))
           by true named here more =
-              let is = initialisers_read c.init (initial 0 c refl named) in
+              let is = written_is_read m info size c.init (initial 0 c refl named) in
               let first : Some k ≡ slice_get all number =
               here 0 ∙ ap (slice_get all) (add-zero number) in
               let name : constant_name names k ≡ outer.constant number =
-              ap (λ o. name_in names
-              (option_map_or key.Constant o (key.Override (number - named_count m.constants))))
-              first in
+              name_by_number k number first in
               let value : expression_read (global_form m t c.init) ≡
               runs.constant_form outer (initialiser m info c) =
               is.2
@@ -233,13 +315,13 @@ module _ (m : Module) where
                   slice_get (named_handles (k + 1) cs) i ≡ slice_get all (suc number + i)
               later i =
                   let moved : number + suc i ≡ suc number + i = omega arith in
-                  behind i ∙ (here (suc i) ∙ ap (slice_get all) moved)
-          by false named here more = more number (λ i. behind i ∙ here i)
+                  behind k cs i ∙ (here (suc i) ∙ ap (slice_get all) moved)
+          by false named here more = more number (λ i. behind k cs i ∙ here i)
 
       pub constants_read :
           map constant_read (filter_map (constant_form names t m) (enumerate_from 0 m.constants)) ≡
           constants_from outer 0 (map (initialiser m info) (named_constants m))
       constants_read =
           constants_read_from 0 0 m.constants
-          (λ i c at named. IsInitialiser.OfConstant i c at named)
+          items.constants
           (λ i. let same : i ≡ 0 + i = omega arith in ap (slice_get all) same)

@@ -35,13 +35,13 @@ use Rattle.module_meaning.specs.ModuleShapes.{module_shape}
 use Rattle.module_meaning.specs.OperatorTable.{Operator, BinarySign, AtomicLoad}
 use Rattle.module_meaning.specs.ExpressionContexts.{declared, types_known}
 use Rattle.module_meaning.specs.DeclarationForms.{DeclarationsHaveForms}
-use Rattle.module_meaning.proofs.DeclarationForms.{items_have_forms}
+use Rattle.module_meaning.proofs.DeclarationForms.{others_have_forms}
 use Rattle.naga_form.specs.Declarations.{program_under, written_program}
 use Rattle.module_meaning.specs.Premises.{ScopesHold}
 use Rattle.module_meaning.specs.Resolution.{BodiesResolve, ResolvesAs, ResolvesUnder}
 use Rattle.std.specs.List.{list_all}
 use Rattle.text_meaning.specs.Resolution.{types_are_not_hidden}
-use Rattle.naga_form.proofs.DeclaredItems.{items_resolve}
+use Rattle.naga_form.proofs.DeclaredItems.{initialisers_resolve, items_resolve}
 use Rattle.naga_form.proofs.HiddenNames.{functions_hide_none, hides_none}
 use Rattle.naga_form.proofs.Fits.{mapped_length}
 use Rattle.naga_form.proofs.WellFormed.{any_shape, applied_any}
@@ -137,7 +137,9 @@ pub resolves_under : (m : Module) (info : ModuleInfo) (explicit : Bool) (named :
     ResolvesUnder named m info (program_under named m info explicit)
 resolves_under m info explicit named are accepted declarations have scope = record {
   bodies = bodies_resolve m info explicit named are accepted declarations have scope;
-  items = items_resolve m info explicit named accepted (items_have_forms m declarations);
+  initialisers =
+      initialisers_resolve m info explicit named accepted (others_have_forms m declarations);
+  items = items_resolve m info explicit named accepted;
   not_hidden = not_hidden m info explicit named are accepted declarations have;
 }
 

@@ -3,7 +3,7 @@
 --
 -- Throughout, fs are functions from the number g on, ess says what is known of each, and named tells the
 -- names of the labels that front ends gave.
-use Rattle.std.proofs.Common.{[], ◌≡◌, ℕ, suc, ◌+◌, ◌∙◌, Bool, List, ◌∷◌, add-one, ap, length}
+use Rattle.std.proofs.Common.{[], ◌≡◌, ℕ, suc, ◌+◌, ◌++◌, ◌∙◌, Bool, List, ◌∷◌, add-one, ap, length}
 use Rattle.std.proofs.Common.{map, refl, subst, sym}
 use Rattle.std.specs.Prelude.{IsTrue, reverse}
 use mathlib.Core.List.{reverse_aux}
@@ -15,6 +15,7 @@ use Rattle.naga_info.specs.declared.info.ModuleInfo.{ModuleInfo}
 use Rattle.shader_runs.specs.Correct.{AreNamed, ItemsFit}
 use Rattle.shader_runs.specs.Form.{form_module_with}
 use Rattle.shader_runs.specs.Program as shapes
+use Rattle.shader_runs.specs.Resolution.{ConstantTarget, GlobalTarget, text_names, with_functions, with_items}
 use Rattle.shader_runs.specs.Scope.{ModuleNames}
 use Rattle.shader_runs.specs.Text.{TextFunction}
 use Rattle.text_meaning.specs.Abstraction.{function_read, functions_of, program_read}
@@ -32,7 +33,8 @@ use Rattle.naga_form.specs.Functions.{function_form, functions_under}
 use Rattle.naga_form.proofs.AcceptedFunctions.{functions_counted}
 use Rattle.naga_form.proofs.AcceptedGroups.{declarations_are}
 use Rattle.naga_form.proofs.ModuleFits.{constants, functions_tell}
-use Rattle.naga_form.proofs.ReadDeclarations.{constants_read, overrides_read, variables_read}
+use Rattle.naga_form.proofs.ReadDeclarations.{constants_named, constants_read, overrides_read}
+use Rattle.naga_form.proofs.ReadDeclarations.{variables_named, variables_read}
 use Rattle.naga_form.proofs.WrittenFunctions.{all_functions_under}
 
 module _ (m : Module) (info : ModuleInfo) (explicit : Bool) (named : LabelNames) where
@@ -74,26 +76,34 @@ module _ (m : Module) (info : ModuleInfo) (explicit : Bool) (named : LabelNames)
     pub are_forms : functions_of program ≡ forms
     are_forms = all_functions_under m info explicit named (functions_counted m info accepted)
 
-    module _ (items : ItemsHaveForms m) where
-      pub items_fit : ItemsFit p n (program_read program).functions
-      items_fit =
-          subst (λ fs. ItemsFit p n (reverse (map function_read fs))) (sym are_forms) (record {
-            distinct = functions_tell m info accepted;
-            constants = constants m info accepted;
-            named = forms_named 0 (all_functions m) (all_infos info) [] refl tt;
-            counted = length-reverse (map function_read forms)
-                ∙ (length-map forms function_read
-                ∙ (forms_counted 0 (all_functions m) (all_infos info)
-                ∙ sym (length-reverse (function_shapes m info (all_functions m) (all_infos info)))));
-          })
+    pub items_fit : ItemsFit p n (program_read program).functions
+    items_fit =
+        subst (λ fs. ItemsFit p n (reverse (map function_read fs))) (sym are_forms) (record {
+          distinct = functions_tell m info accepted;
+          constants = constants m info accepted;
+          named = forms_named 0 (all_functions m) (all_infos info) [] refl tt;
+          counted = length-reverse (map function_read forms)
+              ∙ (length-map forms function_read
+              ∙ (forms_counted 0 (all_functions m) (all_infos info)
+              ∙ sym (length-reverse (function_shapes m info (all_functions m) (all_infos info)))));
+        })
 
-      -- what is written declares what the module does
-      pub reads_items : program_read program ≡ form_module_with p n (program_read program).functions
-      reads_items =
-          let own = (declarations_are m info accepted).size in
-          λ i. record {
-            constants = constants_read m info own items i;
-            overrides = overrides_read m info i;
-            globals = variables_read m items i;
-            functions = (program_read program).functions;
-          }
+    -- it names what the module declares, whatever has no form there
+    pub reads_names : text_names (program_read program)
+        ≡ text_names (form_module_with p n (program_read program).functions)
+    reads_names = λ i.
+        with_items ConstantTarget 0 (constants_named m info i ++ overrides_read m info i)
+        (with_items GlobalTarget 0 (variables_named m i)
+        (with_functions (program_read program).functions))
+
+    -- and declares it, where the items have forms
+    pub reads_items : ItemsHaveForms m →
+        program_read program ≡ form_module_with p n (program_read program).functions
+    reads_items items =
+        let own = (declarations_are m info accepted).size in
+        λ i. record {
+          constants = constants_read m info own items i;
+          overrides = overrides_read m info i;
+          globals = variables_read m items i;
+          functions = (program_read program).functions;
+        }

@@ -101,6 +101,13 @@ NamesBehindAreLabelNames =
     (named_apart m number
     (name_of_label wgsl_names (item_labels m ++ later) (labels_named_in m number)))
 
+-- and where those of each are named so, each behind others of its own
+abbrev pub NamesOfEachAreLabelNames : Type 0
+NamesOfEachAreLabelNames =
+    (m : Module) (later : (number : ℕ) → List (List ℕ)) →
+    AreLabelNames m
+    (λ number. name_of_label wgsl_names (item_labels m ++ later number) (labels_named_in m number))
+
 -- the program is one of the grammar, so that its text has one reading
 abbrev pub IsAProgram : Type 0
 IsAProgram =
@@ -132,13 +139,13 @@ InitialisersHaveValues =
     (handle : ℕ) → IsInitialiser m handle →
     (v : Value) × (global_expression_value m info settings meaning handle ≡ Some v)
 
--- What is written of any of the module's own expressions that has a form has the expression's
--- value, as an initialiser in what is written for the module. It asks for the forms of the module's
--- items, and nothing of its functions.
+-- There is a value of any of the module's own expressions that has a form. What is written of it
+-- has that value, as an initialiser in what is written for the module, where the types of variables
+-- and the initialisers of constants with names have forms. Nothing is asked of functions.
 abbrev pub GlobalsHaveTheirValues : Type 0
 GlobalsHaveTheirValues =
     (m : Module) (info : ModuleInfo) (explicit : Bool) (named : LabelNames) →
-    IsTrue (is_accepted m info) → ItemsHaveForms m →
+    IsTrue (is_accepted m info) →
     (handle : ℕ) → IsTrue (global_is_written m handle) →
     HasValueOf m info handle (program_under named m info explicit)
     (global_form m (type_names m) handle)
@@ -185,26 +192,26 @@ OneBinds =
     IsTrue (is_accepted m info) → (number : ℕ) → WrittenHaveFormsAt explicit m info number →
     BindsAt named m info explicit (program_under named m info explicit) number
 
--- what holds of one function where the items that it may name have forms, whatever the module
--- declares beside
+-- what holds of one function, whatever stands in the others
 abbrev pub OfOne : (LabelNames → (explicit : Bool) → Module → ModuleInfo → ℕ → Type 0) → Type 0
 OfOne Holds =
     (m : Module) (info : ModuleInfo) (explicit : Bool) (named : LabelNames) →
-    IsTrue (is_accepted m info) → AreLabelNames m named → ItemsHaveForms m →
+    IsTrue (is_accepted m info) → AreLabelNames m named →
     (number : ℕ) → Holds named explicit m info number
 
 -- its identifiers and words, and the module's, stand for what they were written for, where the
--- rules of scope hold in it
+-- rules of scope hold in it, whatever the module declares
 abbrev pub OneResolves : Type 0
 OneResolves = OfOne (λ named explicit m info number.
     WrittenHaveFormsAt explicit m info number → ScopeHoldsIn m info number →
     ResolvesAt named m info (program_under named m info explicit) number)
 
--- it does what the module does, where this is asked of it and of those that it may call
+-- it does what the module does, where this is asked of it and of those that it may call, and the
+-- types of variables and the initialisers of constants with names have forms
 abbrev pub OneRuns : Type 0
 OneRuns = OfOne (λ named explicit m info number.
     let callees = callee_count m (function_type m number) in
-    WrittenHaveFormsAt explicit m info number → ScopeHoldsIn m info number →
+    ItemsHaveForms m → WrittenHaveFormsAt explicit m info number → ScopeHoldsIn m info number →
     WrittenHaveFormsBefore explicit m info callees → ScopesHoldBefore m info callees →
     RunsAt m info (program_under named m info explicit) number)
 

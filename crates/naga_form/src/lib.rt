@@ -5,6 +5,7 @@
 pub mod types;
 
 ghost use Rattle.naga_form.specs.Laws.{NamesAreLabelNames, NamesBehindAreLabelNames};
+ghost use Rattle.naga_form.specs.Laws.{NamesOfEachAreLabelNames};
 ghost use Rattle.naga_form.specs.Laws.{IsAProgram, HasTheInterface, KeepsTheLayouts};
 ghost use Rattle.naga_form.specs.Laws.{TellsTheLayouts};
 ghost use Rattle.naga_form.specs.Laws.{GlobalsHaveTheirValues, InitialisersHaveValues};
@@ -22,10 +23,12 @@ ghost use Rattle.naga_form.specs.Laws.{OperandsAreDistinguished, RequestsAreDist
 
 /// The names that front ends' labels have in the text of a whole module are identifiers, different
 /// in each function, and neither an item nor a handle has one of them. So it is where those of one
-/// function are named behind any labels, in front of which those of the items are named.
+/// function are named behind any labels, in front of which those of the items are named, and where
+/// those of each function are, each behind others.
 pub fn names_are_of_labels()
     ensures whole { NamesAreLabelNames }
     ensures behind { NamesBehindAreLabelNames }
+    ensures each { NamesOfEachAreLabelNames }
 {}
 
 /// The program that is written for an accepted module is one of the grammar, so that its text has
@@ -60,18 +63,20 @@ pub fn initialisers_have_values()
     ensures { InitialisersHaveValues }
 {}
 
-/// What is written of any of an accepted module's own expressions that has a form has the
-/// expression's value, where it stands as an initialiser in what is written for the module. There is
-/// such a value, and it is the same in every world. No declaration has to have the expression for
-/// its initialiser. It asks for the forms of the types of variables and of initialisers, and nothing
-/// of functions.
+/// There is a value of any of an accepted module's own expressions that has a form. What is written
+/// of it has that value, the same in every world, where it stands as an initialiser in what is
+/// written for the module. That it has asks for the forms of the types of all variables and of the
+/// initialisers of all constants with names, and nothing of the initialisers of overrides and
+/// variables, or of functions. No declaration has to have the expression for its initialiser.
 pub fn globals_have_their_values()
     ensures { GlobalsHaveTheirValues }
 {}
 
 /// Each of its identifiers and words stands for what it was written for, where the rules of scope
-/// hold in the module. Of one function it is so where the items that it may name have forms,
-/// whatever stands in the other functions and in what they take and give.
+/// hold in the module. Of one function of an accepted module it is so where what is written of it
+/// has forms and the rules of scope hold in it, whatever stands in the other functions and in what
+/// they take and give. Of items only the initialisers of overrides and variables are asked for
+/// forms, for what they themselves name.
 pub fn resolves_as_meant()
     ensures whole { ResolvesAsMeant }
     ensures one { OneResolves }
@@ -97,8 +102,12 @@ pub fn is_read_as_its_shapes()
     ensures { IsReadAsItsShapes }
 {}
 
-/// It does what the module does, where the rules of scope hold in the module. Of one function it is
-/// so where the items that it may name have forms, whatever stands in those that it can't call.
+/// It does what the module does, where the rules of scope hold in the module. Of one function of an
+/// accepted module it is so on three conditions. What is written of it and of each function before
+/// it that it may call, called or not, has forms. The rules of scope hold in all of these. And the
+/// types of all variables of the module and the initialisers of all its constants with names have
+/// forms, whether or not it names them. Nothing is asked of the functions that it can't call, of
+/// how what functions take and give is bound, or of the initialisers of overrides and variables.
 pub fn runs_as_the_module()
     ensures whole { RunsAsTheModule }
     ensures one { OneRuns }

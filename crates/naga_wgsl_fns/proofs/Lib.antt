@@ -9,6 +9,7 @@ pub mod DeclarationRefusals
 pub mod ExpressionNames
 pub mod ExpressionRows
 pub mod FormlessConstants
+pub mod FunctionExamples
 pub mod FunctionRows
 pub mod ImageRows
 pub mod Literals
@@ -26,6 +27,7 @@ pub mod RepresentativeRows
 pub mod SingleBindings
 pub mod SingleExpressions
 pub mod SingleFunctions
+pub mod SpelledTypes
 pub mod StageRows
 pub mod StatementParts
 pub mod StatementRows

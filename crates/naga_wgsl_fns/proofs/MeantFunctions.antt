@@ -22,7 +22,7 @@ use Rattle.naga_form.proofs.AcceptedFunctions.{entry_info_among, entry_points_co
 use Rattle.naga_form.proofs.AcceptedFunctions.{functions_counted}
 use Rattle.naga_names.proofs.Refusal.{element}
 use Rattle.naga_wgsl_fns.specs.Functions.{known_of}
-use Rattle.naga_form.proofs.ExpressionNames.{names_behind_are}
+use Rattle.naga_form.proofs.ExpressionNames.{apart_there, names_behind_are}
 use Rattle.naga_form.proofs.Interface.{has_interface_under}
 use Rattle.naga_form.proofs.OneFunction.{binds_at, resolves_at, runs_at}
 use Rattle.naga_form.proofs.WrittenFunctions.{form_at}
@@ -30,9 +30,10 @@ use Rattle.naga_back.specs.declared.context.FunctionType.{FunctionType}
 use Rattle.naga_back.specs.declared.context.FunctionType.TheVariants as item
 use Rattle.naga_back.specs.declared.flags.WriterFlags.{WriterFlags}
 use Rattle.naga_wgsl_fns.specs.FunctionText.{annotates_types}
-use Rattle.naga_wgsl_fns.specs.Items.{IsMeant, IsToldByAnswers, StandsIn, names_behind}
-use Rattle.naga_wgsl_fns.specs.Items.{program_behind}
+use Rattle.naga_wgsl_fns.specs.Items.{IsMeant, IsMeantUnder, IsToldByAnswers, ItemsAreToldByAnswers}
+use Rattle.naga_wgsl_fns.specs.Items.{StandsIn, named_behind, names_behind}
 use Rattle.naga_wgsl_fns.specs.Refusals.{IsWritableAt}
+use Rattle.naga_wgsl_fns.proofs.SpelledTypes.{written_is_spellable}
 
 module _ (named : LabelNames) (explicit : Bool) (names : NameMap) (m : Module) (info : ModuleInfo) where
   -- one of the entry points
@@ -110,31 +111,57 @@ all_callees : (m : Module) (ty : FunctionType) (k : ℕ) → k ≤ function_numb
 all_callees m (item.Function handle) k before there = before
 all_callees m (item.EntryPoint index) k before there = there
 
--- behind the labels of the items and any others
-pub is_meant : (flags : WriterFlags) (m : Module) (info : ModuleInfo) → IsTrue (is_accepted m info) →
-    (ty : FunctionType) (earlier later : List (List ℕ)) → earlier ≡ item_labels m ++ later →
-    IsWritableAt (annotates_types flags) m info earlier (function_number m ty) →
-    (content now : List ℕ) →
-    StandsIn ty content now (program_behind (annotates_types flags) m info earlier (function_number m ty)) →
-    IsMeant (annotates_types flags) m info earlier ty content now
-is_meant flags m info accepted ty earlier later is writable content now stands =
-    let explicit = annotates_types flags in
+-- where labels have these names
+meant_under : (named : LabelNames) (explicit : Bool) (m : Module) (info : ModuleInfo) →
+    IsTrue (is_accepted m info) → AreLabelNames m named → (ty : FunctionType)
+    (earlier : List (List ℕ)) → IsWritableAt explicit m info earlier (function_number m ty) →
+    (content now : List ℕ) → StandsIn ty content now (program_under named m info explicit) →
+    IsMeantUnder named explicit m info ty content now
+meant_under named explicit m info accepted are ty earlier writable content now stands =
     let number = function_number m ty in
-    let named = names_behind m earlier number in
-    let are : AreLabelNames m named =
-    subst (λ e. AreLabelNames m (names_behind m e number)) (sym is) (names_behind_are m number later) in
     record {
       stands = stands;
       bindings = binds_at m info explicit named accepted number writable.formed;
-      resolution = λ items.
-          resolves_at m info explicit named accepted are items number writable.formed writable.in_scope;
+      resolution =
+          resolves_at m info explicit named accepted are number writable.formed writable.in_scope;
       runs = λ items have scopes.
           runs_at m info explicit named accepted are items number (callee_count m ty) (all_callees m ty)
           (callees_before m ty) writable.formed writable.in_scope have scopes;
       interface = λ declarations have. has_interface_under m info explicit named accepted declarations have;
     }
 
+-- behind the labels of the items and any others
+pub is_meant : (flags : WriterFlags) (m : Module) (info : ModuleInfo) → IsTrue (is_accepted m info) →
+    (ty : FunctionType) (earlier later : List (List ℕ)) → earlier ≡ item_labels m ++ later →
+    IsWritableAt (annotates_types flags) m info earlier (function_number m ty) →
+    (content now : List ℕ) →
+    ((named : LabelNames) →
+    named (function_number m ty) ≡ named_behind m earlier (function_number m ty) →
+    StandsIn ty content now (program_under named m info (annotates_types flags))) →
+    IsMeant (annotates_types flags) m info earlier ty content now
+is_meant flags m info accepted ty earlier later is writable content now stands =
+    let number = function_number m ty in
+    record {
+      under = λ named agree.
+          meant_under named (annotates_types flags) m info accepted agree.are ty earlier writable content
+          now (stands named agree.own);
+      some = record {
+        are = subst (λ e. AreLabelNames m (names_behind m e number)) (sym is)
+            (names_behind_are m number later);
+        own = apart_there m number (named_behind m earlier number);
+      };
+    }
+
 -- what the answers of calls tell of functions before a number
 pub told_by_answers : IsToldByAnswers
 told_by_answers explicit m info number were =
     (λ g lt. (were g lt).1.plan.formed, λ g lt. (were g lt).1.plan.in_scope)
+
+-- and of items
+pub items_told_by_answers : ItemsAreToldByAnswers
+items_told_by_answers m constants variables = record {
+  variables = λ i v at.
+      let told = variables i v at in
+      written_is_spellable m told.0 v.ty told.1.0 told.1.1.0 told.1.1.1.0 told.1.1.1.1;
+  constants = λ i c at named. (constants i c at named).1.1.1;
+}

@@ -15,17 +15,18 @@ use Rattle.naga_names.proofs.Refusal.{element}
 use Rattle.module_meaning.proofs.FunctionNumbers.{entry_point_among, function_among, number_within}
 use Rattle.module_meaning.specs.Accepted.{is_accepted}
 use Rattle.module_meaning.specs.ExpressionLabels.{expression_labels, name_of_label}
-use Rattle.module_meaning.specs.Names.{item_labels, labels_named_in, module_names, wgsl_names}
+use Rattle.module_meaning.specs.Names.{LabelNames, item_labels, labels_named_in, module_names}
+use Rattle.module_meaning.specs.Names.{wgsl_names}
 use Rattle.module_meaning.specs.DeclarationForms.{HeadHasForm, entry_point_numbered}
 use Rattle.module_meaning.specs.FunctionNumbers.{IsFunctionOf, all_functions, all_infos}
 use Rattle.module_meaning.specs.FunctionNumbers.{function_number}
 use Rattle.naga_form.proofs.AcceptedFunctions.{all_counted}
 use Rattle.naga_form.proofs.DeclaredPrograms.{stage_written}
 use Rattle.naga_form.proofs.WrittenFunctions.{entry_point_at}
-use Rattle.naga_form.proofs.ExpressionNames.{apart_there}
 use Rattle.naga_form.proofs.Names.{is_identifier}
 use Rattle.naga_form.proofs.Programs.{one_is}
 use Rattle.naga_form.specs.Attributes.{stage_attributes}
+use Rattle.naga_form.specs.Declarations.{program_under}
 use Rattle.naga_form.specs.Functions.{function_form}
 use Rattle.naga_back.specs.declared.flags.WriterFlags.{WriterFlags}
 use Rattle.naga_back.specs.declared.context.FunctionType.{FunctionType}
@@ -48,8 +49,7 @@ use Rattle.naga_wgsl_fns.specs.Errors.{IsWant}
 use Rattle.naga_wgsl_fns.specs.FunctionText.{annotates_types}
 use Rattle.naga_wgsl_fns.specs.Functions.{known_of, names_of, stage_before, text_of, text_under}
 use Rattle.naga_wgsl_fns.specs.Items.{AppendsOne, FunctionWriting, IsFunctionRefusal}
-use Rattle.naga_wgsl_fns.specs.Items.{HasNamedItemsOf, StandsIn, named_behind, names_behind}
-use Rattle.naga_wgsl_fns.specs.Items.{program_behind, text_behind}
+use Rattle.naga_wgsl_fns.specs.Items.{HasNamedItemsOf, StandsIn, named_behind, text_behind}
 use Rattle.naga_wgsl_fns.specs.Refusals.{IsPlanRefusal, IsWritableAt, TellsOfModule}
 use Rattle.naga_wgsl_fns.specs.Stages.{stage_text}
 use Rattle.naga_wgsl_fns.specs.declared.error.Error.{Error}
@@ -199,36 +199,37 @@ module _ (m : Module) (info : ModuleInfo) (flags : WriterFlags) (earlier : List 
         reading = point_reading j is head p.0 p.1;
       }
 
-  -- and it is that of the program
+  -- and it is that of the program, where its labels have these names there
   stands_in : (ty : FunctionType) → IsFunctionOf ty m → HeadHasForm m (function_number m ty) →
       IsWellFormed ty → (content now : List ℕ) →
       now ≡ content ++ text_behind m info flags earlier (function_number m ty) →
-      StandsIn ty content now
-      (program_behind (annotates_types flags) m info earlier (function_number m ty))
-  stands_in (item.Function h) lt head is content now appended = λ text behind function reads.
+      (named : LabelNames) →
+      named (function_number m ty) ≡ named_behind m earlier (function_number m ty) →
+      StandsIn ty content now (program_under named m info (annotates_types flags))
+  stands_in (item.Function h) lt head is content now appended named agree = λ text behind function reads.
       let f = element m.functions h lt in
       let stands = function_among m h f.0 f.1 in
       let same = same_behind content text (text_behind m info flags earlier h) (sym behind ∙ appended) in
       let only =
       (function_reading h is f.0 lt stands).only function
       (subst (λ t. ReadsFunction (tokens t) function) same reads) in
-      own_function (names_behind m earlier h) (annotates_types flags) m info accepted h lt f.0 stands
+      own_function named (annotates_types flags) m info accepted h lt f.0 stands
       ∙ ap (λ own. Some (function_form (annotates_types flags) (module_names m) own m info h f.0 (known_of info h)))
-      (apart_there m h (named_behind m earlier h))
+      agree
       ∙ ap Some (sym only)
-  stands_in (item.EntryPoint j) lt head is content now appended = λ text behind point reads.
+  stands_in (item.EntryPoint j) lt head is content now appended named agree = λ text behind point reads.
       let p = element m.entry_points.items j (point_within m j lt) in
       let number = length m.functions + j in
       let same = same_behind content text (text_behind m info flags earlier number) (sym behind ∙ appended) in
       let only =
       (point_reading j is head p.0 p.1).only point
       (subst (λ t. ReadsEntryPoint (tokens t) point) same reads) in
-      own_point (names_behind m earlier number) (annotates_types flags) m info accepted j p.0 p.1
+      own_point named (annotates_types flags) m info accepted j p.0 p.1
       ∙ ap (λ own. Some (record {
         stage = stage_attributes (module_names m) p.0 p.0.stage;
         function = function_form (annotates_types flags) (module_names m) own m info number
             p.0.function (known_of info number);
-      })) (apart_there m number (named_behind m earlier number))
+      })) agree
       ∙ ap Some (sym only)
 
 -- ---- one function

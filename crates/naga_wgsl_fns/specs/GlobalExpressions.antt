@@ -6,7 +6,6 @@ use Rattle.std.specs.Prelude.{IsTrue, Ok, Err, OnErr, OnOk, Result}
 use Rattle.naga_ir.specs.declared.module.Module.{Module}
 use Rattle.naga_info.specs.declared.info.ModuleInfo.{ModuleInfo}
 use Rattle.module_meaning.specs.Accepted.{is_accepted}
-use Rattle.module_meaning.specs.DeclarationForms.{ItemsHaveForms}
 use Rattle.module_meaning.specs.ExpressionForms.{global_is_written}
 use Rattle.module_meaning.specs.Names.{LabelNames}
 use Rattle.naga_form.specs.Declarations.{program_under}
@@ -35,11 +34,12 @@ RefusesGlobalOnlyFor (Err error) m handle before now = IsGlobalRefusal m handle 
 
 -- However what was appended is read, it has the value of the module's own expression, where it
 -- stands as an initialiser in what is written for the module. The module is accepted with what is
--- known of it, and its items have forms. Nothing is asked of its functions, or of the names of their
--- labels.
+-- known of it; there is a value then. That the text has it asks for the forms of the types of all
+-- variables and of the initialisers of all constants with names. Nothing is asked of the
+-- initialisers of overrides and variables, of functions, or of the names of their labels.
 abbrev pub AppendsTheValue : Module → (handle : ℕ) → (content now : List ℕ) → Type 0
 AppendsTheValue m handle content now =
-    (info : ModuleInfo) → IsTrue (is_accepted m info) → ItemsHaveForms m →
+    (info : ModuleInfo) → IsTrue (is_accepted m info) →
     (explicit : Bool) (named : LabelNames) →
     (text : List ℕ) → now ≡ content ++ text →
     (expression : Expression) → ReadsExpression (tokens text) expression →

@@ -3,9 +3,14 @@
 -- Throughout, m is the module, earlier are labels that were named before, ty says which of its
 -- functions is meant and number is that of it, and explicit says whether `let`s tell types.
 use Rattle.std.specs.Prelude.{◌≡◌, ⊤, ℕ, ◌<◌, ◌++◌, Bool, List, ◌⊎◌, Ok, Err, IfErr, OnErr, OnOk}
-use Rattle.std.specs.Prelude.{Result, Some, slice_get}
+use Rattle.std.specs.Prelude.{IsFalse, IsTrue, Result, Some, slice_get}
+use Rattle.std.specs.Option.{is_some}
+use Rattle.naga_ir.specs.declared.module.Constant.{Constant}
+use Rattle.naga_ir.specs.declared.module.GlobalVariable.{GlobalVariable}
 use Rattle.naga_ir.specs.declared.module.Module.{Module}
 use Rattle.naga_info.specs.declared.info.ModuleInfo.{ModuleInfo}
+use Rattle.naga_info.specs.declared.info.TypeResolution.TheVariants.{Handle}
+use Rattle.naga_names.specs.Keys.{NameMap}
 use Rattle.naga_names.specs.Naming.{HasNamed, Names}
 use Rattle.module_meaning.specs.Bindings.{BindsAt}
 use Rattle.module_meaning.specs.DeclarationForms.{DeclarationsHaveForms, HeadHasForm}
@@ -13,10 +18,11 @@ use Rattle.module_meaning.specs.DeclarationForms.{ItemsHaveForms}
 use Rattle.module_meaning.specs.ExpressionLabels.{name_of_label}
 use Rattle.module_meaning.specs.FunctionNumbers.{callee_count, function_number}
 use Rattle.module_meaning.specs.Faithful.{HasInterfaceOf, RunsAt}
-use Rattle.module_meaning.specs.Names.{LabelNames, item_labels, labels_named_in, named_apart}
-use Rattle.module_meaning.specs.Names.{wgsl_names}
+use Rattle.module_meaning.specs.Names.{AreLabelNames, LabelNames, item_labels, labels_named_in}
+use Rattle.module_meaning.specs.Names.{named_apart, wgsl_names}
 use Rattle.module_meaning.specs.Premises.{ScopesHoldBefore}
 use Rattle.module_meaning.specs.Resolution.{ResolvesAt}
+use Rattle.module_meaning.specs.Undeclared.{names_undeclared}
 use Rattle.module_meaning.specs.Written.{AllWrittenHaveForms, WrittenHaveFormsBefore}
 use Rattle.naga_form.specs.Declarations.{program_under}
 use Rattle.wgsl_text.specs.Declarations.{Program}
@@ -27,10 +33,14 @@ use Rattle.naga_back.specs.declared.context.FunctionType.{FunctionType}
 use Rattle.naga_back.specs.declared.context.FunctionType.TheVariants as item
 use Rattle.naga_back.specs.declared.flags.WriterFlags.{WriterFlags}
 use Rattle.naga_scope.specs.ExpressionNames.{HasNamedSome}
+use Rattle.naga_words.specs.Contexts.{names_context}
+use Rattle.naga_words.specs.Segments.{HasWritten}
 use Rattle.naga_words.specs.Sink.{IsBehind}
+use Rattle.naga_words.specs.Spelling.{type_segments}
 use Rattle.naga_wgsl_fns.specs.Errors.{IsSinkWant}
 use Rattle.naga_wgsl_fns.specs.FunctionText.{annotates_types}
 use Rattle.naga_wgsl_fns.specs.Functions.{text_under}
+use Rattle.naga_wgsl_fns.specs.GlobalExpressions.{RefusesGlobalOnlyFor}
 use Rattle.naga_wgsl_fns.specs.DeclarationRefusals.{NamesHead}
 use Rattle.naga_wgsl_fns.specs.Refusals.{HasNamedLabels, IsFault, IsWritableAt, TellsOfModule}
 use Rattle.naga_wgsl_fns.specs.declared.error.Error.{Error}
@@ -99,11 +109,12 @@ AppendsOne (item.EntryPoint index) content now = AppendsOneEntryPoint content no
 abbrev pub names_behind : Module → (earlier : List (List ℕ)) → (number : ℕ) → LabelNames
 names_behind m earlier number = named_apart m number (named_behind m earlier number)
 
--- the program of the module where labels have these names
-abbrev pub program_behind :
-    (explicit : Bool) → Module → ModuleInfo → (earlier : List (List ℕ)) → (number : ℕ) → Program
-program_behind explicit m info earlier number =
-    program_under (names_behind m earlier number) m info explicit
+-- Names of all labels that are such as they may have, among them those that this function's text
+-- has. So one program has the texts of several functions, each of which was written by itself.
+pub record AreNamesOfText (m : Module) (earlier : List (List ℕ)) (number : ℕ) (named : LabelNames) :
+    Type 0 where
+  pub are : AreLabelNames m named
+  pub own : named number ≡ named_behind m earlier number
 
 -- What was appended is read as just this function, or this entry point, of the program.
 abbrev pub StandsIn : FunctionType → (content now : List ℕ) → Program → Type 0
@@ -114,32 +125,40 @@ StandsIn (item.EntryPoint index) content now program =
     (text : List ℕ) → now ≡ content ++ text → (point : EntryPoint) →
     ReadsEntryPoint (tokens text) point → slice_get program.entry_points index ≡ Some point
 
--- What was appended stands in the program that is written for the module. But for the interface,
--- nothing is asked of the functions that it can't call, which may have no text at all.
-pub record IsMeant (explicit : Bool) (m : Module) (info : ModuleInfo) (earlier : List (List ℕ))
+-- What was appended stands in the program that is written for the module where labels have these
+-- names. But for the interface, nothing is asked of the functions that it can't call, which may
+-- have no text at all, and nothing of how what functions take and give is bound.
+pub record IsMeantUnder (named : LabelNames) (explicit : Bool) (m : Module) (info : ModuleInfo)
     (ty : FunctionType) (content now : List ℕ) : Type 0 where
-  pub stands : StandsIn ty content now
-      (program_behind explicit m info earlier (function_number m ty))
-  -- The function has the module's `let`s.
-  pub bindings : BindsAt (names_behind m earlier (function_number m ty)) m info explicit
-      (program_behind explicit m info earlier (function_number m ty)) (function_number m ty)
-  -- Where the items that a function may name have forms, each of its identifiers and words stands
-  -- for what the module means. Nothing is asked of what other functions take and give.
-  pub resolution : ItemsHaveForms m →
-      ResolvesAt (names_behind m earlier (function_number m ty)) m info
-      (program_behind explicit m info earlier (function_number m ty)) (function_number m ty)
-  -- Where what is written of each function that it may call has forms too, and the rules of scope
-  -- hold there, it does what the module does. Each answer without an error tells this of its
-  -- function.
+  pub stands : StandsIn ty content now (program_under named m info explicit)
+  -- The function has the module's `let`s. No item is asked for its form.
+  pub bindings : BindsAt named m info explicit (program_under named m info explicit)
+      (function_number m ty)
+  -- Each of its identifiers and words stands for what the module means, and so does each name
+  -- outside of functions. Only the initialisers of overrides and variables are asked for their
+  -- forms, for what they themselves name.
+  pub resolution : ResolvesAt named m info (program_under named m info explicit)
+      (function_number m ty)
+  -- It does what the module does, where the types of all variables and the initialisers of all
+  -- constants with names have forms, what is written of each function that it may call has forms,
+  -- and the rules of scope hold there. Answers without an error tell all of this.
   pub runs : ItemsHaveForms m →
       WrittenHaveFormsBefore explicit m info (callee_count m ty) →
       ScopesHoldBefore m info (callee_count m ty) →
-      RunsAt m info (program_behind explicit m info earlier (function_number m ty))
-      (function_number m ty)
+      RunsAt m info (program_under named m info explicit) (function_number m ty)
   -- The interface of the program is the module's, where all that the module declares and each
   -- function has forms.
   pub interface : DeclarationsHaveForms m → AllWrittenHaveForms explicit m info →
-      HasInterfaceOf m info (program_behind explicit m info earlier (function_number m ty))
+      HasInterfaceOf m info (program_under named m info explicit)
+
+-- What was appended is meant so under all names of labels among which its own are. There are some:
+-- those that front ends gave, but for this function.
+pub record IsMeant (explicit : Bool) (m : Module) (info : ModuleInfo) (earlier : List (List ℕ))
+    (ty : FunctionType) (content now : List ℕ) : Type 0 where
+  pub under : (named : LabelNames) → AreNamesOfText m earlier (function_number m ty) named →
+      IsMeantUnder named explicit m info ty content now
+  pub some : AreNamesOfText m earlier (function_number m ty)
+      (names_behind m earlier (function_number m ty))
 
 -- What the meaning of a function's runs asks of those that it may call is what an answer without an
 -- error tells of each: so it holds where they were written by themselves, under whatever names.
@@ -149,6 +168,23 @@ IsToldByAnswers =
     ((g : ℕ) → g < number →
     (earlier : List (List ℕ)) × IsWritableFunction explicit m info earlier g) →
     WrittenHaveFormsBefore explicit m info number × ScopesHoldBefore m info number
+
+-- What they ask of items is told by answers without an error, too. That of
+-- `write_global_expression` tells it of the initialiser of a constant with a name. That of
+-- `TypeContext::write_type` tells that WGSL spells the type of a variable, in a `WriterTypeContext`
+-- of the module with any names. It doesn't tell whether the type names a struct that no text
+-- declares, as only a module with special types may have. So this is asked beside.
+abbrev pub ItemsAreToldByAnswers : Type 0
+ItemsAreToldByAnswers =
+    (m : Module) →
+    ((i : ℕ) (c : Constant) → slice_get m.constants i ≡ Some c → IsTrue (is_some c.name) →
+    (answer : Unit {0}) × (before : ℕ) × (after : ℕ)
+    × RefusesGlobalOnlyFor (Ok answer) m c.init before after) →
+    ((i : ℕ) (v : GlobalVariable) → slice_get m.global_variables i ≡ Some v →
+    (names : NameMap) × (content : List ℕ) × (now : List ℕ)
+    × HasWritten (type_segments (names_context m.types names) v.ty) content now
+    × IsFalse (names_undeclared m (Handle v.ty))) →
+    ItemsHaveForms m
 
 -- A call was asked to write the function behind the text that its sink held; it answered, and the
 -- sink holds another text now. The sink had failed so often before, and has failed so often now.
@@ -166,7 +202,8 @@ pub record FunctionWriting (m : Module) (info : ModuleInfo) (flags : WriterFlags
   pub reading : OnOk answer (AppendsOne ty content now)
   -- Where the earlier labels begin with those of the module's items, the text is meant so: its
   -- `let`s, what its identifiers and words stand for, and its runs are the module's, whatever
-  -- stands in the functions that it can't call.
+  -- stands in the functions that it can't call, in any program in which its labels have the names
+  -- that they got here.
   pub meaning : OnOk answer ((later : List (List ℕ)) → earlier ≡ item_labels m ++ later →
       IsMeant (annotates_types flags) m info earlier ty content now)
   pub failures_ok : OnOk answer (after ≡ before)

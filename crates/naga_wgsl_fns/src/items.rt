@@ -9,6 +9,7 @@ ghost use Rattle.naga_names.specs.Keys.{names_in};
 ghost use Rattle.naga_names.specs.Naming.{HasNamed};
 ghost use Rattle.naga_scope.specs.ExpressionNames.{HasOtherUses};
 ghost use Rattle.naga_wgsl_fns.specs.Items.{FunctionWriting, HasNamedItemsOf, IsToldByAnswers};
+ghost use Rattle.naga_wgsl_fns.specs.Items.{ItemsAreToldByAnswers};
 
 use crate::error::Error;
 use crate::formless_declarations::head_without_form;
@@ -24,17 +25,33 @@ use naga_words::TextSink;
 use std::alloc::Global;
 use std::collections::HashMap;
 
-/// Writes a function or an entry point of a module behind what the sink holds, without an empty line
-/// behind it; in front of an entry point stands its stage. The module is accepted with what is known
-/// of it, `names` has the names of its items in WGSL, and `namer` is the one that gave them, with any
-/// calls since.
+/// Writes a function or an entry point of a module behind what the sink holds, without an empty
+/// line behind it; in front of an entry point stands its stage. The module is accepted with what is
+/// known of it, `names` has the names of its items in WGSL, and `namer` is the one that gave them,
+/// with any calls since.
 ///
-/// The text has one reading, as a function or as an entry point. It is that which stands in a text of
-/// the whole module, but that the labels which front ends gave in the function get the names that
-/// `namer` gives them next, in the order of the text. The function is looked at before its text: for
-/// what stands in it, it is refused as a module is that has it. Such a refusal leaves the sink as it
-/// was, and `namer` has named some first ones of these labels. After want of memory or a failure of the
-/// sink a beginning of the text may stand behind what the sink held.
+/// The text has one reading, as a function or as an entry point. It is that which stands in a text
+/// of the whole module, but that the labels which front ends gave in the function get the names
+/// that `namer` gives them next, in the order of the text. The function is looked at before its
+/// text: for what stands in it, it is refused as a module is that has it. Such a refusal leaves the
+/// sink as it was, and `namer` has named some first ones of these labels. After want of memory or a
+/// failure of the sink a beginning of the text may stand behind what the sink held.
+///
+/// What the text means is said of it as a part of the program that is written for the module, where
+/// its labels have the names that they got here and all others have any names that labels may have.
+/// So texts that were written one by one, each behind the others' labels, are parts of one program.
+///
+/// - Its `let`s are the module's, and its identifiers and words stand for what the module means,
+///   whatever else the module has. That initialisers of overrides and variables name what the
+///   module means asks for the forms of these alone.
+/// - It does what the module does, where the types of all variables of the module and the
+///   initialisers of all its constants with names have forms, what is written of each function
+///   before it has forms and the rules of scope hold there; of an entry point these are all
+///   functions. An answer without an error tells it of each of these
+///   (`answers_tell_of_those_before`), and such answers of other calls tell it of items
+///   (`answers_tell_of_items`).
+/// - The program has the module's interface, where all that the module declares and all that is
+///   written of its functions and entry points has forms.
 pub fn write_function<W: TextSink>(
     alloc: Global,
     module: &Module,
@@ -66,6 +83,13 @@ pub fn write_function<W: TextSink>(
 /// Where the functions before one were written by themselves, what its meaning asks of them holds.
 pub fn answers_tell_of_those_before()
     ensures { IsToldByAnswers }
+{}
+
+/// Where the types of a module's variables and the initialisers of its constants with names were
+/// written by themselves, what a function's runs and the values of the module's own expressions ask
+/// of them holds.
+pub fn answers_tell_of_items()
+    ensures { ItemsAreToldByAnswers }
 {}
 
 /// The same of a function of which what it takes and gives and its stage have forms.

@@ -1,4 +1,5 @@
 use Rattle.naga_form.proofs.ExpressionNames.{expression_names_are, names_behind_are}
+use Rattle.naga_form.proofs.ExpressionNames.{names_of_each_are}
 use Rattle.naga_form.proofs.names_are_of_labels.Goals as goal
 
 pub returns-clause-whole : goal.returns-clause-whole
@@ -6,3 +7,6 @@ returns-clause-whole c = expression_names_are
 
 pub returns-clause-behind : goal.returns-clause-behind
 returns-clause-behind c = names_behind_are
+
+pub returns-clause-each : goal.returns-clause-each
+returns-clause-each c = names_of_each_are
