@@ -52,6 +52,7 @@ LAYERS = [
         ("naga_scope", "scope, plans"),
         ("naga_wgsl_fns", "texts of functions"),
         ("naga_wgsl_out", "texts of modules"),
+        ("module_answers", "answers"),
     ]),
     ("tests", CODE, [
         ("sample_modules", "modules by name"),
@@ -61,6 +62,8 @@ LAYERS = [
     ("programs", CODE, [
         ("yorwethul", "reads JSON"),
         ("wgsl_rows", "samples"),
+    ]),
+    ("examples", CODE, [
         ("example_double", "builder"),
         ("example_tint", "builder"),
         ("example_names", "names"),
@@ -201,7 +204,8 @@ def layer_faults():
     for line in (TOP / "crates.txt").read_text().splitlines():
         crate, colon, used = line.partition("#")[0].partition(":")
         if colon:
-            uses[crate.strip()] = used.split()
+            # after the name it may say that the crate is a static library
+            uses[crate.split()[0]] = used.split()
     yield from (f"{crate} stands in no layer" for crate in uses if crate not in layer_of)
     yield from (f"crates.txt has no {crate}" for crate in layer_of if crate not in uses)
     for crate, used in uses.items():

@@ -78,9 +78,8 @@ zero_of_type m ty =
     (type_of_values m (Handle ty)) no_constant
 
 -- A constant over the trees of the module's own expressions: by its number, or without a name by
--- its initialiser. One without a name whose initialiser has no tree, as it asks for an event or
--- takes a part of what a pointer leads to, counts as the zero value of its type: no text is written
--- for what uses it.
+-- its initialiser. One without a name whose initialiser has no tree (`computed_over` says when)
+-- counts as the zero value of its type: no text is written for what uses it.
 abbrev pub constant_over : Module → (own : ℕ → Option ConstantTree) → ℕ → Option ConstantTree
 constant_over m own h =
     option_map

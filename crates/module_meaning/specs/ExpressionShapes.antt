@@ -98,7 +98,7 @@ tree_within (suc levels) d es h =
 abbrev pub constant_tree : Declared → List ir.Expression → ℕ → Option ConstantTree
 constant_tree d es h = tree_within (suc h) d es h
 
--- a constant; one without a tree, for which no text is written, is `false`
+-- a constant; one that has no tree, as its handle or its type isn't known, is `false`
 abbrev pub constant_shape : Option ConstantTree → Expression
 constant_shape t = Constant (unwrap_or t (Fixed (Truth false)))
 
@@ -221,9 +221,11 @@ part_tree d tree_of h base (Some part) operator =
     if has_values d base then option_and_then (picked d h part) (tree_of base) else None
 part_tree d tree_of h base None operator = operated d tree_of h (base ∷ []) operator
 
--- One of the module's own expressions over the trees of its operands: as it is written out, or the
--- operator that it applies, written or not. What asks for an event has no such tree, and no
--- constant points to what has parts.
+-- The tree of one of the module's own expressions, over the trees of its operands: as it is written
+-- out; or of an index, a part, several components, `&&`, `||` or any operator that it applies,
+-- whether a text has that or not. An expression has no tree if it asks for an event, takes a part
+-- of what a pointer leads to, names a variable, is a statement's result, or applies an operator to
+-- such, as a composition, an index and a part do too.
 abbrev pub computed_over :
     Declared → (ℕ → Option ConstantTree) → ℕ → ir.Expression → Option ConstantTree
 computed_over d tree_of h (expression.Literal value) =

@@ -74,8 +74,8 @@ struct_interface names t m p =
 
 -- ---- constants, overrides and variables
 -- The value of one of the module's own expressions, under what its caller chooses and a meaning of
--- operators. One that asks for an event, or takes a part of what a pointer leads to, has none; no
--- text is written for what uses it.
+-- operators. One that has no tree (`computed_over` says when) has none; no text is written for what
+-- uses it.
 abbrev pub global_expression_value :
     ir_module.Module → ModuleInfo → Settings → Meaning → ℕ → Option Value
 global_expression_value m info settings meaning h =

@@ -24,10 +24,9 @@ use Rattle.shader_runs.specs.Program.{ConstantTree, VariableShape, Held, AtPlace
 abbrev pub named_constants : ir_module.Module → List ir_constant.Constant
 named_constants m = filter (λ c. is_some c.name) m.constants
 
--- What a constant is computed from. One whose initialiser has no tree counts as the zero value of
--- its type: it asks for an event, takes a part of what a pointer leads to, names a variable, or is
--- the result of a statement. That value is free, since WGSL has no such constant and no text is
--- written for a module with one.
+-- What a constant is computed from. One whose initialiser has no tree (`computed_over` says when)
+-- counts as the zero value of its type. Any value of that type would do for what is said of texts:
+-- WGSL has no such constant, and no text is written for a module with one.
 abbrev pub initialiser : ir_module.Module → ModuleInfo → ir_constant.Constant → ConstantTree
 initialiser m info c = unwrap_or (global_tree m info c.init) (zero_of_type m c.ty)
 

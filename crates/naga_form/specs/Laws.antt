@@ -243,10 +243,11 @@ OfEveryInScope Holds =
     (m : Module) (info : ModuleInfo) → IsTrue (is_accepted m info) → ScopesHold m info →
     Holds m info
 
--- One world answers by the right types in every run of the module. The only modules that are left
--- break a rule of scope. A loop whose turns make no event may count them there: what a turn leaves
--- to the next one is then more than what is in scope. So with more turns of the loop a run may ask
--- for something behind the same events, and no number of turns is enough to tell whether it does.
+-- A world can be given, made of the module, the settings and the meaning, that answers by the right
+-- types in every run of the module. The only modules that are left break a rule of scope. A loop
+-- whose turns make no event may count them there: what a turn leaves to the next one is then more
+-- than what is in scope. So with more turns of the loop a run may ask for something after the same
+-- events, and no number of turns is enough to tell whether it does.
 abbrev pub HasAWorld : Type 0
 HasAWorld = OfEveryInScope HasTypedWorld
 

@@ -141,10 +141,10 @@ pub fn has_a_typed_meaning()
     ensures distinguished { NamesTell }
 {}
 
-/// For each such meaning, one world answers by the right types in every run of an accepted module
-/// in which the rules of scope hold, whether a text is written for the module or not. Where one is
-/// broken, a loop without events may count its turns, and no number of turns tells what a run asks
-/// for behind the same events.
+/// For each such meaning, a world can be given that answers by the right types in every run of an
+/// accepted module in which the rules of scope hold, whether a text is written for it or not. Where
+/// one is broken, a loop without events may count its turns, and no number of turns tells what a
+/// run asks for after the same events.
 pub fn has_a_typed_world()
     ensures { HasAWorld }
 {}

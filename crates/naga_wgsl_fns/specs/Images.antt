@@ -54,7 +54,8 @@ furthers_text f table (h ∷ hs) = next_operand_text f table false h ++ furthers
 
 -- the level `0.0`, where it is written
 abbrev pub level_text : SampleLevel → (is_in_word : Bool) → List ℕ
-level_text level is_in_word = if zero_is_written (level_of level) is_in_word then codes ", 0.0" else []
+level_text level is_in_word =
+    if zero_is_written (level_of level) is_in_word then codes ", 0.0" else []
 
 -- an offset, as a constant
 unfoldable pub offset_text : FunctionText → (offset : Option ℕ) → List ℕ

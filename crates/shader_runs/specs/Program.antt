@@ -91,7 +91,7 @@ mutual
     no_case : Cases
     case : Label → Statements → (falls_through : Bool) → Cases → Cases
 
--- Types, given names and whether a `let` binds an expression by how often it is used are by handle;
+-- Types, given names and whether an expression is used as often as a `let` asks are by handle;
 -- first values are the initialisers of the locals, and local pointers the spellings of pointers to
 -- these.
 pub record Function : Type 0 where
@@ -145,7 +145,7 @@ operands_of _ = []
 abbrev pub is_named : Function → ℕ → Bool
 is_named f h = get_or f.named_expressions h false
 
--- a front end named the handle, or it is used as often as its kind asks for a `let`
+-- a front end named the handle, or it is used as often as a `let` asks
 abbrev pub is_counted : Function → ℕ → Bool
 is_counted f h = is_named f h || get_or f.bound_by_uses h false
 

@@ -190,7 +190,10 @@ with_place (Halts x t) go = Stopped x t
 with_place (Gives (IsValue v) t) go = Stopped Stuck t
 with_place (Gives (IsPlace p) t) go = go p t
 
--- a call whose result is not wanted. What an operator gives is wanted: it is no line by itself
+-- A call whose result is not wanted. What an operator gives is wanted: it is no line by itself.
+-- What a request gives may be dropped, also where WGSL says that it must be used, and a `let` may
+-- name it, also where WGSL has no value for it: to a run either is the request's event. Which
+-- `let`s a text has is told apart from its runs (`text_lets`).
 abbrev pub perform_outcome :
     (operates : Bool) → Scope → ReachedOrHalted (Option Value) → Outcome Scope
 perform_outcome operates names (Halts x t) = Stopped x t

@@ -44,7 +44,7 @@ literal n = Constant (Fixed (number n))
 abbrev pub numbered_name : ℕ → Bytes
 numbered_name h = codes "_e" ++ (h + 48) ∷ []
 
--- an expression with its type, and whether it is used so often that a `let` binds it
+-- an expression with its type, and whether it is used as often as a `let` asks
 pub record TableRow : Type 0 where
   pub expression : Expression
   pub type : ValueType

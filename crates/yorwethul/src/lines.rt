@@ -1,8 +1,7 @@
 //! Many modules: each line of the input is answered by a line of the output.
 
 use crate::failure::Failure;
-use crate::places::JsonPlace;
-use crate::writing::{Written, flags_for, write};
+use module_answers::{JsonPlace, Written, flags_for, write};
 use naga_json::{Known, ReadError, known_of};
 use naga_wgsl_out::info::Unaccepted;
 use naga_wgsl_out::wgsl::{Error, WriterFlags};
@@ -108,18 +107,22 @@ fn tell_known(
     flags: WriterFlags,
     members: &mut Members,
 ) -> Result<(), AllocError> {
-    match write(alloc, &known.module, &mut known.info, flags) {
+    match write(alloc, &known.module, &mut known.info, flags, String::new(alloc)) {
         Ok(written) => tell_written(alloc, written, members),
         Err(unaccepted) => tell_unaccepted(alloc, unaccepted, members),
     }
 }
 
-fn tell_written(alloc: Global, written: Written, members: &mut Members) -> Result<(), AllocError> {
-    let Written { answer, text } = written;
+fn tell_written(
+    alloc: Global,
+    written: Written<String>,
+    members: &mut Members,
+) -> Result<(), AllocError> {
+    let Written { answer, sink } = written;
     match answer {
-        Ok(()) => put(alloc, "text", Value::String(text), members),
+        Ok(()) => put(alloc, "text", Value::String(sink), members),
         Err(Error::Memory(error)) => Err(error),
-        Err(reason) => tell_refused(alloc, reason, text, members),
+        Err(reason) => tell_refused(alloc, reason, sink, members),
     }
 }
 

@@ -6,12 +6,9 @@
 
 mod failure;
 mod inputs;
-mod layouts;
 mod lines;
-mod places;
 mod program;
 mod words;
-mod writing;
 
 use std::io;
 use std::io::{BufWriter, Write};

@@ -2,11 +2,9 @@
 
 use crate::failure::Failure;
 use crate::inputs::known_of;
-use crate::layouts::layout_table;
 use crate::lines::answer_lines;
-use crate::places::JsonPlace;
 use crate::words::{Request, Task, request_of};
-use crate::writing::{Written, flags_for, write};
+use module_answers::{JsonPlace, Written, flags_for, layout_table, write};
 use naga_json::Known;
 use naga_wgsl_out::info::{Unaccepted, unaccepted};
 use naga_wgsl_out::wgsl::Error;
@@ -133,7 +131,7 @@ fn print_text<O: Write, E: Write>(
     err: &mut E,
 ) -> u8 {
     let flags = flags_for(request.explicit_types);
-    match write(alloc, &known.module, &mut known.info, flags) {
+    match write(alloc, &known.module, &mut known.info, flags, String::new(alloc)) {
         Ok(written) => print_written(written, out, err),
         Err(unaccepted) => refuse_unaccepted(unaccepted, err),
     }
@@ -157,10 +155,14 @@ fn tell_layouts<O: Write, E: Write>(alloc: Global, known: &Known, out: &mut O, e
     }
 }
 
-fn print_written<O: Write, E: Write>(written: Written, out: &mut O, err: &mut E) -> u8 {
-    let Written { answer, text } = written;
+fn print_written<O: Write, E: Write>(
+    written: Written<String>,
+    out: &mut O,
+    err: &mut E,
+) -> u8 {
+    let Written { answer, sink } = written;
     match answer {
-        Ok(()) => print(text, out, err),
+        Ok(()) => print(sink, out, err),
         Err(error) => tell_error(error, err),
     }
 }

@@ -1,5 +1,5 @@
-//! Where the members of a module's structs stand: a table that is printed, with the reason why a struct
-//! has no layout.
+//! Where the members of a module's structs stand: a table that is printed, with the reason why a
+//! struct has no layout.
 
 ghost use Rattle.std.specs.Prelude.{IsTrue};
 ghost use Rattle.module_meaning.specs.Accepted.{is_accepted};
@@ -17,7 +17,8 @@ use std::collections::HashMap;
 use std::fmt;
 use std::fmt::Display;
 
-/// The structs that a text declares, each with a line for each member, under the names that a text has.
+/// The structs that a text declares, each with a line for each member, under the names that a text
+/// has.
 #[tactic(auto, using(module_meaning::proofs::Layouts::accepted_in_order))]
 pub fn layout_table(alloc: Global, module: &Module, info: &ModuleInfo) -> Result<String, Error>
     requires accepted { IsTrue (is_accepted «module».now info.now) }
@@ -44,8 +45,8 @@ fn struct_lines(
     Ok(text)
 }
 
-/// Whether a text declares the struct with this handle: no function of WGSL gives it, and it is none of
-/// those of external textures.
+/// Whether a text declares the struct with this handle: no function of WGSL gives it, and it is
+/// none of those of external textures.
 fn is_declared(special: &SpecialTypes, handle: Handle<Type_>) -> bool {
     for known in special.predeclared_types.values() {
         if *known == handle {
@@ -148,8 +149,8 @@ fn layout_of(types: &UniqueArena<Type_>, ty: Handle<Type_>) -> Option<TypeLayout
     }
 }
 
-/// The stride of the first array, from a type on through the elements of arrays, whose elements WGSL has
-/// begin at another distance, and that distance.
+/// The stride of the first array, from a type on through the elements of arrays, whose elements
+/// WGSL has begin at another distance, and that distance.
 fn other_stride(types: &UniqueArena<Type_>, ty: Handle<Type_>) -> Option<(u32, u64)>
     requires ordered { IsTrue (parts_stand_before types.now) }
 {

@@ -1,0 +1,26 @@
+use Rattle.std.proofs.Common.{ap, subst, sym}
+use Rattle.naga_wgsl_fns.specs.FunctionText.{annotates_types}
+use Rattle.naga_wgsl_out.specs.Headline.{FaithfulWriting}
+use Rattle.module_answers.proofs.writing.write.Goals as goal
+
+-- The writer has these flags and this sink, and ends with its sink.
+pub returns-clause-faithful : goal.returns-clause-faithful
+returns-clause-faithful g c =
+    let m = c.args.«module».now in
+    let info = c.count.new.info in
+    let answer = c.write-answer.result in
+    let text = g.W.TextSink.text in
+    let failures = g.W.TextSink.failures in
+    subst
+    (λ explicit. FaithfulWriting explicit m info answer (text c.args.sink) (text c.finish-sink.result)
+    (failures c.args.sink) (failures c.finish-sink.result))
+    (ap annotates_types c.new-writer.ensures.flags)
+    (subst
+    (λ old. FaithfulWriting (annotates_types c.new-writer.result.flags) m info answer (text old)
+    (text c.finish-sink.result) (failures old) (failures c.finish-sink.result))
+    c.new-writer.ensures.sink
+    (subst
+    (λ now. FaithfulWriting (annotates_types c.new-writer.result.flags) m info answer
+    (text c.new-writer.result.sink) (text now) (failures c.new-writer.result.sink) (failures now))
+    (sym c.finish-sink.ensures)
+    c.write-answer.ensures.faithful))
