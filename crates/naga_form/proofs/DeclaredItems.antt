@@ -50,6 +50,7 @@ use Rattle.naga_form.proofs.TypeItems.{ItemsAreNamed, resolution_named}
 use Rattle.naga_form.proofs.WrittenTypes.{tree_there}
 use Rattle.naga_form.specs.ConstantForms.{global_form}
 use Rattle.naga_form.specs.Declarations.{override_form, program_under, variable_form}
+use Rattle.naga_back.specs.declared.flags.WriterFlags.{WriterFlags}
 
 -- a word of the table of types names no item
 plain_names_no_item : (w : List ℕ) → stands_in plain_type_words w ≡ true → names_no_item w ≡ true
@@ -59,10 +60,10 @@ plain_names_no_item w plain =
     ap names_no_item (sym (named_text w))
     ∙ (free_parts (type_layout (Named w)) free).no_item
 
-module _ (m : Module) (info : ModuleInfo) (explicit : Bool) (labels : LabelNames)
+module _ (m : Module) (info : ModuleInfo) (flags : WriterFlags) (labels : LabelNames)
     (accepted : IsTrue (is_accepted m info)) where
   abbrev program : Program
-  program = program_under labels m info explicit
+  program = program_under labels m info flags
 
   abbrev names : Lookup
   names = text_names (program_read program)
@@ -73,7 +74,7 @@ module _ (m : Module) (info : ModuleInfo) (explicit : Bool) (labels : LabelNames
       ≡ map Some (initialiser_meant m info o)
   one_resolves None is = refl
   one_resolves (Some h) is =
-      initialiser_found m info explicit labels accepted h (is h refl)
+      initialiser_found m info flags labels accepted h (is h refl)
 
   -- those of declarations in their order, each made of an item by a form that has its initialiser
   each_resolves : {X Y : Type 0} (form : ℕ × X → Y) (value : Y → Option Expression)
@@ -105,7 +106,7 @@ module _ (m : Module) (info : ModuleInfo) (explicit : Bool) (labels : LabelNames
   pub stages_resolve : stage_targets program ≡ map (map Some) (module_stage_targets m)
   stages_resolve =
       stages_named (module_names m) names (length m.global_variables)
-      (variable_found m info explicit labels accepted) explicit labels m info
+      (variable_found m info flags labels accepted) flags labels m info
       (length m.functions) m.entry_points.items info.entry_points.items
       (entry_points_counted m info accepted) (stage_variables_within m info accepted)
 
@@ -121,7 +122,7 @@ module _ (m : Module) (info : ModuleInfo) (explicit : Bool) (labels : LabelNames
         let w = (type_names m).struct_name h in (
           ap (λ o. option_or (option_map StructItem o) (option_map ValueItem (names w)))
               (ap (struct_named program.structs) name
-              ∙ struct_found m info explicit labels h t at both),
+              ∙ struct_found m info flags labels h t at both),
           false_from_ne_true (stands_in plain_type_words w)
               (λ plain.
               item_is_no_word m w (no_word_of_item w (plain_names_no_item w plain))
@@ -131,9 +132,9 @@ module _ (m : Module) (info : ModuleInfo) (explicit : Bool) (labels : LabelNames
         let name = or_nothing (module_names m (key.Override o)) in
         let w = (type_names m).override_name o in
         ap (λ k. option_or (option_map StructItem k) (option_map ValueItem (names w)))
-        (ap (struct_named program.structs) name ∙ override_not_found m info explicit labels o lt)
+        (ap (struct_named program.structs) name ∙ override_not_found m info flags labels o lt)
         ∙ ap (option_map ValueItem)
-        (override_found m info explicit labels accepted o lt);
+        (override_found m info flags labels accepted o lt);
   }
 
   pub types_resolve : TypesResolve m program
@@ -152,7 +153,7 @@ module _ (m : Module) (info : ModuleInfo) (explicit : Bool) (labels : LabelNames
 
   -- ---- members
   pub members_resolve : MembersResolve m program
-  members_resolve = members_found m info explicit labels
+  members_resolve = members_found m info flags labels
 
   -- ---- all outside of initialisers
   pub items_resolve : ItemsResolve m program

@@ -51,6 +51,7 @@ use Rattle.naga_form.proofs.ModuleFits.{constants as constants_fit, global_in_ra
 use Rattle.naga_form.proofs.ModuleFits.{global_words}
 use Rattle.naga_form.proofs.ReadDeclarations.{written_is_read}
 use Rattle.naga_form.proofs.TextItems.{items_fit, reads_items}
+use Rattle.naga_back.specs.declared.flags.WriterFlags.{WriterFlags}
 
 -- where each constant that a tree may name has a value, so has the tree
 module _ (known : ℕ → Option Value) (meaning : Meaning) (P : ℕ → Type 0)
@@ -125,42 +126,42 @@ module _ (m : Module) (info : ModuleInfo) (accepted : IsTrue (is_accepted m info
         )
 
     -- and the text has it in every world
-    pub values_alike : ItemsHaveForms m → (explicit : Bool) (labels : LabelNames) (world : World) →
-        let program = program_under labels m info explicit in
+    pub values_alike : ItemsHaveForms m → (flags : WriterFlags) (labels : LabelNames) (world : World) →
+        let program = program_under labels m info flags in
         text_initialiser_value (program_read program) shape.parts settings world meaning
         (vocabulary_read program) (expression_read (global_form m (type_names m) h)) ≡
         global_expression_value m info settings meaning h
-    values_alike items explicit labels world =
-        let program : Program = program_under labels m info explicit in
+    values_alike items flags labels world =
+        let program : Program = program_under labels m info flags in
         let read = written_is_read m info (declarations_are m info accepted).size h is in
         ap
         (λ (vocabulary : Vocabulary).
         text_initialiser_value (program_read program) shape.parts settings world meaning vocabulary
         (expression_read (global_form m (type_names m) h)))
-        (one_vocabulary m info explicit labels)
+        (one_vocabulary m info flags labels)
         ∙ (ap
         (λ (text : TextModule).
         text_initialiser_value text shape.parts settings world meaning outer.vocabulary
         (expression_read (global_form m (type_names m) h)))
-        (reads_items m info explicit labels accepted items)
+        (reads_items m info flags labels accepted items)
         ∙ (ap
         (text_initialiser_value (form_module_with shape outer (program_read program).functions)
         shape.parts settings world meaning outer.vocabulary) read.2
         ∙ (initialisers_are_alike shape outer (program_read program).functions
-        (items_fit m info explicit labels accepted) settings fit meaning typed world tree
+        (items_fit m info flags labels accepted) settings fit meaning typed world tree
         (global_words m info accepted h tree tree_is)
         (global_in_range m info accepted h tree (written_within m h is) tree_is)
         ∙ sym (ap (option_and_then (module_initialiser_value shape settings meaning)) tree_is))))
 
-  pub has_value_of : (explicit : Bool) (labels : LabelNames) (h : ℕ) →
+  pub has_value_of : (flags : WriterFlags) (labels : LabelNames) (h : ℕ) →
       IsTrue (global_is_written m h) →
-      HasValueOf m info h (program_under labels m info explicit) (global_form m (type_names m) h)
-  has_value_of explicit labels h is settings fit meaning typed =
+      HasValueOf m info h (program_under labels m info flags) (global_form m (type_names m) h)
+  has_value_of flags labels h is settings fit meaning typed =
       let value = global_has_value settings fit meaning typed h is in (
         value.0,
         value.1,
         λ items world.
-            values_alike settings fit meaning typed h is items explicit labels world ∙ value.1,
+            values_alike settings fit meaning typed h is items flags labels world ∙ value.1,
       )
 
 -- ---- initialisers

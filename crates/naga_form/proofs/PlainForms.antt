@@ -67,6 +67,7 @@ use Rattle.naga_ir.specs.declared.expression.Expression.TheVariants as expressio
 use Rattle.shader_runs.specs.Program.{binds}
 use Rattle.shader_runs.specs.Scope.{Availability, Bound, Handles, Naming}
 use Rattle.module_meaning.specs.Namings.{function_naming}
+use Rattle.naga_back.specs.declared.flags.WriterFlags.{WriterFlags}
 
 -- ---- plain forms
 -- a plain form of the grammar
@@ -116,7 +117,7 @@ pub values_are : (operand : ℕ → PlainForm) (hs : List ℕ) → ArePlain oper
 values_are operand [] all = tt
 values_are operand (h ∷ hs) all = (value_is_one (operand h) all.0, values_are operand hs all.1)
 
-module _ (m : Module) (info : ModuleInfo) (g : ℕ) (f : ir_function.Function)
+module _ (flags : WriterFlags) (m : Module) (info : ModuleInfo) (g : ℕ) (f : ir_function.Function)
     (found : slice_get (all_functions m) g ≡ Some f) (es : List ExpressionInfo) (callees : ℕ)
     (ranges : function_in_range m callees f ≡ true) (W : ℕ → Type 0)
     (closed : AreClosed W (binds (function_shape m info f es)) f) (written : AreWritten W m f es)
@@ -129,7 +130,7 @@ module _ (m : Module) (info : ModuleInfo) (g : ℕ) (f : ir_function.Function)
   own = function_naming (module_names m) named m info g f es
 
   abbrev source : Source
-  source = function_source m info f es
+  source = function_source flags m info f es
 
   abbrev d : Declared
   d = source.declared

@@ -13,7 +13,7 @@ ghost use Rattle.naga_scope.specs.ExpressionNames.{HasBegunLabels, HasOtherUses,
 ghost use Rattle.naga_scope.specs.Marks.{GlobalsStandInOrder};
 ghost use Rattle.naga_scope.specs.Plans.{IsPlanOf};
 ghost use Rattle.naga_scope.specs.Tables.{AreTablesOf};
-ghost use Rattle.naga_wgsl_fns.specs.FunctionText.{annotates_types};
+ghost use Rattle.naga_back.specs.Flags.{annotates_types};
 ghost use Rattle.naga_wgsl_fns.specs.Refusals.{IsOfPlan, IsPlanRefusal, NamesItemsOf};
 ghost use Rattle.naga_wgsl_fns.specs.Refusals.{TellsPlanError};
 

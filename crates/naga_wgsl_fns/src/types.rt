@@ -5,7 +5,8 @@ ghost use Rattle.module_meaning.specs.AlikeTypes.{is_spelled};
 ghost use Rattle.module_meaning.specs.Ranges.{resolution_fits};
 ghost use Rattle.naga_info.specs.declared.info.TypeResolution.TheVariants as resolution;
 ghost use Rattle.naga_words.specs.Output.{Writes};
-ghost use Rattle.naga_wgsl_fns.specs.FunctionText.{CanWrite, IsLet, annotates_types};
+ghost use Rattle.naga_back.specs.Flags.{annotates_types};
+ghost use Rattle.naga_wgsl_fns.specs.FunctionText.{CanWrite, IsLet};
 ghost use Rattle.naga_wgsl_fns.specs.Types.{annotation_text, resolution_text, let_annotation_text};
 ghost use Rattle.naga_wgsl_fns.specs.Types.{type_text};
 

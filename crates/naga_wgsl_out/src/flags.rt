@@ -1,7 +1,7 @@
 //! The sets of flags by name, for a program that has no other use for sets of flags.
 
 ghost use Rattle.std.specs.Prelude.{◌≡◌, false, true};
-ghost use Rattle.naga_wgsl_fns.specs.FunctionText.{annotates_types};
+ghost use Rattle.naga_back.specs.Flags.{annotates_types};
 
 use bitflags::Flags;
 use naga_back::WriterFlags;

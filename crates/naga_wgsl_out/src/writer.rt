@@ -15,7 +15,7 @@ ghost use Rattle.module_meaning.specs.Bindings.{BindsAs};
 ghost use Rattle.naga_scope.specs.Plans.{AreExpressionNames, IsPlanOf};
 ghost use Rattle.naga_scope.specs.Tables.{AreTablesOf};
 ghost use Rattle.naga_wgsl_fns.specs.Appends.{Appends};
-ghost use Rattle.naga_wgsl_fns.specs.FunctionText.{annotates_types};
+ghost use Rattle.naga_back.specs.Flags.{annotates_types};
 ghost use Rattle.naga_wgsl_out.specs.Headline.{EachReading, FaithfulWriting, answer_of, text_of};
 ghost use Rattle.naga_wgsl_fns.specs.Items.{HasNamedItemsOf};
 ghost use Rattle.naga_wgsl_fns.specs.ModuleText.{CanWriteOf};
@@ -113,7 +113,7 @@ impl<W: TextSink> Writer<W> {
     /// ```
     pub fn write(&mut self, module: &Module, info: &ModuleInfo) -> Result<(), Error>
         requires accepted { IsTrue (is_accepted «module».now info.now) }
-        ensures faithful { FaithfulWriting (annotates_types self.old.flags) «module».now info.now
+        ensures faithful { FaithfulWriting self.old.flags «module».now info.now
             result
             (W.text self.old.sink) (W.text self.new.sink)
             (W.failures self.old.sink) (W.failures self.new.sink) }
@@ -367,7 +367,7 @@ pub fn write_string(
     flags: WriterFlags,
 ) -> Result<String, Error>
     requires accepted { IsTrue (is_accepted «module».now info.now) }
-    ensures faithful { FaithfulWriting (annotates_types flags) «module».now info.now
+    ensures faithful { FaithfulWriting flags «module».now info.now
         (answer_of result)
         [] (text_of result) 0 0 }
     ensures resolution { OnOk (answer_of result) (EachReading [] (text_of result)

@@ -1,5 +1,5 @@
 use Rattle.std.proofs.Common.{ap, subst, sym}
-use Rattle.naga_wgsl_fns.specs.FunctionText.{annotates_types}
+use Rattle.naga_back.specs.Flags.{annotates_types}
 use Rattle.naga_wgsl_out.specs.Headline.{FaithfulWriting}
 use Rattle.module_answers.proofs.writing.write.Goals as goal
 
