@@ -11,6 +11,7 @@ use Rattle.naga_form.specs.Expressions.{variable_plain, PlainForm, ValueForm, Re
 use Rattle.naga_form.specs.Expressions.{as_value, as_reference, applied_plain, no_form, own_plain}
 use Rattle.naga_form.specs.Expressions.{own_if, availability_plain, plain_below, plain_form, Source}
 use Rattle.naga_form.specs.Expressions.{function_source, constant_form, value_forms, cast_tree}
+use Rattle.naga_form.specs.Expressions.{zero_is_whole}
 use Rattle.naga_form.specs.Expressions.{load_tree, operator_type, unnamed_form}
 use Rattle.shader_runs.specs.Value.{Selector, MemberNamed, ElementAt}
 use Rattle.wgsl_text.specs.Expressions.{Index, IsExpression}
@@ -290,7 +291,8 @@ module _ (flags : WriterFlags) (m : Module) (info : ModuleInfo) (g : ℕ) (f : i
       (option_to_list offset) all))
       (constants_are (option_to_list offset) is.1) gather level (is_some depth_ref) clamp
       (is_some array_index) (is_some offset)
-      (option_map_or is_depth_image (type_known d.context image) false) is.0
+      (option_map_or is_depth_image (type_known d.context image) false)
+      (zero_is_whole source image) is.0
   own_is operand h e at is all =
       application_is no_form tt operand (operator_type d.context (type_names m) e) (expression_operands e) all
       (applied_operator d.context e)

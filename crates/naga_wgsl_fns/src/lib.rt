@@ -48,4 +48,3 @@ pub use items::write_function;
 pub use literal::write_literal;
 pub use plans::plan_of;
 pub use sinks::put;
-pub use types::annotates_types;

@@ -19,8 +19,7 @@ ghost use Rattle.naga_wgsl_fns.specs.Refusals.{TellsPlanError};
 
 use crate::error::{Error, custom, names_error};
 use crate::forms::{statement_without_form, type_without_form, without_form};
-use crate::types::annotates_types;
-use naga_back::{FunctionType, WriterFlags};
+use naga_back::{FunctionType, WriterFlags, annotates_types};
 use naga_info::{FunctionInfo, ModuleInfo, TypeResolution};
 use naga_ir::{Function, Module};
 use naga_names::NameKey;

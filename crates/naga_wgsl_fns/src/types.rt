@@ -1,6 +1,6 @@
 //! Types, spelled under the names of the module's items.
 
-ghost use Rattle.std.specs.Prelude.{◌≡◌, ◌<◌, IsTrue, length};
+ghost use Rattle.std.specs.Prelude.{◌<◌, IsTrue, length};
 ghost use Rattle.module_meaning.specs.AlikeTypes.{is_spelled};
 ghost use Rattle.module_meaning.specs.Ranges.{resolution_fits};
 ghost use Rattle.naga_info.specs.declared.info.TypeResolution.TheVariants as resolution;
@@ -11,8 +11,7 @@ ghost use Rattle.naga_wgsl_fns.specs.Types.{annotation_text, resolution_text, le
 ghost use Rattle.naga_wgsl_fns.specs.Types.{type_text};
 
 use crate::functions::FunctionText;
-use bitflags::Flags;
-use naga_back::WriterFlags;
+use naga_back::annotates_types;
 use naga_info::TypeResolution;
 use naga_ir::{Expression, Handle, Type_};
 use naga_words::types::write_resolution_in;
@@ -108,11 +107,4 @@ impl FunctionText<'_> {
             self.write_let_type(alloc, handle, out);
         }
     }
-}
-
-/// Whether each `let` tells its type.
-pub fn annotates_types(flags: WriterFlags) -> bool
-    ensures { result ≡ annotates_types flags }
-{
-    flags.contains(WriterFlags::EXPLICIT_TYPES)
 }
