@@ -141,7 +141,7 @@ impl<W: TextSink> Writer<W> {
         // What stands in front of the function that is refused.
         ensures written_before { IfErr result (λ e. TellsOfFunction «module».now e →
             WroteFunctionsBefore «module».now info.now self.old.flags
-            (W.text self.old.sink ++ front_text «module».now)
+            (W.text self.old.sink ++ front_text «module».now info.now self.old.flags)
             (W.text self.new.sink)) }
         ensures unfailed { IfErr result (λ e. TellsOfModule e →
             W.failures self.new.sink ≡ W.failures self.old.sink) }
@@ -152,7 +152,7 @@ impl<W: TextSink> Writer<W> {
             return Err(declaration_without_form(self.alloc, module, &tables, declaration));
         }
         let (names, mut namer) = names_of(self.alloc, module)?;
-        write_front(self.alloc, module, &tables, &names, &mut self.out)?;
+        write_front(self.alloc, module, info, &tables, &names, self.flags, &mut self.out)?;
         write_functions(
             self.alloc,
             module,
@@ -170,18 +170,20 @@ impl<W: TextSink> Writer<W> {
 fn write_front<W: TextSink>(
     alloc: Global,
     module: &Module,
+    info: &ModuleInfo,
     tables: &ModuleTables,
     names: &HashMap<NameKey, String>,
+    flags: WriterFlags,
     out: &mut W,
 ) -> Result<(), Error>
     requires can { CanWriteOf «module».now }
     requires tables { AreTablesOf «module».now tables.now }
     requires declared { DeclarationsHaveForms «module».now }
     requires names { HasAllNames «module».now (names_in names.now) }
-    ensures { Appends result (W.text out.old) (W.failures out.old) (front_text «module».now)
-        (W.text out.new) (W.failures out.new) }
+    ensures { Appends result (W.text out.old) (W.failures out.old)
+        (front_text «module».now info.now flags) (W.text out.new) (W.failures out.new) }
 {
-    write_enables(module, out)?;
+    write_enables(module, info, flags, out)?;
     write_declarations(alloc, module, tables, names, out)
 }
 
