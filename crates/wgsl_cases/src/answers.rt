@@ -25,43 +25,58 @@ fn answer_case<W: Write>(alloc: Global, case: &Value, out: &mut W) -> io::Result
         return writeln!(out, "no name");
     };
     match known_of(alloc, case) {
-        Ok(mut known) => answer_known(alloc, name, &mut known, is_counted(case), out),
+        Ok(mut known) => answer_known(alloc, name, &mut known, case, out),
         Err(error) => writeln!(out, "== {name}\nnot read: {error}"),
     }
 }
 
-/// Whether the case tells how often each expression is used.
-fn is_counted(case: &Value) -> bool {
-    case.get("counted").and_then(Value::as_bool) == Some(true)
+/// Whether a member of the case is `true`.
+fn is_told(case: &Value, member: &str) -> bool {
+    case.get(member).and_then(Value::as_bool) == Some(true)
 }
 
 fn answer_known<W: Write>(
     alloc: Global,
     name: &str,
     known: &mut Known,
-    is_counted: bool,
+    case: &Value,
     out: &mut W,
 ) -> io::Result<()> {
     if let Some(fault) = unaccepted(&known.module, &known.info) {
         return writeln!(out, "== {name}\nnot accepted: {fault}");
     }
-    if !is_counted {
+    if !is_told(case, "counted") {
         count(&mut known.info, &known.module);
     }
-    print_texts(alloc, name, known, out)
+    let types = WriterFlags::EXPLICIT_TYPES;
+    print_texts(alloc, name, ["", ", with types"], known, [WriterFlags::empty(), types], out)?;
+    if is_told(case, "portable") {
+        let plain = WriterFlags::PORTABLE;
+        let heads = [", portable", ", portable with types"];
+        return print_texts(alloc, name, heads, known, [plain, plain.union(types)], out);
+    }
+    Ok(())
 }
 
-/// Prints what the writer makes of the module with either setting, once where both are the same.
-fn print_texts<W: Write>(alloc: Global, name: &str, known: &Known, out: &mut W) -> io::Result<()>
+/// Prints what the writer makes of the module with either set of flags, once where both are the same.
+fn print_texts<W: Write>(
+    alloc: Global,
+    name: &str,
+    heads: [&str; 2],
+    known: &Known,
+    flags: [WriterFlags; 2],
+    out: &mut W,
+) -> io::Result<()>
     requires { IsTrue (is_accepted known.now.module known.now.info) }
 {
-    let plain = text_of(alloc, known, WriterFlags::empty())?;
-    write!(out, "== {name}\n{plain}")?;
-    let typed = text_of(alloc, known, WriterFlags::EXPLICIT_TYPES)?;
-    if typed.as_str() == plain.as_str() {
+    let [head, other_head] = heads;
+    let first = text_of(alloc, known, flags[0])?;
+    write!(out, "== {name}{head}\n{first}")?;
+    let other = text_of(alloc, known, flags[1])?;
+    if other.as_str() == first.as_str() {
         return Ok(());
     }
-    write!(out, "== {name}, with types\n{typed}")
+    write!(out, "== {name}{other_head}\n{other}")
 }
 
 /// What the writer makes of the module: what it wrote, and behind it the refusal if there is one.
