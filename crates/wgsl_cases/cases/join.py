@@ -155,14 +155,14 @@ class Expected:
     def check(self, case):
         """The case tells one thing at least, and no two that exclude each other."""
         plain, typed = zip(self.texts, self.refusals)
-        of_texts = any(told is not None for told in (*plain, *typed))
+        of_texts = any(told is not None for told in (*plain, *typed, self.portable))
         if self.only is None and not of_texts:
             raise case.error("nothing is expected")
         if self.only is not None and of_texts:
             raise case.error("a module that is not accepted has no text and no refusal")
         if plain == (None, None) and typed != (None, None):
             raise case.error("with types alone: what is written without them is not told")
-        if self.portable is not None and (self.only is not None or self.refusals != [None, None]):
+        if self.portable is not None and self.refusals != [None, None]:
             raise case.error("a module that is not written has no portable text")
         if self.portable is not None and self.texts[0] is None:
             raise case.error("portable alone: what is written otherwise is not told")
