@@ -12,7 +12,7 @@ use Rattle.naga_ir.specs.declared.binding.Interpolation.TheVariants as interpola
 use Rattle.naga_info.specs.declared.info.ExpressionInfo.{ExpressionInfo}
 use Rattle.naga_info.specs.declared.info.ModuleInfo.{ModuleInfo}
 use Rattle.naga_info.specs.declared.info.TypeResolution.{TypeResolution}
-use Rattle.naga_info.specs.declared.info.TypeResolution.TheVariants as known
+use Rattle.naga_info.specs.declared.info.TypeResolution.TheVariants as resolution
 use Rattle.naga_ir.specs.StatementTree.{BlockTree, SimpleStatement, StatementTree, block, branch}
 use Rattle.naga_ir.specs.StatementTree.{case, control_barrier, loop, no_cases, no_statements}
 use Rattle.naga_ir.specs.StatementTree.{return, simple, statement, subgroup_ballot}
@@ -78,10 +78,10 @@ at_location blend_src = Location 0 None None blend_src false
 module _ (m : Module) (members : Vec StructMember Global) (v : GlobalVariable) (p : EntryPoint)
     (info : ModuleInfo) (f : Function) where
   abbrev enables : (portable : Bool) → Module → ModuleInfo → List (List ℕ)
-  enables portable of info = map (λ x. x.word) (filter (is_enabled portable of info) extensions)
+  enables portable given known = map (λ x. x.word) (filter (is_enabled portable given known) extensions)
 
   abbrev needed_enables : Module → List (List ℕ)
-  needed_enables of = enables false of info
+  needed_enables given = enables false given info
 
   -- ---- modules with one cause
   abbrev of_type : TypeInner → Module
@@ -354,7 +354,14 @@ module _ (m : Module) (members : Vec StructMember Global) (v : GlobalVariable) (
 
   -- ---- for standard compilers
   abbrev asked : Module → List (List ℕ)
-  asked of = enables true (record of { functions = [] }) info
+  asked given =
+      enables true (record given { functions = [] })
+      (record info { functions = none info.functions; entry_points = none info.entry_points })
+
+  -- an entry point that does nothing
+  abbrev resting : EntryPoint → EntryPoint
+  resting point =
+      record point { function = record point.function { expressions = []; body = no_statements } }
 
   abbrev f16_alone : List (List ℕ)
   f16_alone = codes "f16" ∷ []
@@ -377,7 +384,7 @@ module _ (m : Module) (members : Vec StructMember Global) (v : GlobalVariable) (
 
   -- builtin values of subgroups, of members, arguments and results
   abbrev AskedFor : Binding → Type 0
-  AskedFor b = asked (of_entry_point (started stage.Compute (Some b) None)) ≡ subgroups_alone
+  AskedFor b = asked (of_entry_point (resting (started stage.Compute (Some b) None))) ≡ subgroups_alone
 
   of_a_member : asked (of_type (struct_of (BuiltIn builtin.SubgroupSize))) ≡ subgroups_alone
   of_a_member = refl
@@ -394,7 +401,7 @@ module _ (m : Module) (members : Vec StructMember Global) (v : GlobalVariable) (
   which_invocation : AskedFor (BuiltIn builtin.SubgroupInvocationId)
   which_invocation = refl
 
-  another_builtin : asked (of_entry_point (started stage.Compute (Some (BuiltIn builtin.LocalInvocationIndex)) None)) ≡ []
+  another_builtin : asked (of_entry_point (resting (started stage.Compute (Some (BuiltIn builtin.LocalInvocationIndex)) None))) ≡ []
   another_builtin = refl
 
   -- any other text enables nothing for them
@@ -413,6 +420,7 @@ module _ (m : Module) (members : Vec StructMember Global) (v : GlobalVariable) (
   abbrev knowing : List TypeResolution → ModuleInfo
   knowing types = record info {
     functions = one info.functions (map (λ r. record { ref_count = 0; ty = r }) types);
+    entry_points = none info.entry_points;
   }
 
   abbrev wide : TypeInner
@@ -423,7 +431,7 @@ module _ (m : Module) (members : Vec StructMember Global) (v : GlobalVariable) (
   of_conversion to convert from =
       enables true
       (of_function (expression.FunctionArgument 0 ∷ expression.As 0 to convert ∷ []) no_statements)
-      (knowing (known.Value from ∷ known.Value wide ∷ []))
+      (knowing (resolution.Value from ∷ resolution.Value wide ∷ []))
 
   to_half : of_conversion kind.Float (Some 2) wide ≡ f16_alone
   to_half = refl
@@ -439,7 +447,7 @@ module _ (m : Module) (members : Vec StructMember Global) (v : GlobalVariable) (
 
   -- a `let` of it may tell its type
   of_this_type : enables true (of_function (expression.FunctionArgument 0 ∷ []) no_statements)
-      (knowing (known.Value (inner.ValuePointer None half space.Function) ∷ [])) ≡ f16_alone
+      (knowing (resolution.Value (inner.ValuePointer None half space.Function) ∷ [])) ≡ f16_alone
   of_this_type = refl
 
   -- ---- what is done in one

@@ -4,8 +4,7 @@
 -- they ask for it, too.
 --
 -- Throughout, x is an extension, m a module or a member, info what is known of a module, t a type,
--- s a scalar, v a variable of the module, f a function, p an entry point, a an argument, and r a
--- result.
+-- s a scalar, v a variable of the module, p an entry point, a an argument, and r a result.
 use Rattle.std.specs.Prelude.{ℕ, Bool, true, false, not, ◌&&◌, ◌||◌, ◌==◌, List, [], ◌∷◌, codes}
 use Rattle.std.specs.Prelude.{map}
 use Rattle.std.specs.List.{filter, list_any}
