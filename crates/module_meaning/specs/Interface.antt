@@ -1,9 +1,9 @@
 -- The interface of a module under its names: what it declares for others.
 --
 -- Throughout, names are those of the module m, of which info is known, flags say how it is written,
--- t its types with their names, value tells the value of one of its own expressions, if it has one, and each declaration
--- goes by its first letter and stands beside its handle: constant, override, global variable,
--- function, entry point.
+-- t its types with their names, value tells the value of one of its own expressions, if it has one,
+-- and each declaration goes by its first letter and stands beside its handle: constant, override,
+-- global variable, function, entry point.
 use Rattle.std.specs.Prelude.{ℕ, ◌+◌, List, [], ◌∷◌, map, Option, Some}
 use Rattle.std.specs.Prelude.{None, if◌then◌else◌}
 use Rattle.std.specs.List.{enumerate_from, filter_map}

@@ -28,8 +28,7 @@ use naga_ir::{
 pub fn names_subgroups(module: &Module) -> bool
     ensures { result ≡ names_subgroups «module».now }
 {
-    functions_name_subgroups(&module.functions)
-        || entry_points_name_subgroups(&module.entry_points)
+    functions_name_subgroups(&module.functions) || entry_points_name_subgroups(&module.entry_points)
 }
 
 fn functions_name_subgroups(functions: &Arena<Function>) -> bool
@@ -140,8 +139,8 @@ fn are_over_halves(types: &UniqueArena<Type_>) -> bool
 fn functions_spell_halves(module: &Module, info: &ModuleInfo) -> bool
     ensures { result
         ≡ list_any (λ p. spells_known_halves «module».now.types p.1
-            (slice_get info.now.functions.items p.0))
-            (enumerate_from 0 «module».now.functions) }
+        (slice_get info.now.functions.items p.0))
+        (enumerate_from 0 «module».now.functions) }
 {
     for (handle, function) in module.functions.iter() {
         if spells_known_halves(&module.types, function, info.functions.get(handle.index())) {
@@ -154,8 +153,8 @@ fn functions_spell_halves(module: &Module, info: &ModuleInfo) -> bool
 fn entry_points_spell_halves(module: &Module, info: &ModuleInfo) -> bool
     ensures { result
         ≡ list_any (λ p. spells_known_halves «module».now.types p.1.function
-            (slice_get info.now.entry_points.items p.0))
-            (enumerate_from 0 «module».now.entry_points.items) }
+        (slice_get info.now.entry_points.items p.0))
+        (enumerate_from 0 «module».now.entry_points.items) }
 {
     for (index, point) in module.entry_points.iter().enumerate() {
         if spells_known_halves(&module.types, &point.function, info.entry_points.get(index)) {
@@ -208,7 +207,7 @@ fn converted_to_halves(
 ) -> bool
     ensures { result
         ≡ list_any (λ p. converts_to_halves types.now known.now p.1)
-            (enumerate_from 0 expressions.now) }
+        (enumerate_from 0 expressions.now) }
 {
     for (_, expression) in expressions.iter() {
         if converts_to_halves(types, known, expression) {

@@ -1,10 +1,10 @@
 -- The syntax tree that is written for a module under its names.
 --
--- Throughout, names are those of the module m, t the names that types are spelled with, named tells
--- the names of the labels that front ends gave, and each declaration goes by its first letter and
--- stands beside its handle: member, type of a struct, constant, override, global variable, entry
--- point.
-use Rattle.std.specs.Prelude.{ℕ, ◌+◌, Bool, List, [], ◌∷◌, length, map, Option, Some, None}
+-- Throughout, names are those of the module m, flags say how it is written, t are the names that
+-- types are spelled with, named tells the names of the labels that front ends gave, and each
+-- declaration goes by its first letter and stands beside its handle: member, type of a struct,
+-- constant, override, global variable, entry point.
+use Rattle.std.specs.Prelude.{ℕ, ◌+◌, List, [], ◌∷◌, length, map, Option, Some, None}
 use Rattle.std.specs.Prelude.{if◌then◌else◌}
 use Rattle.std.specs.List.{enumerate_from, filter_map}
 use Rattle.std.specs.Option.{is_some, option_map}
@@ -102,7 +102,7 @@ variable_form names t m p =
 -- ---- entry points
 -- one of the functions, by its number and what is known of it, behind the attributes of its stage
 abbrev pub entry_point_under :
-    LabelNames → (flags : WriterFlags) → NameMap → Module → ModuleInfo → (number : ℕ) →
+    LabelNames → WriterFlags → NameMap → Module → ModuleInfo → (number : ℕ) →
     ir_entry_point.EntryPoint → List ExpressionInfo → EntryPoint
 entry_point_under named flags names m info number p es =
     record {
@@ -112,7 +112,7 @@ entry_point_under named flags names m info number p es =
 
 -- those from this number on
 abbrev pub entry_points_under :
-    LabelNames → (flags : WriterFlags) → NameMap → Module → ModuleInfo → (number : ℕ) →
+    LabelNames → WriterFlags → NameMap → Module → ModuleInfo → (number : ℕ) →
     List ir_entry_point.EntryPoint → List (List ExpressionInfo) → List EntryPoint
 entry_points_under named flags names m info number (p ∷ ps) (es ∷ ess) =
     entry_point_under named flags names m info number p es
@@ -121,21 +121,21 @@ entry_points_under named flags names m info number _ _ = []
 
 -- so they are in a text of the whole module
 abbrev pub entry_point_form :
-    (flags : WriterFlags) → NameMap → Module → ModuleInfo → (number : ℕ) → ir_entry_point.EntryPoint →
+    WriterFlags → NameMap → Module → ModuleInfo → (number : ℕ) → ir_entry_point.EntryPoint →
     List ExpressionInfo → EntryPoint
 entry_point_form flags names m info number p es =
     entry_point_under (expression_name m) flags names m info number p es
 
 abbrev pub entry_points_form :
-    (flags : WriterFlags) → NameMap → Module → ModuleInfo → (number : ℕ) →
+    WriterFlags → NameMap → Module → ModuleInfo → (number : ℕ) →
     List ir_entry_point.EntryPoint → List (List ExpressionInfo) → List EntryPoint
 entry_points_form flags names m info number ps ess =
     entry_points_under (expression_name m) flags names m info number ps ess
 
 -- ---- modules
--- the syntax tree for a module where labels have these names, by what is known of it, with the
--- types of its `let`s told or not
-abbrev pub program_under : LabelNames → Module → ModuleInfo → (flags : WriterFlags) → Program
+-- the syntax tree for a module where labels have these names, by what is known of it, and by the
+-- flags
+abbrev pub program_under : LabelNames → Module → ModuleInfo → WriterFlags → Program
 program_under named m info flags =
     let names = module_names m in
     let t : TypeNames = type_names m in
@@ -152,5 +152,5 @@ program_under named m info flags =
     }
 
 -- and the one that is written, a text of the whole module
-abbrev pub written_program : Module → ModuleInfo → (flags : WriterFlags) → Program
+abbrev pub written_program : Module → ModuleInfo → WriterFlags → Program
 written_program m info flags = program_under (expression_name m) m info flags

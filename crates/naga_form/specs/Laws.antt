@@ -1,7 +1,7 @@
 -- What is promised of the form of a module: a word for each law.
 --
--- Throughout, m is a module, t a type's tree, r a type of an expression, and n are the names that
--- types are spelled with.
+-- Throughout, m is a module, flags say how it is written, t is a type's tree, r a type of an
+-- expression, and n are the names that types are spelled with.
 use Rattle.std.specs.Prelude.{◌≡◌, ◌↔◌, ℕ, ◌++◌, ◌∷◌, List, Some, None, IsTrue, true, Bool, length}
 use Rattle.std.specs.List.{list_all}
 use Rattle.std.specs.Option.{option_map}
@@ -73,13 +73,14 @@ use Rattle.naga_back.specs.declared.flags.WriterFlags.{WriterFlags}
 use Rattle.naga_back.specs.Flags.{annotates_types}
 
 -- of an accepted module of which all that it declares has a form, and all that is written of its
--- functions, and of what is written for it with the types of its `let`s told or not, under whatever
--- names of the labels that front ends gave
+-- functions, and of what is written for it with whatever flags, under whatever names of the labels
+-- that front ends gave
 abbrev pub OfAccepted :
-    (LabelNames → Module → ModuleInfo → (flags : WriterFlags) → Program → Type 0) → Type 0
+    (LabelNames → Module → ModuleInfo → WriterFlags → Program → Type 0) → Type 0
 OfAccepted Holds =
     (m : Module) (info : ModuleInfo) (flags : WriterFlags) (named : LabelNames) →
-    IsTrue (is_accepted m info) → DeclarationsHaveForms m → AllWrittenHaveForms (annotates_types flags) m info →
+    IsTrue (is_accepted m info) → DeclarationsHaveForms m →
+    AllWrittenHaveForms (annotates_types flags) m info →
     Holds named m info flags (program_under named m info flags)
 
 -- the same where the rules of scope hold and the names of labels are such as they may have
@@ -167,8 +168,8 @@ BindsAsCounted = OfAccepted (λ named m info flags program.
 -- the module's, and under whatever names front ends gave
 abbrev pub FunctionsAreRead : Type 0
 FunctionsAreRead =
-    (flags : WriterFlags) (named : ℕ → List ℕ) (m : Module) (info : ModuleInfo) (g : ℕ) (f : Function) →
-    (es : List ExpressionInfo) →
+    (flags : WriterFlags) (named : ℕ → List ℕ) (m : Module) (info : ModuleInfo) (g : ℕ) →
+    (f : Function) (es : List ExpressionInfo) →
     length m.global_expressions ≡ length info.const_expression_types.items →
     WrittenHaveForms (annotates_types flags) m info f es →
     length f.expressions ≡ length es →
@@ -192,11 +193,12 @@ RunsAsTheModule = OfAcceptedInScope (λ named. RunsAs)
 abbrev pub OneBinds : Type 0
 OneBinds =
     (m : Module) (info : ModuleInfo) (flags : WriterFlags) (named : LabelNames) →
-    IsTrue (is_accepted m info) → (number : ℕ) → WrittenHaveFormsAt (annotates_types flags) m info number →
+    IsTrue (is_accepted m info) → (number : ℕ) →
+    WrittenHaveFormsAt (annotates_types flags) m info number →
     BindsAt named m info (annotates_types flags) (program_under named m info flags) number
 
 -- what holds of one function, whatever stands in the others
-abbrev pub OfOne : (LabelNames → (flags : WriterFlags) → Module → ModuleInfo → ℕ → Type 0) → Type 0
+abbrev pub OfOne : (LabelNames → WriterFlags → Module → ModuleInfo → ℕ → Type 0) → Type 0
 OfOne Holds =
     (m : Module) (info : ModuleInfo) (flags : WriterFlags) (named : LabelNames) →
     IsTrue (is_accepted m info) → AreLabelNames m named →
@@ -214,8 +216,10 @@ OneResolves = OfOne (λ named flags m info number.
 abbrev pub OneRuns : Type 0
 OneRuns = OfOne (λ named flags m info number.
     let callees = callee_count m (function_type m number) in
-    ItemsHaveForms m → WrittenHaveFormsAt (annotates_types flags) m info number → ScopeHoldsIn m info number →
-    WrittenHaveFormsBefore (annotates_types flags) m info callees → ScopesHoldBefore m info callees →
+    ItemsHaveForms m →
+    WrittenHaveFormsAt (annotates_types flags) m info number → ScopeHoldsIn m info number →
+    WrittenHaveFormsBefore (annotates_types flags) m info callees →
+    ScopesHoldBefore m info callees →
     RunsAt m info (program_under named m info flags) number)
 
 -- the check of scope decides the rules

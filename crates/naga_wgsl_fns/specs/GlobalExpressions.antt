@@ -1,7 +1,7 @@
 -- What is promised of a call that writes one of a module's own expressions.
 --
 -- Throughout, m is the module, and handle is that of the expression.
-use Rattle.std.specs.Prelude.{◌≡◌, ⊤, ℕ, ◌++◌, Bool, List, IfErr, IsFalse}
+use Rattle.std.specs.Prelude.{◌≡◌, ⊤, ℕ, ◌++◌, List, IfErr, IsFalse}
 use Rattle.std.specs.Prelude.{IsTrue, Ok, Err, OnErr, OnOk, Result}
 use Rattle.naga_ir.specs.declared.module.Module.{Module}
 use Rattle.naga_info.specs.declared.info.ModuleInfo.{ModuleInfo}

@@ -1,7 +1,8 @@
 -- What is promised of a call that writes one function of a module.
 --
 -- Throughout, m is the module, earlier are labels that were named before, ty says which of its
--- functions is meant and number is that of it, and explicit says whether `let`s tell types.
+-- functions is meant and number is that of it, flags say how it is written, and explicit says
+-- whether `let`s tell types.
 use Rattle.std.specs.Prelude.{◌≡◌, ⊤, ℕ, ◌<◌, ◌++◌, Bool, List, ◌⊎◌, Ok, Err, IfErr, OnErr, OnOk}
 use Rattle.std.specs.Prelude.{IsFalse, IsTrue, Result, Some, slice_get}
 use Rattle.std.specs.Option.{is_some}

@@ -1,7 +1,7 @@
 -- Faithful writing: what is promised of each call that writes an accepted module.
 --
 -- Throughout, m is the module, and flags say how it is written.
-use Rattle.std.specs.Prelude.{◌≡◌, ℕ, Bool, List, [], ◌++◌, string_bytes, Result, Ok, Err, OnOk}
+use Rattle.std.specs.Prelude.{◌≡◌, ℕ, List, [], ◌++◌, string_bytes, Result, Ok, Err, OnOk}
 use Rattle.std.specs.declared.string.String.{String}
 use Rattle.naga_ir.specs.declared.module.Module.{Module}
 use Rattle.naga_info.specs.declared.info.ModuleInfo.{ModuleInfo}

@@ -152,7 +152,15 @@ impl<W: TextSink> Writer<W> {
             return Err(declaration_without_form(self.alloc, module, &tables, declaration));
         }
         let (names, mut namer) = names_of(self.alloc, module)?;
-        write_front(self.alloc, module, info, &tables, &names, self.flags, &mut self.out)?;
+        write_front(
+            self.alloc,
+            module,
+            info,
+            &tables,
+            &names,
+            self.flags,
+            &mut self.out,
+        )?;
         write_functions(
             self.alloc,
             module,

@@ -49,7 +49,14 @@ fn answer_known<W: Write>(
         count(&mut known.info, &known.module);
     }
     let types = WriterFlags::EXPLICIT_TYPES;
-    print_texts(alloc, name, ["", ", with types"], known, [WriterFlags::empty(), types], out)?;
+    print_texts(
+        alloc,
+        name,
+        ["", ", with types"],
+        known,
+        [WriterFlags::empty(), types],
+        out,
+    )?;
     if is_told(case, "portable") {
         let plain = WriterFlags::PORTABLE;
         let heads = [", portable", ", portable with types"];
