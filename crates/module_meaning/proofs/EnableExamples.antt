@@ -9,11 +9,10 @@ use Rattle.naga_ir.specs.declared.binding.Binding.{Binding}
 use Rattle.naga_ir.specs.declared.binding.Binding.TheVariants.{BuiltIn, Location}
 use Rattle.naga_ir.specs.declared.binding.BuiltIn.TheVariants as builtin
 use Rattle.naga_ir.specs.declared.binding.Interpolation.TheVariants as interpolation
-use Rattle.naga_info.specs.declared.info.ExpressionInfo.{ExpressionInfo}
 use Rattle.naga_info.specs.declared.info.ModuleInfo.{ModuleInfo}
 use Rattle.naga_info.specs.declared.info.TypeResolution.{TypeResolution}
 use Rattle.naga_info.specs.declared.info.TypeResolution.TheVariants as resolution
-use Rattle.naga_ir.specs.StatementTree.{BlockTree, SimpleStatement, StatementTree, block, branch}
+use Rattle.naga_ir.specs.StatementTree.{BlockTree, StatementTree, block, branch}
 use Rattle.naga_ir.specs.StatementTree.{case, control_barrier, loop, no_cases, no_statements}
 use Rattle.naga_ir.specs.StatementTree.{return, simple, statement, subgroup_ballot}
 use Rattle.naga_ir.specs.StatementTree.{subgroup_collective_operation, subgroup_gather, switch}

@@ -2,7 +2,7 @@
 --
 -- Throughout, count says how many they are, f is a function with the number g, of whose expressions es
 -- is known, and named tells the names of the labels that front ends gave.
-use Rattle.std.proofs.Common.{[], ◌≡◌, ℕ, suc, ◌+◌, ◌<◌, ◌≤◌, ◌∙◌, Bool, false, List, ◌∷◌, ◌++◌, zero}
+use Rattle.std.proofs.Common.{[], ◌≡◌, ℕ, suc, ◌+◌, ◌<◌, ◌≤◌, ◌∙◌, false, List, ◌∷◌, ◌++◌, zero}
 use Rattle.std.proofs.Common.{Some, add-one, ap, arith, drop, length, map, refl, subst, sym, take}
 use Rattle.std.specs.Prelude.{IfSome, IsTrue, reverse, slice_get, zip}
 use mathlib.Core.List.{reverse_aux}

@@ -3,7 +3,7 @@
 --
 -- Throughout, m is a module, of which info is known, i is the number of a constant or an override, o
 -- that of an override alone, v a variable, and h the handle of one of the module's own expressions.
-use Rattle.std.proofs.Common.{◌≡◌, ℕ, ◌<◌, Bool, true, [], None, Some, suc, sym, ap, subst, ◌∙◌}
+use Rattle.std.proofs.Common.{◌≡◌, ℕ, ◌<◌, true, [], None, Some, suc, sym, ap, subst, ◌∙◌}
 use Rattle.std.proofs.Common.{List, length, map}
 use Rattle.std.specs.Option.{option_map_or}
 use Rattle.std.specs.Prelude.{IsTrue}

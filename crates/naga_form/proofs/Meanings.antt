@@ -1,6 +1,6 @@
 -- No run of a module of which all that is declared and written has forms, and in which the rules of
 -- scope hold, is stuck, nor one of its text in a world that keeps the types.
-use Rattle.std.proofs.Common.{Bool, sym, subst}
+use Rattle.std.proofs.Common.{sym, subst}
 use Rattle.std.specs.Prelude.{IsTrue}
 use Rattle.naga_ir.specs.declared.module.Module.{Module}
 use Rattle.naga_info.specs.declared.info.ModuleInfo.{ModuleInfo}

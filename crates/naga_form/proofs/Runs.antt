@@ -1,7 +1,7 @@
 -- The program that is written for a module does what the module does.
 --
 -- Throughout, named tells the names of the labels that front ends gave.
-use Rattle.std.proofs.Common.{[], ◌≡◌, ℕ, suc, ◌+◌, Bool, List, ◌∷◌, map, length, Some, refl, sym, ap}
+use Rattle.std.proofs.Common.{[], ◌≡◌, ℕ, suc, ◌+◌, List, ◌∷◌, map, length, Some, refl, sym, ap}
 use Rattle.std.proofs.Common.{◌∙◌}
 use Rattle.std.specs.Prelude.{IsTrue, slice_get, reverse}
 use Rattle.indexmap.proofs.ReorderLemmas.{map-reverse}

@@ -3,7 +3,7 @@
 --
 -- Throughout, fs are functions from the number g on, ess says what is known of each, and named tells the
 -- names of the labels that front ends gave.
-use Rattle.std.proofs.Common.{[], ◌≡◌, ℕ, suc, ◌+◌, ◌++◌, ◌∙◌, Bool, List, ◌∷◌, add-one, ap, length}
+use Rattle.std.proofs.Common.{[], ◌≡◌, ℕ, suc, ◌+◌, ◌++◌, ◌∙◌, List, ◌∷◌, add-one, ap, length}
 use Rattle.std.proofs.Common.{map, refl, subst, sym}
 use Rattle.std.specs.Prelude.{IsTrue, reverse}
 use mathlib.Core.List.{reverse_aux}

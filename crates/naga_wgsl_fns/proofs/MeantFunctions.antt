@@ -2,7 +2,7 @@
 --
 -- Throughout, ps are entry points from the number g on, ess says what is known of each, i is the place
 -- of one among them, and named tells the names of the labels that front ends gave.
-use Rattle.std.proofs.Common.{◌≡◌, ℕ, zero, suc, ◌+◌, ◌∙◌, Bool, List, [], ◌∷◌, ◌++◌, Some, ap, arith}
+use Rattle.std.proofs.Common.{◌≡◌, ℕ, zero, suc, ◌+◌, ◌∙◌, List, [], ◌∷◌, ◌++◌, Some, ap, arith}
 use Rattle.std.proofs.Common.{◌<◌, ◌≤◌, length, slice_get, subst, sym, unwrap_or}
 use Rattle.std.specs.Prelude.{IsTrue}
 use Rattle.std.proofs.lemmas.Option.{same_Some, slice_get_within}
