@@ -51,10 +51,11 @@ pub fn write_enables<W: TextSink>(
 fn enabled(module: &Module, info: &ModuleInfo, flags: WriterFlags) -> Enables
     ensures { result ≡ enables_of (is_enabled (is_portable flags) «module».now info.now) }
 {
+    let needed = Enables::of(module);
     if is_portable(flags) {
-        Enables::of(module).or(Enables::asked(module, info))
+        needed.or(Enables::asked(module, info))
     } else {
-        Enables::of(module).in_each_text()
+        needed.in_each_text()
     }
 }
 
