@@ -2,7 +2,7 @@
 
 ghost use Rattle.std.specs.Prelude.{◌≡◌, slice_get};
 ghost use Rattle.std.specs.List.{enumerate_from, list_any};
-ghost use Rattle.std.specs.Option.{option_copied, option_map_or};
+ghost use Rattle.std.specs.Option.{option_map_or};
 ghost use Rattle.module_meaning.specs.Conversions.{converted_scalar};
 ghost use Rattle.module_meaning.specs.ExpressionForms.{known_passes};
 ghost use Rattle.module_meaning.specs.Halves.{converts_to_halves, function_spells_halves};
@@ -143,7 +143,7 @@ fn functions_spell_halves(module: &Module, info: &ModuleInfo) -> bool
         (enumerate_from 0 «module».now.functions) }
 {
     for (handle, function) in module.functions.iter() {
-        if spells_known_halves(&module.types, function, info.functions.get(handle.index())) {
+        if spells_known_halves(&module.types, function, &info.functions, handle.index()) {
             return true;
         }
     }
@@ -157,7 +157,7 @@ fn entry_points_spell_halves(module: &Module, info: &ModuleInfo) -> bool
         (enumerate_from 0 «module».now.entry_points.items) }
 {
     for (index, point) in module.entry_points.iter().enumerate() {
-        if spells_known_halves(&module.types, &point.function, info.entry_points.get(index)) {
+        if spells_known_halves(&module.types, &point.function, &info.entry_points, index) {
             return true;
         }
     }
@@ -168,12 +168,13 @@ fn entry_points_spell_halves(module: &Module, info: &ModuleInfo) -> bool
 fn spells_known_halves(
     types: &UniqueArena<Type_>,
     function: &Function,
-    known: Option<&FunctionInfo>,
+    infos: &[FunctionInfo],
+    index: usize,
 ) -> bool
     ensures { result
-        ≡ spells_known_halves types.now function.now (option_copied known) }
+        ≡ spells_known_halves types.now function.now (slice_get infos.now index) }
 {
-    match known {
+    match infos.get(index) {
         Some(known) => function_spells_halves(types, function, &known.expressions),
         None => false,
     }
