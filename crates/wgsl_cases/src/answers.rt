@@ -48,42 +48,50 @@ fn answer_known<W: Write>(
     if !is_told(case, "counted") {
         count(&mut known.info, &known.module);
     }
-    let types = WriterFlags::EXPLICIT_TYPES;
     print_texts(
         alloc,
         name,
-        ["", ", with types"],
+        "",
+        ", with types",
         known,
-        [WriterFlags::empty(), types],
+        WriterFlags::empty(),
         out,
     )?;
     if is_told(case, "portable") {
-        let plain = WriterFlags::PORTABLE;
-        let heads = [", portable", ", portable with types"];
-        return print_texts(alloc, name, heads, known, [plain, plain.union(types)], out);
+        let typed_head = ", portable with types";
+        return print_texts(
+            alloc,
+            name,
+            ", portable",
+            typed_head,
+            known,
+            WriterFlags::PORTABLE,
+            out,
+        );
     }
     Ok(())
 }
 
-/// Prints what the writer makes of the module with either set of flags, once where both are the same.
+/// Prints what the writer makes of the module with these flags, and where each `let` tells its type
+/// besides, once where both are the same.
 fn print_texts<W: Write>(
     alloc: Global,
     name: &str,
-    heads: [&str; 2],
+    head: &str,
+    typed_head: &str,
     known: &Known,
-    flags: [WriterFlags; 2],
+    flags: WriterFlags,
     out: &mut W,
 ) -> io::Result<()>
     requires { IsTrue (is_accepted known.now.module known.now.info) }
 {
-    let [head, other_head] = heads;
-    let first = text_of(alloc, known, flags[0])?;
-    write!(out, "== {name}{head}\n{first}")?;
-    let other = text_of(alloc, known, flags[1])?;
-    if other.as_str() == first.as_str() {
+    let plain = text_of(alloc, known, flags)?;
+    write!(out, "== {name}{head}\n{plain}")?;
+    let typed = text_of(alloc, known, flags.union(WriterFlags::EXPLICIT_TYPES))?;
+    if typed.as_str() == plain.as_str() {
         return Ok(());
     }
-    write!(out, "== {name}{other_head}\n{other}")
+    write!(out, "== {name}{typed_head}\n{typed}")
 }
 
 /// What the writer makes of the module: what it wrote, and behind it the refusal if there is one.
