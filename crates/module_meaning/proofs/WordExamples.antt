@@ -25,7 +25,8 @@ use Rattle.naga_words.specs.Spelling.{resolution_segments, type_segments}
 use Rattle.shader_runs.specs.Form.{form_module}
 use Rattle.shader_runs.specs.Program.{Emit, Function, Module, NamedConstant, Return, Store}
 use Rattle.shader_runs.specs.Resolution.{Target, ArgumentTarget, LiteralTarget, PartTarget}
-use Rattle.shader_runs.specs.Resolution.{WordTarget, module_targets, text_targets}
+use Rattle.shader_runs.specs.Resolution.{LetTarget, OperandsEnd, WordTarget, module_targets}
+use Rattle.shader_runs.specs.Resolution.{text_targets}
 use Rattle.shader_runs.specs.Scope.{Naming}
 use Rattle.shader_runs.specs.Value.{MemberNamed, OtherType, PointerType, ValueType, Whole}
 use Rattle.shader_runs.specs.Value.{same_integer}
@@ -34,7 +35,7 @@ use Rattle.shader_runs.specs.WorkedFunctions.{functions_alone, i32, row, with_na
 use Rattle.text_meaning.specs.Abstraction.{program_read}
 use Rattle.wgsl_text.specs.Declarations.{Program}
 use Rattle.wgsl_text.specs.Expressions.{Expression, IndexAt, operands}
-use Rattle.wgsl_text.specs.Statements.{Assign, ReturnValue}
+use Rattle.wgsl_text.specs.Statements.{Assign, CallStatement, ReturnValue, Statement}
 use Rattle.wgsl_text.specs.WorkedTrees as worked
 use Rattle.module_meaning.specs.ExpressionShapes.{Declared, shape_of}
 use Rattle.module_meaning.specs.TypeIdentity.{identity, identity_code}
@@ -80,7 +81,7 @@ hidden =
     (worked.function "f" (worked.parameter "min" (worked.named_type "i32") ∷ []) (worked.gives "i32")
     [] (ReturnValue (worked.call "min" (worked.names ("min" ∷ []))) ∷ []) ∷ [])
 
-hidden_word : told hidden ≡ (Some (ArgumentTarget 0) ∷ Some (ArgumentTarget 0) ∷ []) ∷ []
+hidden_word : told hidden ≡ (Some (ArgumentTarget 0) ∷ Some (ArgumentTarget 0) ∷ Some OperandsEnd ∷ []) ∷ []
 hidden_word = refl
 
 -- ---- tests
@@ -182,12 +183,12 @@ module _ (members : Vec StructMember Global) (handles : Vec ℕ Global) where
   -- the whole part of `modf` for the fraction
   other_member : told (text place chosen built (worked.member_of (worked.call "modf" (worked.names ("b" ∷ []))) "whole")) ≢ meant
   unfolding type_segments
-  other_member = differ (stands 8 (is_member (codes "whole"))) _ _ refl refl
+  other_member = differ (stands 11 (is_member (codes "whole"))) _ _ refl refl
 
   -- another struct with members of like types
   other_struct : told (text place chosen (worked.call "S" (operands (worked.integer 1 ∷ worked.name "a" ∷ []))) part) ≢ meant
   unfolding type_segments
-  other_struct = differ (stands 5 (is_word (codes "S"))) _ _ refl refl
+  other_struct = differ (stands 7 (is_word (codes "S"))) _ _ refl refl
 
   -- an element for a member
   element_for_member : told (text (IndexAt (worked.name "s") 1) chosen built part) ≢ meant
@@ -203,3 +204,42 @@ module _ (members : Vec StructMember Global) (handles : Vec ℕ Global) where
   other_literal : told (text place (worked.call "min" (operands (worked.name "a" ∷ worked.integer 2 ∷ []))) built part) ≢ meant
   unfolding type_segments
   other_literal = differ (stands 4 (is_number 2)) _ _ refl refl
+
+-- ---- what stands where no run looks
+-- after a return: two requests in a text, a `let` before one of them
+abbrev requests : (first second : Statement) → Program
+requests first second =
+    worked.of_functions
+    (worked.function "f" (worked.parameter "a" (worked.named_type "i32") ∷ [])
+    (worked.gives "i32") [] (ReturnValue (worked.name "a") ∷ first ∷ second ∷ []) ∷ [])
+
+abbrev asked : Expression
+asked = worked.call "f" (worked.names ("a" ∷ []))
+
+abbrev alone : Statement
+alone = CallStatement (worked.named_type "f") (worked.names ("a" ∷ []))
+
+abbrev is_let : Target → Bool
+is_let (LetTarget number) = true
+is_let _ = false
+
+-- it stands before the other
+let_elsewhere : told (requests (worked.let_statement "t" asked) alone) ≢ told (requests alone (worked.let_statement "t" asked))
+let_elsewhere = differ (stands 1 is_let) _ _ refl refl
+
+-- operands in two groupings, with the same words in the same order
+abbrev grouped : (e : Expression) → Program
+grouped e =
+    worked.of_functions
+    (worked.function "f"
+    (worked.parameter "a" (worked.named_type "i32") ∷
+    worked.parameter "b" (worked.named_type "i32") ∷ []) (worked.gives "i32") []
+    (ReturnValue (worked.name "a") ∷ worked.let_statement "t" e ∷ []) ∷ [])
+
+abbrev is_end : Target → Bool
+is_end OperandsEnd = true
+is_end _ = false
+
+grouped_otherwise : told (grouped (worked.call "max" (operands (worked.call "min" (worked.names ("a" ∷ [])) ∷ worked.name "b" ∷ worked.integer 1 ∷ []))))
+    ≢ told (grouped (worked.call "max" (operands (worked.call "min" (worked.names ("a" ∷ "b" ∷ [])) ∷ worked.integer 1 ∷ []))))
+grouped_otherwise = differ (stands 5 is_end) _ _ refl refl

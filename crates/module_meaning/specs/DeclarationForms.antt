@@ -97,14 +97,24 @@ pub record HeadHasForm (m : Module) (number : ℕ) : Type 0 where
   pub stage : (p : EntryPoint) → entry_point_numbered m number ≡ Some p →
       IsTrue (stage_has_form p p.stage)
 
--- The items that a function or an initialiser may name have forms, as far as runs and values hang
--- on them: the types of variables, and the initialisers of constants with names. Those of overrides
--- and of variables may have none.
+-- the types of variables have forms
+abbrev pub VariablesHaveForms : Module → Type 0
+VariablesHaveForms m =
+    (i : ℕ) (v : GlobalVariable) → slice_get m.global_variables i ≡ Some v →
+    IsTrue (is_spellable m (Handle v.ty))
+
+-- the initialisers of constants with names have forms
+abbrev pub ConstantsHaveForms : Module → Type 0
+ConstantsHaveForms m =
+    (i : ℕ) (c : Constant) → slice_get m.constants i ≡ Some c → IsTrue (is_some c.name) →
+    IsTrue (global_is_written m c.init)
+
+-- The items that a function may name have forms, as far as runs hang on them: the types of
+-- variables, and the initialisers of constants with names. The initialisers of overrides and of
+-- variables may have none.
 pub record ItemsHaveForms (m : Module) : Type 0 where
-  pub variables : (i : ℕ) (v : GlobalVariable) → slice_get m.global_variables i ≡ Some v →
-      IsTrue (is_spellable m (Handle v.ty))
-  pub constants : (i : ℕ) (c : Constant) → slice_get m.constants i ≡ Some c →
-      IsTrue (is_some c.name) → IsTrue (global_is_written m c.init)
+  pub variables : VariablesHaveForms m
+  pub constants : ConstantsHaveForms m
 
 -- The initialisers of overrides and of variables have forms. No run hangs on these.
 pub record OtherInitialisersHaveForms (m : Module) : Type 0 where

@@ -71,7 +71,8 @@ declared_over m constant_tree known =
 abbrev pub global_types_known : ModuleInfo → ℕ → Option TypeResolution
 global_types_known info h = slice_get info.const_expression_types.items h
 
--- the zero value of a type of the module
+-- The zero value of a type of the module. Where it stands for an initialiser without a tree, as
+-- below, a typed meaning gives it a value of the type too, though no expression may spell it.
 abbrev pub zero_of_type : Module → (ty : ℕ) → ConstantTree
 zero_of_type m ty =
     Constructed (run_word (constructor (expression_context m (λ h. None)) (Handle ty) 0))

@@ -225,7 +225,8 @@ part_tree d tree_of h base None operator = operated d tree_of h (base ∷ []) op
 -- out; or of an index, a part, several components, `&&`, `||` or any operator that it applies,
 -- whether a text has that or not. An expression has no tree if it asks for an event, takes a part
 -- of what a pointer leads to, names a variable, is a statement's result, or applies an operator to
--- such, as a composition, an index and a part do too.
+-- such (a composition, an index and a part count as operators here). One that names a constant has
+-- a tree, whatever that constant's initialiser is.
 abbrev pub computed_over :
     Declared → (ℕ → Option ConstantTree) → ℕ → ir.Expression → Option ConstantTree
 computed_over d tree_of h (expression.Literal value) =

@@ -372,7 +372,7 @@ math_count math.InsertBits = 4
 math_count _ = 1
 
 -- A sampling at level zero that gathers, compares or clamps is so by its built-in's name, which has
--- no parameter for a level.
+-- no parameter for level zero.
 abbrev pub is_zero_by_name : (gathers compares clamped : Bool) → Bool
 is_zero_by_name gathers compares clamped = gathers || (compares || clamped)
 

@@ -11,13 +11,14 @@ use Rattle.naga_info.specs.declared.info.TypeResolution.{TypeResolution}
 use Rattle.naga_names.specs.Keys.{NameMap}
 use Rattle.naga_names.specs.Reset.{members_of}
 use Rattle.naga_names.specs.declared.key.NameKey.TheVariants as key
-use Rattle.shader_runs.specs.Resolution.{function_targets, module_targets}
+use Rattle.shader_runs.specs.Resolution.{constant_targets, function_targets, module_targets}
 use Rattle.shader_runs.specs.Resolution.{text_function_targets, text_names, text_targets}
+use Rattle.shader_runs.specs.Resolution.{tree_targets}
 use Rattle.wgsl_text.specs.Declarations.{Program}
 use Rattle.wgsl_text.specs.Reading.{type_layout}
 use Rattle.wgsl_text.specs.Types.{TypeSpecifier, IsType}
 use Rattle.module_meaning.specs.Bindings.{functions_named}
-use Rattle.module_meaning.specs.DeclarationForms.{OtherInitialisersHaveForms}
+use Rattle.module_meaning.specs.DeclarationForms.{ConstantsHaveForms, OtherInitialisersHaveForms}
 use Rattle.module_meaning.specs.DeclaredItems.{module_initialiser_targets, module_stage_targets}
 use Rattle.module_meaning.specs.DeclaredItems.{resolution_items}
 use Rattle.module_meaning.specs.Names.{expression_name, LabelNames, module_names, name_in}
@@ -48,6 +49,13 @@ BodyResolves named m info program number =
     (map (λ f. text_function_targets (text_names text) (function_read f)) (functions_of program))
     number
     ≡ slice_get (map (λ f. map Some (function_targets f)) (functions_named named m info)) number
+
+-- So it is in the initialisers of constants with names by themselves, whatever stands in functions.
+abbrev pub ConstantsResolve : Module → ModuleInfo → Program → Type 0
+ConstantsResolve m info program =
+    let text = program_read program in
+    map (λ c. tree_targets (text_names text) c.initialiser) text.constants
+    ≡ map (map Some) (map constant_targets (module_shape m info).initialisers)
 
 -- The identifiers of a type stand for the structs and overrides that the module's type is over,
 -- wherever a text has a type of this spelling.
@@ -110,11 +118,13 @@ pub record ResolvesUnder (named : LabelNames) (m : Module) (info : ModuleInfo) (
   -- no name that a function gives hides what types name
   pub not_hidden : IsTrue (types_are_not_hidden program)
 
--- Each does that stands in the function with this number or outside of functions. Initialisers are
--- asked for their forms, and no other item is.
+-- Each does that stands in the function with this number or outside of functions. Of items only
+-- initialisers are asked for forms, for what they themselves name: those of constants with names,
+-- and by themselves those of overrides and variables.
 pub record ResolvesAt (named : LabelNames) (m : Module) (info : ModuleInfo) (program : Program)
     (number : ℕ) : Type 0 where
   pub body : BodyResolves named m info program number
+  pub constants : ConstantsHaveForms m → ConstantsResolve m info program
   pub initialisers : OtherInitialisersHaveForms m → InitialisersResolve m info program
   pub items : ItemsResolve m program
   -- no name that it gives hides what types name

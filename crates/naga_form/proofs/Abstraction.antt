@@ -469,10 +469,10 @@ module _ (flags : WriterFlags) (named : ℕ → List ℕ) (m : Module) (info : M
           at (suc k) ∙ ap (slice_get f.local_variables) same
 
 -- the type of each local has a form where what is written has
-pub locals_have_forms : (flags : WriterFlags) (m : Module) (info : ModuleInfo)
-    (f : ir_function.Function) (es : List ExpressionInfo) → WrittenHaveForms (annotates_types flags) m info f es →
+pub locals_have_forms : (told : Bool) (m : Module) (info : ModuleInfo)
+    (f : ir_function.Function) (es : List ExpressionInfo) → WrittenHaveForms told m info f es →
     LocalsHaveForms (type_names m) f.local_variables
-locals_have_forms flags m info f es have l v at = tree_there (type_names m) (Handle v.ty) (spelled_of_spellable m (Handle v.ty) (have.types (Handle v.ty) (OfLocal l v at)))
+locals_have_forms told m info f es have l v at = tree_there (type_names m) (Handle v.ty) (spelled_of_spellable m (Handle v.ty) (have.types (Handle v.ty) (OfLocal l v at)))
 
 -- whatever is written of a function is read as its shape is
 pub written_reads : (flags : WriterFlags) (named : ℕ → List ℕ) (m : Module) (info : ModuleInfo) (g : ℕ)
@@ -494,6 +494,21 @@ written_reads flags named m info g f es size formed W closed written constants =
           (at_start (function_shape m info f es)) closed.body i;
     }
 
+-- where this has forms, whether the types that its `let`s may tell are among it or not
+pub reads_where : (told : Bool) (flags : WriterFlags) (named : ℕ → List ℕ) (m : Module) (info : ModuleInfo)
+    (g : ℕ) (f : ir_function.Function) (es : List ExpressionInfo) →
+    length m.global_expressions ≡ length info.const_expression_types.items →
+    WrittenHaveForms told m info f es →
+    length f.expressions ≡ length es →
+    function_read (function_form flags (module_names m) named m info g f es) ≡ form_function
+    (function_naming (module_names m) named m info g f es)
+reads_where told flags named m info g f es own_size have size =
+    written_reads flags named m info g f es size
+    (locals_have_forms told m info f es have)
+    (IsWrittenIn m info f es) (written_are_closed m info f es) have.expressions
+    (constants_read (outer_names (module_names m) m) m info (type_names m)
+    (spelled_as_trees m (λ h. None)) (names_are_read m) own_size)
+
 pub function_reads : (flags : WriterFlags) (named : ℕ → List ℕ) (m : Module) (info : ModuleInfo) (g : ℕ)
     (f : ir_function.Function) (es : List ExpressionInfo) →
     length m.global_expressions ≡ length info.const_expression_types.items →
@@ -501,9 +516,4 @@ pub function_reads : (flags : WriterFlags) (named : ℕ → List ℕ) (m : Modul
     length f.expressions ≡ length es →
     function_read (function_form flags (module_names m) named m info g f es) ≡ form_function
     (function_naming (module_names m) named m info g f es)
-function_reads flags named m info g f es own_size have size =
-    written_reads flags named m info g f es size
-    (locals_have_forms flags m info f es have)
-    (IsWrittenIn m info f es) (written_are_closed m info f es) have.expressions
-    (constants_read (outer_names (module_names m) m) m info (type_names m)
-    (spelled_as_trees m (λ h. None)) (names_are_read m) own_size)
+function_reads flags = reads_where (annotates_types flags) flags

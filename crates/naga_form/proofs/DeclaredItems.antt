@@ -1,29 +1,33 @@
 -- The names of the declarations that are written for a module stand for what they were written for.
-use Rattle.std.proofs.Common.{◌≡◌, ℕ, true, List, [], ◌∷◌, ◌++◌, Option, Some, None, refl}
+use Rattle.std.proofs.Common.{◌≡◌, ℕ, Bool, false, true, List, [], ◌∷◌, ◌++◌, Option, Some, None, refl}
 use Rattle.std.proofs.Common.{sym, ap, ◌∙◌, map, slice_get, suc, ◌+◌, length, not, subst}
-use Rattle.std.specs.List.{enumerate_from}
-use Rattle.std.specs.Option.{option_map, option_or}
-use Rattle.std.specs.Prelude.{IsTrue}
+use Rattle.std.specs.List.{cons_option, enumerate_from, filter, filter_map}
+use Rattle.std.specs.Option.{option_map, option_map_or, option_or}
+use Rattle.std.specs.Prelude.{IsTrue, if◌then◌else◌, unwrap_or}
 use Rattle.std.proofs.lemmas.Bool.{and_from, false_from_ne_true}
 use Rattle.std.proofs.lemmas.List.{map-append}
 use Rattle.std.proofs.lemmas.Option.{same_Some}
 use Rattle.naga_info.specs.declared.info.ModuleInfo.{ModuleInfo}
+use Rattle.naga_ir.specs.declared.module.Constant.{Constant}
 use Rattle.naga_ir.specs.declared.module.Module.{Module}
 use Rattle.naga_names.specs.declared.key.NameKey.TheVariants as key
 use Rattle.naga_words.specs.Spelling.{is_struct}
 use Rattle.module_meaning.specs.Accepted.{is_accepted}
-use Rattle.module_meaning.specs.DeclarationForms.{OtherInitialisersHaveForms}
+use Rattle.module_meaning.specs.DeclarationForms.{ConstantsHaveForms, OtherInitialisersHaveForms}
 use Rattle.module_meaning.specs.DeclaredItems.{initialiser_meant}
 use Rattle.module_meaning.specs.DeclaredItems.{module_stage_targets, resolution_items}
-use Rattle.module_meaning.specs.Names.{LabelNames, module_names}
-use Rattle.module_meaning.specs.Resolution.{InitialisersResolve, ItemsResolve, MembersResolve}
-use Rattle.module_meaning.specs.Resolution.{TypesResolve}
+use Rattle.module_meaning.specs.ExpressionContexts.{zero_of_type}
+use Rattle.module_meaning.specs.ModuleShapes.{initialiser}
+use Rattle.module_meaning.specs.Names.{constant_name, LabelNames, module_names}
+use Rattle.module_meaning.specs.Resolution.{ConstantsResolve, InitialisersResolve, ItemsResolve}
+use Rattle.module_meaning.specs.Resolution.{MembersResolve, TypesResolve}
 use Rattle.module_meaning.specs.Types.{type_names}
 use Rattle.module_meaning.specs.Undeclared.{is_declared, is_undeclared}
 use Rattle.module_meaning.specs.ExpressionForms.{global_is_written}
 use Rattle.module_meaning.proofs.ExpressionForms.{spellable_parts}
-use Rattle.shader_runs.specs.Resolution.{Lookup, text_names}
-use Rattle.text_meaning.specs.Abstraction.{program_read}
+use Rattle.shader_runs.specs.Resolution.{constant_targets, Lookup, text_names, tree_targets}
+use Rattle.shader_runs.specs.Text.{TextConstant}
+use Rattle.text_meaning.specs.Abstraction.{constant_read, program_read}
 use Rattle.text_meaning.specs.Resolution.{initialiser_targets, item_named}
 use Rattle.text_meaning.specs.Resolution.{stage_targets, struct_named}
 use Rattle.text_meaning.specs.Resolution.{StructItem, type_items, ValueItem}
@@ -35,21 +39,26 @@ use Rattle.wgsl_text.specs.Reading.{type_layout}
 use Rattle.wgsl_text.specs.Types.{Named, plain_type_words}
 use Rattle.wgsl_text.specs.Words.{stands_in}
 use Rattle.naga_form.proofs.AcceptedFunctions.{entry_points_counted, stage_variables_within}
-use Rattle.naga_form.proofs.AcceptedGroups.{fit_of, types_are_counted, types_are_fit}
+use Rattle.naga_form.proofs.AcceptedGroups.{declarations_are, fit_of, types_are_counted}
+use Rattle.naga_form.proofs.AcceptedGroups.{types_are_fit}
 use Rattle.naga_form.proofs.DeclaredStructs.{members_found, override_not_found, own_members_found}
 use Rattle.naga_form.proofs.DeclaredStructs.{struct_found}
 use Rattle.naga_form.proofs.DistinguishedItems.{types_are_distinguished}
 use Rattle.naga_form.proofs.ItemKeys.{item_is_no_word, no_word_of_item, type_has}
 use Rattle.naga_form.proofs.ItemTargets.{initialiser_found, override_found}
 use Rattle.naga_form.proofs.ItemTargets.{variable_found}
+use Rattle.naga_form.proofs.NamedConstants.{is_named}
 use Rattle.naga_form.proofs.OperatingWords.{free_parts, names_no_item, operates_freely, plain_types_free}
 use Rattle.naga_form.proofs.PartTypes.{known_within}
+use Rattle.naga_form.proofs.ReadDeclarations.{written_is_read}
 use Rattle.naga_form.proofs.SameValues.{one_layout, or_nothing, spelling_of, tree_is}
 use Rattle.naga_form.proofs.StageTargets.{stages_named}
 use Rattle.naga_form.proofs.TypeItems.{ItemsAreNamed, resolution_named}
 use Rattle.naga_form.proofs.WrittenTypes.{tree_there}
 use Rattle.naga_form.specs.ConstantForms.{global_form}
-use Rattle.naga_form.specs.Declarations.{override_form, program_under, variable_form}
+use Rattle.naga_form.specs.Declarations.{constant_form, override_form, program_under}
+use Rattle.naga_form.specs.Declarations.{variable_form}
+use Rattle.naga_form.specs.Types.{type_form}
 use Rattle.naga_back.specs.declared.flags.WriterFlags.{WriterFlags}
 
 -- a word of the table of types names no item
@@ -75,6 +84,49 @@ module _ (m : Module) (info : ModuleInfo) (flags : WriterFlags) (labels : LabelN
   one_resolves None is = refl
   one_resolves (Some h) is =
       initialiser_found m info flags labels accepted h (is h refl)
+
+  -- those of constants with names, from the number k on
+  constants_resolve_from : (k : ℕ) (cs : List Constant) →
+      ((i : ℕ) (c : Constant) → slice_get cs i ≡ Some c → is_named c ≡ true →
+      global_is_written m c.init ≡ true) →
+      map (λ (c : TextConstant). tree_targets names c.initialiser)
+      (map constant_read
+      (filter_map (constant_form (module_names m) (type_names m) m) (enumerate_from k cs)))
+      ≡ map (map Some) (map constant_targets (map (initialiser m info) (filter is_named cs)))
+  constants_resolve_from k [] is = refl
+  constants_resolve_from k (c ∷ cs) is =
+      by (is_named c) refl
+      (constants_resolve_from (k + 1) cs (λ i d at named. is (suc i) d at named))
+    where
+      by : (b : Bool) → is_named c ≡ b →
+          map (λ (c : TextConstant). tree_targets names c.initialiser)
+          (map constant_read
+          (filter_map (constant_form (module_names m) (type_names m) m) (enumerate_from (k + 1) cs)))
+          ≡ map (map Some) (map constant_targets (map (initialiser m info) (filter is_named cs))) →
+          map (λ (c : TextConstant). tree_targets names c.initialiser)
+          (map constant_read
+          (cons_option
+          (if b then Some (record {
+            name = constant_name (module_names m) k;
+            type = type_form (type_names m) c.ty;
+            value = global_form m (type_names m) c.init;
+          }) else None)
+          (filter_map (constant_form (module_names m) (type_names m) m) (enumerate_from (k + 1) cs))))
+          ≡ map (map Some)
+          (map constant_targets
+          (map (initialiser m info) (if b then c ∷ filter is_named cs else filter is_named cs)))
+      by true named rest =
+          let written = is 0 c refl named in
+          let read = written_is_read m info (declarations_are m info accepted).size c.init written in
+          let here =
+          initialiser_found m info flags labels accepted c.init written
+          ∙ (ap (λ o. map Some (option_map_or constant_targets o [])) read.1
+          ∙ ap (λ o. map Some (constant_targets (unwrap_or o (zero_of_type m c.ty)))) (sym read.1)) in
+          λ i. here i ∷ rest i
+      by false named rest = rest
+
+  pub constants_resolve : ConstantsHaveForms m → ConstantsResolve m info program
+  constants_resolve have = constants_resolve_from 0 m.constants have
 
   -- those of declarations in their order, each made of an item by a form that has its initialiser
   each_resolves : {X Y : Type 0} (form : ℕ × X → Y) (value : Y → Option Expression)

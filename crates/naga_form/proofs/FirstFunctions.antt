@@ -2,7 +2,7 @@
 --
 -- Throughout, count says how many they are, f is a function with the number g, of whose expressions es
 -- is known, and named tells the names of the labels that front ends gave.
-use Rattle.std.proofs.Common.{[], ◌≡◌, ℕ, suc, ◌+◌, ◌<◌, ◌≤◌, ◌∙◌, false, List, ◌∷◌, ◌++◌, zero}
+use Rattle.std.proofs.Common.{[], ◌≡◌, ℕ, suc, ◌+◌, ◌<◌, ◌≤◌, ◌∙◌, Bool, false, List, ◌∷◌, ◌++◌, zero}
 use Rattle.std.proofs.Common.{Some, add-one, ap, arith, drop, length, map, refl, subst, sym, take}
 use Rattle.std.specs.Prelude.{IfSome, IsTrue, reverse, slice_get, zip}
 use mathlib.Core.List.{reverse_aux}
@@ -37,7 +37,7 @@ use Rattle.module_meaning.specs.Premises.{ScopeHoldsIn, ScopesHoldBefore}
 use Rattle.module_meaning.specs.Written.{WrittenHaveForms, WrittenHaveFormsAt, WrittenHaveFormsBefore}
 use Rattle.module_meaning.proofs.SideBySide.{zip_parts}
 use Rattle.naga_form.specs.Functions.{function_form, functions_under}
-use Rattle.naga_form.proofs.Abstraction.{function_reads}
+use Rattle.naga_form.proofs.Abstraction.{function_reads, reads_where}
 use Rattle.naga_form.proofs.AcceptedFunctions.{accepted_at, functions_known, of_number}
 use Rattle.naga_form.proofs.AcceptedGroups.{declarations_are, types_are_fit}
 use Rattle.naga_form.proofs.DistinguishedItems.{types_are_distinguished}
@@ -103,8 +103,8 @@ module _ (m : Module) (info : ModuleInfo) (accepted : IsTrue (is_accepted m info
 
   module _ (flags : WriterFlags) (named : LabelNames) (are : AreLabelNames m named) where
     -- ---- one function, behind those before it
-    left_at : (g : ℕ) (f : ir_function.Function) (es : List ExpressionInfo) →
-        slice_get known g ≡ Some (f, es) → WrittenHaveFormsAt (annotates_types flags) m info g →
+    left_at : {told : Bool} (g : ℕ) (f : ir_function.Function) (es : List ExpressionInfo) →
+        slice_get known g ≡ Some (f, es) → WrittenHaveFormsAt told m info g →
         ScopeHoldsIn m info g → (callees : List shapes.Function) → length callees ≡ g →
         IsLeft p n callees (function_naming (module_names m) (named g) m info g f es)
     left_at g f es at have scope callees number =
@@ -126,8 +126,9 @@ module _ (m : Module) (info : ModuleInfo) (accepted : IsTrue (is_accepted m info
           scope = free.scope;
         }
 
-    pub function_fits_at : (g : ℕ) (f : ir_function.Function) (es : List ExpressionInfo) →
-        slice_get known g ≡ Some (f, es) → WrittenHaveFormsAt (annotates_types flags) m info g →
+    pub function_fits_at : {told : Bool} (g : ℕ) (f : ir_function.Function)
+        (es : List ExpressionInfo) →
+        slice_get known g ≡ Some (f, es) → WrittenHaveFormsAt told m info g →
         ScopeHoldsIn m info g → (callees : List shapes.Function) → length callees ≡ g →
         Tells (shape_numbered m info accepted) callees →
         FunctionFits p n callees (function_naming (module_names m) (named g) m info g f es)
@@ -140,8 +141,8 @@ module _ (m : Module) (info : ModuleInfo) (accepted : IsTrue (is_accepted m info
         (have f es both.0 both.1).statements) n own.names callees number tells
         (left_at g f es at have scope callees number)
 
-    -- ---- the first ones
-    module _ (count : ℕ) (forms_before : WrittenHaveFormsBefore (annotates_types flags) m info count)
+    -- ---- the first ones, whose `let`s may have types without forms
+    module _ (count : ℕ) (forms_before : WrittenHaveFormsBefore false m info count)
         (scopes_before : ScopesHoldBefore m info count) where
       -- those from a number on, behind the others
       fit_behind : (g : ℕ) (ks : List (ir_function.Function × List ExpressionInfo)) →
@@ -204,7 +205,7 @@ module _ (m : Module) (info : ModuleInfo) (accepted : IsTrue (is_accepted m info
       -- what is written of them is read as their shapes are
       first_read : (g c : ℕ) (fs : List ir_function.Function) (ess : List (List ExpressionInfo)) →
           ((i : ℕ) (f : ir_function.Function) (es : List ExpressionInfo) → i < c → slice_get fs i ≡ Some f →
-          slice_get ess i ≡ Some es → WrittenHaveForms (annotates_types flags) m info f es) →
+          slice_get ess i ≡ Some es → WrittenHaveForms false m info f es) →
           ((i : ℕ) (f : ir_function.Function) (es : List ExpressionInfo) → slice_get fs i ≡ Some f →
           slice_get ess i ≡ Some es → length f.expressions ≡ length es) →
           take c (map function_read (functions_under named flags (module_names m) m info g fs ess)) ≡
@@ -213,7 +214,7 @@ module _ (m : Module) (info : ModuleInfo) (accepted : IsTrue (is_accepted m info
       first_read g (suc c) [] ess have sizes = refl
       first_read g (suc c) (f ∷ fs) [] have sizes = refl
       first_read g (suc c) (f ∷ fs) (es ∷ ess) have sizes =
-          λ i. function_reads flags (named g) m info g f es (declarations_are m info accepted).size
+          λ i. reads_where false flags (named g) m info g f es (declarations_are m info accepted).size
           (have 0 f es (omega arith) refl refl) (sizes 0 f es refl refl) i
           ∷ first_read (g + 1) c fs ess
           (λ i f es lt here known. have (suc i) f es (omega (arith, lt)) here known)

@@ -3,8 +3,8 @@
 -- Throughout, m is an accepted module and info what is known of it, e is a tree over constants
 -- alone (es are several), i is the number of a constant or an override, h that of a handle, v a
 -- value, and P tells of the constants that a tree may name.
-use Rattle.std.proofs.Common.{◌≡◌, ℕ, ◌<◌, true, false, List, [], ◌∷◌, length, Option, Some}
-use Rattle.std.proofs.Common.{None, refl, sym, ap, ◌∙◌, slice_get}
+use Rattle.std.proofs.Common.{◌≡◌, ℕ, ◌<◌, Bool, true, false, List, [], ◌∷◌, length, Option, Some}
+use Rattle.std.proofs.Common.{None, refl, sym, ap, ◌∙◌, map, slice_get}
 use Rattle.std.specs.Prelude.{IsTrue}
 use Rattle.std.specs.Option.{option_and_then, option_map_or}
 use Rattle.std.proofs.lemmas.Option.{slice_get_within}
@@ -31,13 +31,12 @@ use Rattle.wgsl_text.specs.Declarations.{Program}
 use Rattle.text_meaning.specs.Abstraction.{expression_read, program_read}
 use Rattle.text_meaning.specs.Vocabulary.{vocabulary_read}
 use Rattle.module_meaning.specs.Accepted.{is_accepted}
-use Rattle.module_meaning.specs.DeclarationForms.{DeclarationsHaveForms, IsInitialiser}
-use Rattle.module_meaning.specs.DeclarationForms.{ItemsHaveForms}
+use Rattle.module_meaning.specs.DeclarationForms.{ConstantsHaveForms, IsInitialiser}
 use Rattle.module_meaning.specs.ExpressionContexts.{global_tree}
 use Rattle.module_meaning.specs.ExpressionForms.{global_is_written, global_is_written_over}
 use Rattle.module_meaning.specs.ExpressionForms.{global_is_written_within}
 use Rattle.module_meaning.specs.Interface.{global_expression_value}
-use Rattle.module_meaning.specs.ModuleShapes.{module_shape}
+use Rattle.module_meaning.specs.ModuleShapes.{module_shape, variable_shape}
 use Rattle.module_meaning.specs.Names.{LabelNames, module_names}
 use Rattle.module_meaning.specs.Namings.{outer_names}
 use Rattle.module_meaning.specs.Types.{type_names}
@@ -49,8 +48,11 @@ use Rattle.naga_form.proofs.BuiltTrees.{AreBuilt, IsBuilt, written_is_built}
 use Rattle.naga_form.proofs.DeclaredNames.{one_vocabulary}
 use Rattle.naga_form.proofs.ModuleFits.{constants as constants_fit, global_in_range}
 use Rattle.naga_form.proofs.ModuleFits.{global_words}
-use Rattle.naga_form.proofs.ReadDeclarations.{written_is_read}
-use Rattle.naga_form.proofs.TextItems.{items_fit, reads_items}
+use Rattle.naga_form.proofs.Fits.{mapped_length}
+use Rattle.naga_form.proofs.OtherVariables.{items_with, read_as_they_are, read_shape, settings_with}
+use Rattle.naga_form.proofs.OtherVariables.{typed_with, value_with, with_variables, words_with}
+use Rattle.naga_form.proofs.ReadDeclarations.{constants_read, overrides_read, written_is_read}
+use Rattle.naga_form.proofs.TextItems.{items_fit}
 use Rattle.naga_back.specs.declared.flags.WriterFlags.{WriterFlags}
 
 -- where each constant that a tree may name has a value, so has the tree
@@ -96,6 +98,31 @@ module _ (m : Module) (info : ModuleInfo) (accepted : IsTrue (is_accepted m info
   abbrev outer : ModuleNames
   outer = outer_names (module_names m) m
 
+  -- the same with variables as they are read, whether their types have forms or not
+  abbrev variables : List shapes.VariableShape
+  variables = map (read_shape m) m.global_variables
+
+  abbrev read : shapes.Module
+  read = with_variables shape variables
+
+  counted : length variables ≡ length shape.globals
+  counted =
+      mapped_length (read_shape m) m.global_variables
+      ∙ sym (mapped_length (variable_shape m) m.global_variables)
+
+  -- a text declares it, where constants with names have forms
+  reads_constants : ConstantsHaveForms m → (flags : WriterFlags) (labels : LabelNames) →
+      let text = program_read (program_under labels m info flags) in
+      text ≡ form_module_with read outer text.functions
+  reads_constants have flags labels =
+      let text = program_read (program_under labels m info flags) in
+      λ i. record {
+        constants = constants_read m info (declarations_are m info accepted).size have i;
+        overrides = overrides_read m info i;
+        globals = read_as_they_are m 0 m.global_variables i;
+        functions = text.functions;
+      }
+
   -- under all settings and typed meanings
   module _ (settings : Settings) (fit : SettingsFit shape settings) (meaning : Meaning)
       (typed : IsTyped shape meaning) (h : ℕ) (is : IsTrue (global_is_written m h)) where
@@ -126,14 +153,15 @@ module _ (m : Module) (info : ModuleInfo) (accepted : IsTrue (is_accepted m info
         )
 
     -- and the text has it in every world
-    pub values_alike : ItemsHaveForms m → (flags : WriterFlags) (labels : LabelNames) (world : World) →
+    pub values_alike : ConstantsHaveForms m → (flags : WriterFlags) (labels : LabelNames)
+        (world : World) →
         let program = program_under labels m info flags in
         text_initialiser_value (program_read program) shape.parts settings world meaning
         (vocabulary_read program) (expression_read (global_form m (type_names m) h)) ≡
         global_expression_value m info settings meaning h
-    values_alike items flags labels world =
+    values_alike have flags labels world =
         let program : Program = program_under labels m info flags in
-        let read = written_is_read m info (declarations_are m info accepted).size h is in
+        let own = written_is_read m info (declarations_are m info accepted).size h is in
         ap
         (λ (vocabulary : Vocabulary).
         text_initialiser_value (program_read program) shape.parts settings world meaning vocabulary
@@ -143,15 +171,20 @@ module _ (m : Module) (info : ModuleInfo) (accepted : IsTrue (is_accepted m info
         (λ (text : TextModule).
         text_initialiser_value text shape.parts settings world meaning outer.vocabulary
         (expression_read (global_form m (type_names m) h)))
-        (reads_items m info flags labels accepted items)
+        (reads_constants have flags labels)
         ∙ (ap
-        (text_initialiser_value (form_module_with shape outer (program_read program).functions)
-        shape.parts settings world meaning outer.vocabulary) read.2
-        ∙ (initialisers_are_alike shape outer (program_read program).functions
-        (items_fit m info flags labels accepted) settings fit meaning typed world tree
-        (global_words m info accepted h tree tree_is)
+        (text_initialiser_value (form_module_with read outer (program_read program).functions)
+        shape.parts settings world meaning outer.vocabulary) own.2
+        ∙ (initialisers_are_alike read outer (program_read program).functions
+        (items_with shape variables outer counted (program_read program).functions
+        (items_fit m info flags labels accepted))
+        settings (settings_with m shape refl settings fit) meaning
+        (typed_with shape variables meaning typed) world tree
+        (words_with shape variables outer counted tree
+        (global_words m info accepted h tree tree_is))
         (global_in_range m info accepted h tree (written_within m h is) tree_is)
-        ∙ sym (ap (option_and_then (module_initialiser_value shape settings meaning)) tree_is))))
+        ∙ (value_with shape variables settings meaning tree
+        ∙ sym (ap (option_and_then (module_initialiser_value shape settings meaning)) tree_is)))))
 
   pub has_value_of : (flags : WriterFlags) (labels : LabelNames) (h : ℕ) →
       IsTrue (global_is_written m h) →
@@ -160,14 +193,15 @@ module _ (m : Module) (info : ModuleInfo) (accepted : IsTrue (is_accepted m info
       let value = global_has_value settings fit meaning typed h is in (
         value.0,
         value.1,
-        λ items world.
-            values_alike settings fit meaning typed h is items flags labels world ∙ value.1,
+        λ have world.
+            values_alike settings fit meaning typed h is have flags labels world ∙ value.1,
       )
 
 -- ---- initialisers
 pub initialisers_have_values : (m : Module) (info : ModuleInfo) → IsTrue (is_accepted m info) →
-    DeclarationsHaveForms m → (settings : Settings) → SettingsFit (module_shape m info) settings →
+    (settings : Settings) → SettingsFit (module_shape m info) settings →
     (meaning : Meaning) → IsTyped (module_shape m info) meaning → (h : ℕ) → IsInitialiser m h →
+    IsTrue (global_is_written m h) →
     (v : Value) × (global_expression_value m info settings meaning h ≡ Some v)
-initialisers_have_values m info accepted declarations settings fit meaning typed h initial =
-    global_has_value m info accepted settings fit meaning typed h (declarations.initialisers h initial)
+initialisers_have_values m info accepted settings fit meaning typed h initial is =
+    global_has_value m info accepted settings fit meaning typed h is

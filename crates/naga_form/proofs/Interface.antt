@@ -453,12 +453,12 @@ module _ (m : Module) (info : ModuleInfo) (flags : WriterFlags) (labels : LabelN
       text_initialiser_value program_told program_of_shapes.parts settings world meaning
       (vocabulary_read (program_under labels m info flags)) (expression_read e) in
       let value = global_expression_value m info settings meaning in
-      let items = items_have_forms m declarations in
+      let constants = (items_have_forms m declarations).constants in
       let same : (h : ℕ) → IsInitialiser m h →
       read (global_form m (type_names m) h) ≡ value h =
       λ h initial.
       values_alike m info accepted settings fit meaning typed h
-      (declarations.initialisers h initial) items flags labels world in
+      (declarations.initialisers h initial) constants flags labels world in
       let first : length m.functions + 0 ≡ length m.functions = omega arith in
       let names = module_names m in
       let entry_points =

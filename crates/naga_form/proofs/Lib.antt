@@ -73,6 +73,7 @@ pub mod OperatingWords
 pub mod Operators
 pub mod Ordered
 pub mod OutsideWords
+pub mod OtherVariables
 pub mod OwnExpressions
 pub mod PartTypes
 pub mod PartsFit

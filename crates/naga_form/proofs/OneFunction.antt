@@ -1,5 +1,5 @@
 -- What is written of one function of a module means what the module means there, whatever stands after
--- it: its runs, its identifiers and words, and its `let`s.
+-- it, and between it and those that it may call: its runs, its identifiers and words, and its `let`s.
 --
 -- Throughout, f is a function with the number g, of whose expressions es is known, fs are functions from
 -- the number g on, ess says what is known of each, i is the place of one among them, and named tells the
@@ -49,7 +49,7 @@ use Rattle.naga_form.proofs.Abstraction.{function_reads}
 use Rattle.naga_form.proofs.AcceptedFunctions.{accepted_at, functions_known, of_number}
 use Rattle.naga_form.proofs.AcceptedGroups.{declarations_are}
 use Rattle.naga_form.proofs.Bindings.{annotations_are}
-use Rattle.naga_form.proofs.DeclaredItems.{initialisers_resolve, items_resolve}
+use Rattle.naga_form.proofs.DeclaredItems.{constants_resolve, initialisers_resolve, items_resolve}
 use Rattle.naga_form.proofs.FirstFunctions.{between, first_namings, first_shapes}
 use Rattle.naga_form.proofs.FirstFunctions.{first_shapes_counted, first_shapes_tell, function_fits_at}
 use Rattle.naga_form.proofs.FirstFunctions.{later, one_fits, texts_around}
@@ -193,6 +193,7 @@ module _ (m : Module) (info : ModuleInfo) (flags : WriterFlags) (named : LabelNa
     resolves_at g have scope =
         record {
           body = body_resolves g have scope;
+          constants = constants_resolve m info flags named accepted;
           initialisers = initialisers_resolve m info flags named accepted;
           items = items_resolve m info flags named accepted;
           not_hidden = hides_none_at g have;
@@ -202,7 +203,7 @@ module _ (m : Module) (info : ModuleInfo) (flags : WriterFlags) (named : LabelNa
     -- where this is asked of those that it calls too
     pub runs_at : ItemsHaveForms m → (g count : ℕ) → ((k : ℕ) → k ≤ g → k ≤ length m.functions → k ≤ count) → count ≤ g →
         WrittenHaveFormsAt (annotates_types flags) m info g → ScopeHoldsIn m info g →
-        WrittenHaveFormsBefore (annotates_types flags) m info count → ScopesHoldBefore m info count →
+        WrittenHaveFormsBefore false m info count → ScopesHoldBefore m info count →
         RunsAt m info (program_under named m info flags) g
     runs_at items g count all few own_forms own_scope have scopes settings fit meaning typed f found arguments
         typed_arguments world turns past keeps =
@@ -238,14 +239,14 @@ module _ (m : Module) (info : ModuleInfo) (flags : WriterFlags) (named : LabelNa
     -- by its number
     pub numbered_runs_at : (g : ℕ) → ItemsHaveForms m → WrittenHaveFormsAt (annotates_types flags) m info g →
         ScopeHoldsIn m info g →
-        WrittenHaveFormsBefore (annotates_types flags) m info (callee_count m (function_type m g)) →
+        WrittenHaveFormsBefore false m info (callee_count m (function_type m g)) →
         ScopesHoldBefore m info (callee_count m (function_type m g)) →
         RunsAt m info (program_under named m info flags) g
     numbered_runs_at g items own_forms own_scope = by (nat_lt g (length m.functions)) refl
       where
         by : (b : Bool) → nat_lt g (length m.functions) ≡ b →
             let count = callee_count m (if b then item.Function g else item.EntryPoint (g - length m.functions)) in
-            WrittenHaveFormsBefore (annotates_types flags) m info count → ScopesHoldBefore m info count →
+            WrittenHaveFormsBefore false m info count → ScopesHoldBefore m info count →
             RunsAt m info (program_under named m info flags) g
         by true is = runs_at items g g (λ k le there. le) (omega arith) own_forms own_scope
         by false is =

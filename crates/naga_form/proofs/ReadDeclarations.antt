@@ -34,7 +34,7 @@ use Rattle.shader_runs.specs.Scope.{ModuleNames}
 use Rattle.shader_runs.specs.Text.{ModuleVariable, TextConstant}
 use Rattle.text_meaning.specs.Abstraction.{constant_read, expression_read, global_pointer_read}
 use Rattle.text_meaning.specs.Abstraction.{module_variable_read}
-use Rattle.module_meaning.specs.DeclarationForms.{ItemsHaveForms}
+use Rattle.module_meaning.specs.DeclarationForms.{ConstantsHaveForms, VariablesHaveForms}
 use Rattle.module_meaning.specs.ExpressionContexts.{global_tree, named_count, override_number}
 use Rattle.module_meaning.specs.ExpressionContexts.{zero_of_type}
 use Rattle.module_meaning.specs.ExpressionTypes.{variable_type}
@@ -159,12 +159,10 @@ module _ (m : Module) where
       (globals_from outer.global 0 (map (variable_shape m) m.global_variables))
   variables_named = variables_named_from 0 m.global_variables
 
-  pub variables_read : ItemsHaveForms m →
+  pub variables_read : VariablesHaveForms m →
       map module_variable_read (map (variable_form names t m) (enumerate_from 0 m.global_variables))
       ≡ globals_from outer.global 0 (map (variable_shape m) m.global_variables)
-  variables_read items =
-      variables_read_from 0 m.global_variables
-      items.variables
+  variables_read have = variables_read_from 0 m.global_variables have
 
   -- ---- overrides
   overrides_read_from : (k : ℕ) (os : List Override) →
@@ -266,7 +264,7 @@ module _ (m : Module) where
         (λ i. let same : i ≡ 0 + i = omega arith in ap (slice_get all) same)
 
     module _ (size : length m.global_expressions ≡ length info.const_expression_types.items)
-        (items : ItemsHaveForms m) where
+        (have : ConstantsHaveForms m) where
       constants_read_from : (k number : ℕ) (cs : List Constant) →
           ((i : ℕ) (c : Constant) → slice_get cs i ≡ Some c → is_named c ≡ true →
           global_is_written m c.init ≡ true) →
@@ -322,6 +320,5 @@ module _ (m : Module) where
           map constant_read (filter_map (constant_form names t m) (enumerate_from 0 m.constants)) ≡
           constants_from outer 0 (map (initialiser m info) (named_constants m))
       constants_read =
-          constants_read_from 0 0 m.constants
-          items.constants
+          constants_read_from 0 0 m.constants have
           (λ i. let same : i ≡ 0 + i = omega arith in ap (slice_get all) same)

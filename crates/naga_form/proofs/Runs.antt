@@ -84,9 +84,9 @@ reads_as_shapes_under m info flags named accepted declarations have =
     ∙ functions_read flags named m info own 0 (all_functions m) (all_infos info) have
     (λ i f es here known. (of_number m info accepted i f es here known).size) in
     λ i. record {
-      constants = constants_read m info own (items_have_forms m declarations) i;
+      constants = constants_read m info own (items_have_forms m declarations).constants i;
       overrides = overrides_read m info i;
-      globals = variables_read m (items_have_forms m declarations) i;
+      globals = variables_read m (items_have_forms m declarations).variables i;
       functions =
           (ap reverse each
           ∙ sym (form_functions-map (reverse listed) ∙ map-reverse form_function listed)) i;

@@ -103,8 +103,8 @@ module _ (m : Module) (info : ModuleInfo) (flags : WriterFlags) (named : LabelNa
     reads_items items =
         let own = (declarations_are m info accepted).size in
         λ i. record {
-          constants = constants_read m info own items i;
+          constants = constants_read m info own items.constants i;
           overrides = overrides_read m info i;
-          globals = variables_read m items i;
+          globals = variables_read m items.variables i;
           functions = (program_read program).functions;
         }

@@ -10,20 +10,20 @@ use Rattle.shader_runs.specs.Value.{Value}
 use Rattle.shader_runs.specs.World.{Meaning, Settings, World}
 use Rattle.text_meaning.specs.Abstraction.{expression_read, program_read}
 use Rattle.text_meaning.specs.Vocabulary.{vocabulary_read}
-use Rattle.module_meaning.specs.DeclarationForms.{ItemsHaveForms}
+use Rattle.module_meaning.specs.DeclarationForms.{ConstantsHaveForms}
 use Rattle.module_meaning.specs.Interface.{global_expression_value}
 use Rattle.module_meaning.specs.ModuleShapes.{module_shape}
 
 -- The expression has the value of the module's own one with this handle, where it stands in the
 -- program as an initialiser. Under all values of overrides of their types and every typed meaning
--- of operators there is such a value. Where the items that an initialiser may name have forms, the
--- expression has it in every world. Each side computes its named constants by itself.
+-- of operators there is such a value. Where the initialisers of constants with names have forms,
+-- the expression has it in every world. Each side computes its named constants by itself.
 abbrev pub HasValueOf : Module → ModuleInfo → (handle : ℕ) → Program → Expression → Type 0
 HasValueOf m info handle program expression =
     let shape = module_shape m info in
     (settings : Settings) → SettingsFit shape settings →
     (meaning : Meaning) → IsTyped shape meaning →
     (value : Value) × (global_expression_value m info settings meaning handle ≡ Some value)
-    × (ItemsHaveForms m → (world : World) →
+    × (ConstantsHaveForms m → (world : World) →
     text_initialiser_value (program_read program) shape.parts settings world meaning
     (vocabulary_read program) (expression_read expression) ≡ Some value)

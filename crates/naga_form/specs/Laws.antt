@@ -2,7 +2,8 @@
 --
 -- Throughout, m is a module, flags say how it is written, t is a type's tree, r a type of an
 -- expression, and n are the names that types are spelled with.
-use Rattle.std.specs.Prelude.{◌≡◌, ◌↔◌, ℕ, ◌++◌, ◌∷◌, List, Some, None, IsTrue, true, Bool, length}
+use Rattle.std.specs.Prelude.{◌≡◌, ◌↔◌, ℕ, ◌++◌, ◌∷◌, List, Some, None, IsTrue, true, false, Bool}
+use Rattle.std.specs.Prelude.{length}
 use Rattle.std.specs.List.{list_all}
 use Rattle.std.specs.Option.{option_map}
 use Rattle.naga_ir.specs.declared.expression.Literal.{Literal}
@@ -131,20 +132,20 @@ KeepsTheLayouts = OfAccepted (λ named m info flags. KeepsLayouts m)
 abbrev pub TellsTheLayouts : Type 0
 TellsTheLayouts = OfAccepted (λ named m info flags. TellsLayouts m)
 
--- Each initialiser of the module has a value, under all values of overrides of their types and
--- every typed meaning of operators, so that the interface tells one.
+-- Each initialiser of the module that has a form has a value, under all values of overrides of
+-- their types and every typed meaning of operators, so that the interface tells one.
 abbrev pub InitialisersHaveValues : Type 0
 InitialisersHaveValues =
-    (m : Module) (info : ModuleInfo) → IsTrue (is_accepted m info) → DeclarationsHaveForms m →
+    (m : Module) (info : ModuleInfo) → IsTrue (is_accepted m info) →
     let shape = module_shape m info in
     (settings : Settings) → SettingsFit shape settings →
     (meaning : Meaning) → IsTyped shape meaning →
-    (handle : ℕ) → IsInitialiser m handle →
+    (handle : ℕ) → IsInitialiser m handle → IsTrue (global_is_written m handle) →
     (v : Value) × (global_expression_value m info settings meaning handle ≡ Some v)
 
 -- There is a value of any of the module's own expressions that has a form. What is written of it
--- has that value, as an initialiser in what is written for the module, where the types of variables
--- and the initialisers of constants with names have forms. Nothing is asked of functions.
+-- has that value, as an initialiser in what is written for the module, where the initialisers of
+-- constants with names have forms. Nothing is asked of variables and functions.
 abbrev pub GlobalsHaveTheirValues : Type 0
 GlobalsHaveTheirValues =
     (m : Module) (info : ModuleInfo) (flags : WriterFlags) (named : LabelNames) →
@@ -188,8 +189,8 @@ abbrev pub RunsAsTheModule : Type 0
 RunsAsTheModule = OfAcceptedInScope (λ named. RunsAs)
 
 -- ---- one function
--- Of one function, with the names of labels such as they may have: in an accepted module it has the
--- module's `let`s where all that is written of it has forms, whatever stands in the others.
+-- Of one function of an accepted module, under any names of labels: it has the module's `let`s
+-- where all that is written of it has forms, whatever stands in the others.
 abbrev pub OneBinds : Type 0
 OneBinds =
     (m : Module) (info : ModuleInfo) (flags : WriterFlags) (named : LabelNames) →
@@ -204,22 +205,23 @@ OfOne Holds =
     IsTrue (is_accepted m info) → AreLabelNames m named →
     (number : ℕ) → Holds named flags m info number
 
--- its identifiers and words, and the module's, stand for what they were written for, where the
--- rules of scope hold in it, whatever the module declares
+-- Its identifiers and words stand for what they were written for, where all that is written of it
+-- has forms and the rules of scope hold in it, whatever the module declares. So do those of the
+-- module's items, but that initialisers are asked for their forms: `ResolvesAt` says which.
 abbrev pub OneResolves : Type 0
 OneResolves = OfOne (λ named flags m info number.
     WrittenHaveFormsAt (annotates_types flags) m info number → ScopeHoldsIn m info number →
     ResolvesAt named m info (program_under named m info flags) number)
 
--- it does what the module does, where this is asked of it and of those that it may call, and the
--- types of variables and the initialisers of constants with names have forms
+-- It does what the module does, where this is asked of it and of those that it may call, and the
+-- types of variables and the initialisers of constants with names have forms. Of those that it may
+-- call the types that `let`s tell may have none.
 abbrev pub OneRuns : Type 0
 OneRuns = OfOne (λ named flags m info number.
     let callees = callee_count m (function_type m number) in
     ItemsHaveForms m →
     WrittenHaveFormsAt (annotates_types flags) m info number → ScopeHoldsIn m info number →
-    WrittenHaveFormsBefore (annotates_types flags) m info callees →
-    ScopesHoldBefore m info callees →
+    WrittenHaveFormsBefore false m info callees → ScopesHoldBefore m info callees →
     RunsAt m info (program_under named m info flags) number)
 
 -- the check of scope decides the rules

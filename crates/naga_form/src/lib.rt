@@ -57,17 +57,17 @@ pub fn tells_the_layouts()
     ensures { TellsTheLayouts }
 {}
 
-/// Each initialiser of an accepted module has a value, where all that the module declares has
-/// forms. So the interface tells a value of each, on both sides.
+/// Each initialiser of an accepted module that has a form has a value. So the interface tells a
+/// value of each, on both sides, where all that the module declares has forms.
 pub fn initialisers_have_values()
     ensures { InitialisersHaveValues }
 {}
 
 /// There is a value of any of an accepted module's own expressions that has a form. What is written
 /// of it has that value, the same in every world, where it stands as an initialiser in what is
-/// written for the module. That it has asks for the forms of the types of all variables and of the
-/// initialisers of all constants with names, and nothing of the initialisers of overrides and
-/// variables, or of functions. No declaration has to have the expression for its initialiser.
+/// written for the module. That it has asks for the forms of the initialisers of all constants with
+/// names, and nothing of variables, of the initialisers of overrides, or of functions. No
+/// declaration has to have the expression for its initialiser.
 pub fn globals_have_their_values()
     ensures { GlobalsHaveTheirValues }
 {}
@@ -75,8 +75,9 @@ pub fn globals_have_their_values()
 /// Each of its identifiers and words stands for what it was written for, where the rules of scope
 /// hold in the module. Of one function of an accepted module it is so where what is written of it
 /// has forms and the rules of scope hold in it, whatever stands in the other functions and in what
-/// they take and give. Of items only the initialisers of overrides and variables are asked for
-/// forms, for what they themselves name.
+/// they take and give. So it is of the names outside of functions. Of items only initialisers are
+/// asked for forms, for what they themselves name: those of constants with names, and by themselves
+/// those of overrides and variables.
 pub fn resolves_as_meant()
     ensures whole { ResolvesAsMeant }
     ensures one { OneResolves }
@@ -104,10 +105,11 @@ pub fn is_read_as_its_shapes()
 
 /// It does what the module does, where the rules of scope hold in the module. Of one function of an
 /// accepted module it is so on three conditions. What is written of it and of each function before
-/// it that it may call, called or not, has forms. The rules of scope hold in all of these. And the
-/// types of all variables of the module and the initialisers of all its constants with names have
-/// forms, whether or not it names them. Nothing is asked of the functions that it can't call, of
-/// how what functions take and give is bound, or of the initialisers of overrides and variables.
+/// it that it may call, called or not, has forms; but of those before it nothing is asked of the
+/// types that their `let`s tell. The rules of scope hold in all of these. And the types of all
+/// variables of the module and the initialisers of all its constants with names have forms, whether
+/// or not it names them. Nothing is asked of the functions that it can't call, of how what
+/// functions take and give is bound, or of the initialisers of overrides and variables.
 pub fn runs_as_the_module()
     ensures whole { RunsAsTheModule }
     ensures one { OneRuns }
@@ -133,8 +135,7 @@ pub fn scopes_are_checked()
 {}
 
 /// The operators of every accepted module are typed consistently, so that some meaning gives each a
-/// value of its handle's type. Its structs, overrides and members are told
-/// apart by their names.
+/// value of its handle's type. Its structs, overrides and members are told apart by their names.
 pub fn has_a_typed_meaning()
     ensures consistent { IsConsistent }
     ensures meaning { HasAMeaning }

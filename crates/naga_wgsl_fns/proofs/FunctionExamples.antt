@@ -25,9 +25,18 @@ use Rattle.module_meaning.specs.Faithful.{RunsAt}
 use Rattle.module_meaning.specs.Names.{LabelNames, item_labels}
 use Rattle.module_meaning.specs.Resolution.{BodyResolves}
 use Rattle.module_meaning.specs.Written.{AllWrittenHaveForms}
+use Rattle.naga_form.proofs.ExpressionNames.{names_of_each_are}
 use Rattle.naga_form.specs.Declarations.{program_under}
 use Rattle.naga_back.specs.Flags.{annotates_types}
 use Rattle.naga_wgsl_fns.specs.Items.{AreNamesOfText, FunctionWriting, IsMeantUnder, IsWritableFunction}
+use Rattle.naga_wgsl_fns.specs.Items.{named_behind}
+
+-- One program has the texts of all functions, each of which was written by itself behind labels of its
+-- own: there are names of which each text's are a part.
+names_of_all : (m : Module) (later : (number : ℕ) → List (List ℕ)) (number : ℕ) →
+    AreNamesOfText m (item_labels m ++ later number) number
+    (λ k. named_behind m (item_labels m ++ later k) k)
+names_of_all m later number = record { are = names_of_each_are m later; own = refl }
 
 module _ (other : Module) (more : ModuleInfo) (o : Override) (first : Function)
     (known : List ExpressionInfo) where

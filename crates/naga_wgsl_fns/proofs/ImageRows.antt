@@ -2,7 +2,7 @@
 use Rattle.std.proofs.Common.{◌≡◌, ℕ, zero, suc, ◌<◌, Bool, true, false, List, [], ◌∷◌, ◌++◌, codes}
 use Rattle.std.proofs.Common.{Option, Some, None, refl, sym, ap, ap₂, ◌∙◌, arith, length, map}
 use Rattle.std.proofs.Common.{append_assoc, decimal}
-use Rattle.std.specs.Prelude.{slice_get, ◌||◌}
+use Rattle.std.specs.Prelude.{slice_get, ◌||◌, if◌then◌else◌}
 use Rattle.std.specs.List.{list_all}
 use Rattle.std.specs.Option.{is_none, is_some, option_map_or, option_to_list}
 use Rattle.std.proofs.lemmas.Bool.{and_parts}
@@ -173,15 +173,15 @@ zero_row true false args = refl
 zero_row true true args = ap (λ v. codes ", " ++ v) (plain_text 0 (more_arguments_pieces args))
 zero_row false whole args = refl
 
-level_then : (f : FunctionText) (image : ℕ) (l : SampleLevel) (is_in_word : Bool)
+level_then : (f : FunctionText) (image : ℕ) (l : SampleLevel) (by_name : Bool)
     (args : Arguments) →
     text
     (more_arguments_pieces
-    (zero_then (zero_is_written (level_of l) is_in_word) (zero_is_whole (source f) image) args)) ≡
-    joined_texts (level_text f image l is_in_word) (text (more_arguments_pieces args))
+    (zero_then (zero_is_written (level_of l) by_name) (zero_is_whole (source f) image) args)) ≡
+    joined_texts (level_text f image l by_name) (text (more_arguments_pieces args))
 unfolding joined_texts
-level_then f image l is_in_word args =
-    zero_row (zero_is_written (level_of l) is_in_word) (zero_is_whole (source f) image) args
+level_then f image l by_name args =
+    zero_row (zero_is_written (level_of l) by_name) (zero_is_whole (source f) image) args
 
 offset_then : (f : FunctionText) (offset : Option ℕ) →
     text

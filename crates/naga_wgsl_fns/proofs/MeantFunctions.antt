@@ -2,18 +2,29 @@
 --
 -- Throughout, ps are entry points from the number g on, ess says what is known of each, i is the place
 -- of one among them, and named tells the names of the labels that front ends gave.
-use Rattle.std.proofs.Common.{◌≡◌, ℕ, zero, suc, ◌+◌, ◌∙◌, List, [], ◌∷◌, ◌++◌, Some, ap, arith}
-use Rattle.std.proofs.Common.{◌<◌, ◌≤◌, length, slice_get, subst, sym, unwrap_or}
-use Rattle.std.specs.Prelude.{IsTrue}
+use Rattle.std.proofs.Common.{◌≡◌, ℕ, zero, suc, ◌+◌, ◌∙◌, Bool, List, [], ◌∷◌, ◌++◌, Some, ap, arith}
+use Rattle.std.proofs.Common.{◌<◌, ◌≤◌, ◌||◌, None, Option, false, length, nat_eq, refl, slice_get}
+use Rattle.std.proofs.Common.{subst, sym, true, unwrap_or}
+use Rattle.std.specs.List.{list_any}
+use Rattle.std.specs.Option.{option_map_or}
+use Rattle.std.specs.Prelude.{IsTrue, if◌then◌else◌}
 use Rattle.std.proofs.lemmas.Option.{same_Some, slice_get_within}
 use Rattle.naga_info.specs.declared.info.ExpressionInfo.{ExpressionInfo}
 use Rattle.naga_info.specs.declared.info.ModuleInfo.{ModuleInfo}
+use Rattle.naga_info.specs.declared.info.TypeResolution.{TypeResolution}
 use Rattle.naga_ir.specs.declared.module.EntryPoint as ir_entry_point
 use Rattle.naga_ir.specs.declared.module.Function as ir_function
 use Rattle.naga_ir.specs.declared.module.Module.{Module}
+use Rattle.naga_ir.specs.declared.types.Type_.{Type_}
 use Rattle.naga_names.specs.Keys.{NameMap}
+use Rattle.naga_words.specs.Spelling.{is_struct}
 use Rattle.module_meaning.specs.Accepted.{is_accepted}
+use Rattle.module_meaning.specs.LackingScalars.{over}
 use Rattle.module_meaning.specs.Names.{AreLabelNames, LabelNames, item_labels, module_names}
+use Rattle.module_meaning.specs.Undeclared.{is_undeclared, names_undeclared_by}
+use Rattle.module_meaning.specs.Undeclared.{names_undeclared_within}
+use Rattle.module_meaning.specs.Written.{IsSpelledIn, OfArgument, OfLet, OfLocal, OfResult}
+use Rattle.module_meaning.specs.Written.{WrittenHaveForms}
 use Rattle.naga_form.specs.Declarations.{entry_point_under, entry_points_under, program_under}
 use Rattle.naga_form.specs.Functions.{function_form}
 use Rattle.module_meaning.specs.FunctionNumbers.{all_functions, callee_count, function_number}
@@ -30,8 +41,9 @@ use Rattle.naga_back.specs.declared.context.FunctionType.{FunctionType}
 use Rattle.naga_back.specs.declared.context.FunctionType.TheVariants as item
 use Rattle.naga_back.specs.declared.flags.WriterFlags.{WriterFlags}
 use Rattle.naga_back.specs.Flags.{annotates_types}
-use Rattle.naga_wgsl_fns.specs.Items.{IsMeant, IsMeantUnder, IsToldByAnswers, ItemsAreToldByAnswers}
-use Rattle.naga_wgsl_fns.specs.Items.{StandsIn, named_behind, names_behind}
+use Rattle.naga_wgsl_fns.specs.Items.{AnswersShowAllOfItems, AnswersShowFunctions, AnswersShowItems}
+use Rattle.naga_wgsl_fns.specs.Items.{HasNoSpecialTypes, IsMeant, IsMeantUnder, StandsIn}
+use Rattle.naga_wgsl_fns.specs.Items.{named_behind, names_behind}
 use Rattle.naga_wgsl_fns.specs.Refusals.{IsWritableAt}
 use Rattle.naga_wgsl_fns.proofs.SpelledTypes.{written_is_spellable}
 
@@ -152,16 +164,72 @@ is_meant flags m info accepted ty earlier later is writable content now stands =
       };
     }
 
--- what the answers of calls tell of functions before a number
-pub told_by_answers : IsToldByAnswers
-told_by_answers explicit m info number were =
-    (λ g lt. (were g lt).1.plan.formed, λ g lt. (were g lt).1.plan.in_scope)
+-- what has forms with the types that `let`s tell has them without
+unannotated : (explicit : Bool) (m : Module) (info : ModuleInfo) (f : ir_function.Function)
+    (es : List ExpressionInfo) → WrittenHaveForms explicit m info f es →
+    WrittenHaveForms false m info f es
+unannotated explicit m info f es have = record {
+  expressions = have.expressions;
+  statements = have.statements;
+  types = λ r is. have.types r (spelled r is);
+}
+  where
+    spelled : (r : TypeResolution) → IsSpelledIn false m info f es r →
+        IsSpelledIn explicit m info f es r
+    spelled r (OfArgument n a at) = OfArgument n a at
+    spelled r (OfResult x at) = OfResult x at
+    spelled r (OfLocal l v at) = OfLocal l v at
+    spelled r (OfLet h k told among at none) = absurd cc
+
+-- what the answers of calls show of functions before a number
+pub functions_shown : AnswersShowFunctions
+functions_shown m info number were = (
+  λ g lt f es at known.
+      let one = were g lt in
+      unannotated one.0 m info f es (one.2.plan.formed f es at known),
+  λ g lt. (were g lt).2.plan.in_scope,
+)
 
 -- and of items
-pub items_told_by_answers : ItemsAreToldByAnswers
-items_told_by_answers m constants variables = record {
+pub items_shown : AnswersShowItems
+items_shown m constants variables = record {
   variables = λ i v at.
-      let told = variables i v at in
-      written_is_spellable m told.0 v.ty told.1.0 told.1.1.0 told.1.1.1.0 told.1.1.1.1;
-  constants = λ i c at named. (constants i c at named).1.1.1;
+      let shown = variables i v at in
+      written_is_spellable m shown.0.0 v.ty shown.0.1 shown.0.2 shown.0.3 shown.1;
+  constants = λ i c at named. (constants i c at named).3;
 }
+
+-- in a module without special types no type names a struct that no text declares
+module _ (m : Module) (none : HasNoSpecialTypes m) where
+  declared : (h : ℕ) → is_undeclared m.special_types h ≡ false
+  declared h =
+      λ i. list_any (nat_eq h) (none.predeclared i) ||
+      (option_map_or (nat_eq h) (none.parameters i) false ||
+      option_map_or (nat_eq h) (none.transfer i) false)
+
+  none_over : (own : ℕ → Bool) → ((h : ℕ) → own h ≡ false) → (o : Option ℕ) →
+      option_map_or own o false ≡ false
+  none_over own each None = refl
+  none_over own each (Some h) = each h
+
+  either : (b x y : Bool) → x ≡ false → y ≡ false → (if b then x else y) ≡ false
+  either true x y one other = one
+  either false x y one other = other
+
+  names_none : (levels h : ℕ) → names_undeclared_within levels m h ≡ false
+  names_none zero h = refl
+  names_none (suc levels) h = by (slice_get m.types h)
+    where
+      by : (o : Option Type_) →
+          option_map_or
+          (λ t. names_undeclared_by m.special_types (names_undeclared_within levels m) h t.inner)
+          o false ≡ false
+      by None = refl
+      by (Some t) =
+          either (is_struct t.inner) (is_undeclared m.special_types h)
+          (option_map_or (names_undeclared_within levels m) (over t.inner) false) (declared h)
+          (none_over (names_undeclared_within levels m) (names_none levels) (over t.inner))
+
+pub all_of_items_shown : AnswersShowAllOfItems
+all_of_items_shown m none constants variables =
+    items_shown m constants (λ i v at. (variables i v at, names_none m none (suc v.ty) v.ty))

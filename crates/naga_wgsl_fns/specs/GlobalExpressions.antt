@@ -35,9 +35,9 @@ RefusesGlobalOnlyFor (Err error) m handle before now = IsGlobalRefusal m handle 
 
 -- However what was appended is read, it has the value of the module's own expression, where it
 -- stands as an initialiser in what is written for the module. The module is accepted with what is
--- known of it; there is a value then. That the text has it asks for the forms of the types of all
--- variables and of the initialisers of all constants with names. Nothing is asked of the
--- initialisers of overrides and variables, of functions, or of the names of their labels.
+-- known of it; there is a value then. That the text has it asks for the forms of the initialisers
+-- of all constants with names. Nothing is asked of variables, of the initialisers of overrides, of
+-- functions, or of the names of their labels.
 abbrev pub AppendsTheValue : Module → (handle : ℕ) → (content now : List ℕ) → Type 0
 AppendsTheValue m handle content now =
     (info : ModuleInfo) → IsTrue (is_accepted m info) →

@@ -58,9 +58,9 @@ zero_text true false = codes ", 0.0"
 zero_text true true = codes ", 0"
 zero_text false whole = []
 
-abbrev pub level_text : FunctionText → (image : ℕ) → SampleLevel → (is_in_word : Bool) → List ℕ
-level_text f image level is_in_word =
-    zero_text (zero_is_written (level_of level) is_in_word) (zero_is_whole (source f) image)
+abbrev pub level_text : FunctionText → (image : ℕ) → SampleLevel → (by_name : Bool) → List ℕ
+level_text f image level by_name =
+    zero_text (zero_is_written (level_of level) by_name) (zero_is_whole (source f) image)
 
 -- an offset, as a constant
 unfoldable pub offset_text : FunctionText → (offset : Option ℕ) → List ℕ

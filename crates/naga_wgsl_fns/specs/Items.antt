@@ -3,9 +3,10 @@
 -- Throughout, m is the module, earlier are labels that were named before, ty says which of its
 -- functions is meant and number is that of it, flags say how it is written, and explicit says
 -- whether `let`s tell types.
-use Rattle.std.specs.Prelude.{◌≡◌, ⊤, ℕ, ◌<◌, ◌++◌, Bool, List, ◌⊎◌, Ok, Err, IfErr, OnErr, OnOk}
-use Rattle.std.specs.Prelude.{IsFalse, IsTrue, Result, Some, slice_get}
+use Rattle.std.specs.Prelude.{◌≡◌, ⊤, ℕ, ◌<◌, ◌++◌, Bool, false, List, [], ◌⊎◌, Ok, Err, IfErr}
+use Rattle.std.specs.Prelude.{IsFalse, IsTrue, None, OnErr, OnOk, Result, Some, slice_get}
 use Rattle.std.specs.Option.{is_some}
+use Rattle.indexmap.specs.IndexMap.{values}
 use Rattle.naga_ir.specs.declared.module.Constant.{Constant}
 use Rattle.naga_ir.specs.declared.module.GlobalVariable.{GlobalVariable}
 use Rattle.naga_ir.specs.declared.module.Module.{Module}
@@ -111,7 +112,8 @@ abbrev pub names_behind : Module → (earlier : List (List ℕ)) → (number : �
 names_behind m earlier number = named_apart m number (named_behind m earlier number)
 
 -- Names of all labels that are such as they may have, among them those that this function's text
--- has. So one program has the texts of several functions, each of which was written by itself.
+-- has. So one program has the texts of several functions, each of which was written by itself:
+-- there are names of this kind for all of them at once (`NamesOfEachAreLabelNames`).
 pub record AreNamesOfText (m : Module) (earlier : List (List ℕ)) (number : ℕ) (named : LabelNames) :
     Type 0 where
   pub are : AreLabelNames m named
@@ -136,15 +138,17 @@ pub record IsMeantUnder (named : LabelNames) (flags : WriterFlags) (m : Module) 
   pub bindings : BindsAt named m info (annotates_types flags) (program_under named m info flags)
       (function_number m ty)
   -- Each of its identifiers and words stands for what the module means, and so does each name
-  -- outside of functions. Only the initialisers of overrides and variables are asked for their
-  -- forms, for what they themselves name.
+  -- outside of functions. Of items only initialisers are asked for forms, for what they themselves
+  -- name: those of constants with names, and by themselves those of overrides and variables.
   pub resolution : ResolvesAt named m info (program_under named m info flags)
       (function_number m ty)
   -- It does what the module does, where the types of all variables and the initialisers of all
   -- constants with names have forms, what is written of each function that it may call has forms,
-  -- and the rules of scope hold there. Answers without an error tell all of this.
+  -- but for the types that `let`s tell there, and the rules of scope hold there. Answers without an
+  -- error show all of this where the module has no special types. Of one that has, they don't show
+  -- that the type of no variable names a struct which no text declares; that is asked beside.
   pub runs : ItemsHaveForms m →
-      WrittenHaveFormsBefore (annotates_types flags) m info (callee_count m ty) →
+      WrittenHaveFormsBefore false m info (callee_count m ty) →
       ScopesHoldBefore m info (callee_count m ty) →
       RunsAt m info (program_under named m info flags) (function_number m ty)
   -- The interface of the program is the module's, where all that the module declares and each
@@ -153,7 +157,7 @@ pub record IsMeantUnder (named : LabelNames) (flags : WriterFlags) (m : Module) 
       HasInterfaceOf m info flags (program_under named m info flags)
 
 -- What was appended is meant so under all names of labels among which its own are. There are some:
--- those that front ends gave, but for this function.
+-- the names of a text of the whole module, with this function's own in their place.
 pub record IsMeant (flags : WriterFlags) (m : Module) (info : ModuleInfo) (earlier : List (List ℕ))
     (ty : FunctionType) (content now : List ℕ) : Type 0 where
   pub under : (named : LabelNames) → AreNamesOfText m earlier (function_number m ty) named →
@@ -162,29 +166,52 @@ pub record IsMeant (flags : WriterFlags) (m : Module) (info : ModuleInfo) (earli
       (names_behind m earlier (function_number m ty))
 
 -- What the meaning of a function's runs asks of those that it may call is what an answer without an
--- error tells of each: so it holds where they were written by themselves, under whatever names.
-abbrev pub IsToldByAnswers : Type 0
-IsToldByAnswers =
-    (explicit : Bool) (m : Module) (info : ModuleInfo) (number : ℕ) →
+-- error shows of each: so it holds where they were written by themselves, under whatever names, and
+-- with the types of their `let`s or without them.
+abbrev pub AnswersShowFunctions : Type 0
+AnswersShowFunctions =
+    (m : Module) (info : ModuleInfo) (number : ℕ) →
     ((g : ℕ) → g < number →
-    (earlier : List (List ℕ)) × IsWritableFunction explicit m info earlier g) →
-    WrittenHaveFormsBefore explicit m info number × ScopesHoldBefore m info number
+    (explicit : Bool) × (earlier : List (List ℕ)) × IsWritableFunction explicit m info earlier g) →
+    WrittenHaveFormsBefore false m info number × ScopesHoldBefore m info number
 
--- What they ask of items is told by answers without an error, too. That of
--- `write_global_expression` tells it of the initialiser of a constant with a name. That of
--- `TypeContext::write_type` tells that WGSL spells the type of a variable, in a `WriterTypeContext`
--- of the module with any names. It doesn't tell whether the type names a struct that no text
--- declares, as only a module with special types may have. So this is asked beside.
-abbrev pub ItemsAreToldByAnswers : Type 0
-ItemsAreToldByAnswers =
-    (m : Module) →
-    ((i : ℕ) (c : Constant) → slice_get m.constants i ≡ Some c → IsTrue (is_some c.name) →
+-- the initialiser of each constant with a name got an answer of `write_global_expression` without
+-- an error
+abbrev pub ConstantsWereWritten : Module → Type 0
+ConstantsWereWritten m =
+    (i : ℕ) (c : Constant) → slice_get m.constants i ≡ Some c → IsTrue (is_some c.name) →
     (answer : Unit {0}) × (before : ℕ) × (after : ℕ)
-    × RefusesGlobalOnlyFor (Ok answer) m c.init before after) →
-    ((i : ℕ) (v : GlobalVariable) → slice_get m.global_variables i ≡ Some v →
+    × RefusesGlobalOnlyFor (Ok answer) m c.init before after
+
+-- `TypeContext::write_type` wrote the type in a `WriterTypeContext` of the module with some names
+abbrev pub TypeWasWritten : Module → (ty : ℕ) → Type 0
+TypeWasWritten m ty =
     (names : NameMap) × (content : List ℕ) × (now : List ℕ)
-    × HasWritten (type_segments (names_context m.types names) v.ty) content now
-    × IsFalse (names_undeclared m (Handle v.ty))) →
+    × HasWritten (type_segments (names_context m.types names) ty) content now
+
+-- The module has no special types: neither structs that WGSL's own functions give, nor those of
+-- external textures. So a text declares all its structs.
+pub record HasNoSpecialTypes (m : Module) : Type 0 where
+  pub predeclared : values m.special_types.predeclared_types ≡ []
+  pub parameters : m.special_types.external_texture_params ≡ None
+  pub transfer : m.special_types.external_texture_transfer_function ≡ None
+
+-- What the meaning of a function's runs asks of items is shown by answers without an error, too,
+-- but for one thing: that a type was written tells that WGSL spells it, and not whether it names a
+-- struct that no text declares. So this is asked beside; the call `names_undeclared` tells it.
+abbrev pub AnswersShowItems : Type 0
+AnswersShowItems =
+    (m : Module) → ConstantsWereWritten m →
+    ((i : ℕ) (v : GlobalVariable) → slice_get m.global_variables i ≡ Some v →
+    TypeWasWritten m v.ty × IsFalse (names_undeclared m (Handle v.ty))) →
+    ItemsHaveForms m
+
+-- In a module without special types such answers show all.
+abbrev pub AnswersShowAllOfItems : Type 0
+AnswersShowAllOfItems =
+    (m : Module) → HasNoSpecialTypes m → ConstantsWereWritten m →
+    ((i : ℕ) (v : GlobalVariable) → slice_get m.global_variables i ≡ Some v →
+    TypeWasWritten m v.ty) →
     ItemsHaveForms m
 
 -- A call was asked to write the function behind the text that its sink held; it answered, and the

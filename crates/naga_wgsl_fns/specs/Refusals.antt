@@ -1,9 +1,9 @@
 -- Why a function is refused, each reason with what it says.
 --
 -- Throughout, m is the module, e an error of memory, and explicit says whether `let`s tell types.
-use Rattle.std.specs.Prelude.{◌≡◌, ⊤, ℕ, ◌<◌, List, ◌⊎◌, codes, string_bytes, IsTrue, IsFalse}
+use Rattle.std.specs.Prelude.{◌≡◌, ⊤, ℕ, ◌<◌, List, [], ◌∷◌, ◌⊎◌, codes, string_bytes, IsTrue}
 use Rattle.std.specs.Prelude.{IsSomeAnd, Option, Some, None, length, slice_get, Bool, true, false}
-use Rattle.std.specs.Prelude.{nat_lt, not}
+use Rattle.std.specs.Prelude.{IsFalse, nat_lt, not}
 use Rattle.std.specs.List.{IsAmong, find, list_all}
 use Rattle.std.specs.Option.{is_none, is_some, option_and_then}
 use Rattle.naga_ir.specs.declared.expression.Expression.{Expression}
@@ -321,8 +321,8 @@ unimplemented_texts =
 abbrev pub unsupported_kinds : List (List ℕ)
 unsupported_kinds = codes "math function" ∷ codes "scalar type" ∷ []
 
--- the error tells of such an expression, type or statement: it says one of these, or names a
--- function that tests a number and that WGSL lacks
+-- the error tells of such an expression, type or statement: it says one of these, or names any
+-- function that tests a number or truth values
 abbrev pub TellsOfForm : Error → Type 0
 TellsOfForm (FmtError e) = ⊥
 TellsOfForm (Custom message) = IsAmong custom_texts (string_bytes message)

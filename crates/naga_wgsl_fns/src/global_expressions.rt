@@ -38,9 +38,8 @@ use std::collections::HashMap;
 ///
 /// As an initialiser in what is written for the module the text has the value of the module's own
 /// expression, in every world, under all values of overrides of their types and every typed meaning
-/// of operators. For this the types of all the module's variables and the initialisers of all its
-/// constants with names have forms; nothing is asked of the initialisers of its overrides and
-/// variables, or of its functions.
+/// of operators. For this the initialisers of all the module's constants with names have forms;
+/// nothing is asked of its variables, of the initialisers of its overrides, or of its functions.
 pub fn write_global_expression<W: TextSink>(
     alloc: Global,
     module: &Module,

@@ -54,7 +54,7 @@ impl FunctionText<'_> {
                 clamp_to_edge,
             } => {
                 let compares = depth_ref.is_some();
-                let is_in_word = is_level_in_word(*gather, compares, *clamp_to_edge);
+                let by_name = is_zero_by_name(*gather, compares, *clamp_to_edge);
                 self.write_sampling_head(*image, *gather, *level, compares, *clamp_to_edge, out);
                 self.write_value(alloc, scope, *image, out);
                 self.write_next_operand(alloc, scope, false, *sampler, out);
@@ -62,7 +62,7 @@ impl FunctionText<'_> {
                 self.write_further(alloc, scope, *array_index, out);
                 self.write_further(alloc, scope, *depth_ref, out);
                 self.write_level(alloc, scope, *level, out);
-                out.put(level_str(*level, is_in_word, self.zero_is_whole(*image)));
+                out.put(level_str(*level, by_name, self.zero_is_whole(*image)));
                 self.write_offset(alloc, *offset, out);
                 out.put(")");
             }
@@ -248,18 +248,18 @@ fn component_str(of_depths: bool, gather: Option<SwizzleComponent>) -> &'static 
 }
 
 /// Whether another word tells level zero: that of a gather, of a comparison or of a clamped sampling.
-fn is_level_in_word(gather: Option<SwizzleComponent>, compares: bool, clamped: bool) -> bool
+fn is_zero_by_name(gather: Option<SwizzleComponent>, compares: bool, clamped: bool) -> bool
     ensures { result ≡ (is_some gather || (compares || clamped)) }
 {
     gather.is_some() || compares || clamped
 }
 
 /// Level zero as a number, where no other word tells it.
-fn level_str(level: SampleLevel, is_in_word: bool, is_whole: bool) -> &'static str
-    ensures { result.now ≡ zero_text (zero_is_written (level_of level) is_in_word) is_whole }
+fn level_str(level: SampleLevel, by_name: bool, is_whole: bool) -> &'static str
+    ensures { result.now ≡ zero_text (zero_is_written (level_of level) by_name) is_whole }
 {
     match level {
-        SampleLevel::Zero => { if is_in_word { "" } else { zero_str(is_whole) } }
+        SampleLevel::Zero => { if by_name { "" } else { zero_str(is_whole) } }
         _ => "",
     }
 }

@@ -8,8 +8,8 @@ ghost use Rattle.module_meaning.specs.Names.{HasNamesOf, wgsl_names};
 ghost use Rattle.naga_names.specs.Keys.{names_in};
 ghost use Rattle.naga_names.specs.Naming.{HasNamed};
 ghost use Rattle.naga_scope.specs.ExpressionNames.{HasOtherUses};
-ghost use Rattle.naga_wgsl_fns.specs.Items.{FunctionWriting, HasNamedItemsOf, IsToldByAnswers};
-ghost use Rattle.naga_wgsl_fns.specs.Items.{ItemsAreToldByAnswers};
+ghost use Rattle.naga_wgsl_fns.specs.Items.{AnswersShowAllOfItems, AnswersShowFunctions};
+ghost use Rattle.naga_wgsl_fns.specs.Items.{AnswersShowItems, FunctionWriting, HasNamedItemsOf};
 
 use crate::error::Error;
 use crate::formless_declarations::head_without_form;
@@ -42,14 +42,16 @@ use std::collections::HashMap;
 /// So texts that were written one by one, each behind the others' labels, are parts of one program.
 ///
 /// - Its `let`s are the module's, and its identifiers and words stand for what the module means,
-///   whatever else the module has. That initialisers of overrides and variables name what the
-///   module means asks for the forms of these alone.
+///   whatever else the module has. That initialisers of constants with names do asks for the forms
+///   of these alone, and that those of overrides and variables do for the forms of those.
 /// - It does what the module does, where the types of all variables of the module and the
 ///   initialisers of all its constants with names have forms, what is written of each function
 ///   before it has forms and the rules of scope hold there; of an entry point these are all
-///   functions. An answer without an error tells it of each of these
-///   (`answers_tell_of_those_before`), and such answers of other calls tell it of items
-///   (`answers_tell_of_items`).
+///   functions. Nothing is asked of the types that `let`s tell there. An answer without an error
+///   tells it of each of these, whatever its flags were (`answers_tell_of_those_before`). Such
+///   answers of other calls tell it of items. Of a module with special types they don't tell
+///   whether a variable's type names a struct that no text declares (`answers_tell_of_items`), which
+///   `names_undeclared` tells.
 /// - The program has the module's interface, where all that the module declares and all that is
 ///   written of its functions and entry points has forms.
 pub fn write_function<W: TextSink>(
@@ -82,17 +84,19 @@ pub fn write_function<W: TextSink>(
 
 /// Where the functions before one were written by themselves, what its meaning asks of them holds.
 pub fn answers_tell_of_those_before()
-    ensures { IsToldByAnswers }
+    ensures { AnswersShowFunctions }
 {}
 
 /// Where the types of a module's variables and the initialisers of its constants with names were
 /// written by themselves, what a function's runs and the values of the module's own expressions ask
-/// of them holds.
+/// of them holds, if no variable's type names a struct that no text declares. No type of a module
+/// without special types does.
 pub fn answers_tell_of_items()
-    ensures { ItemsAreToldByAnswers }
+    ensures some { AnswersShowItems }
+    ensures all { AnswersShowAllOfItems }
 {}
 
-/// The same of a function of which what it takes and gives and its stage have forms.
+/// Writes a function of which what it takes and gives and its stage have forms.
 fn write_by_plan<W: TextSink>(
     alloc: Global,
     module: &Module,

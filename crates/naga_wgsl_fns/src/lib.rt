@@ -36,6 +36,7 @@ mod stages;
 mod statements;
 mod switches;
 mod types;
+pub mod undeclared;
 mod variables;
 
 pub use bindings::write_binding;
@@ -48,3 +49,4 @@ pub use items::write_function;
 pub use literal::write_literal;
 pub use plans::plan_of;
 pub use sinks::put;
+pub use undeclared::names_undeclared;

@@ -43,6 +43,7 @@ use Rattle.shader_runs.specs.Resolution.{own_targets, LetNumbers, value_targets,
 use Rattle.shader_runs.specs.Resolution.{lets_after, numbers_after, lets_after_all}
 use Rattle.shader_runs.specs.Resolution.{lets_after_result, lets_by, lets_by_all, numbers_by}
 use Rattle.shader_runs.specs.Resolution.{numbers_left, emit_targets, action_targets}
+use Rattle.shader_runs.specs.Resolution.{OperandsEnd, result_targets, words_targets}
 use Rattle.shader_runs.specs.Resolution.{statement_targets, statements_targets, cases_targets}
 use Rattle.shader_runs.specs.Resolution.{no_numbers, first_values_targets, function_targets}
 use Rattle.shader_runs.specs.Identifiers.{FunctionResolvesAsMeant, LeafStands, LeavesStand}
@@ -118,22 +119,25 @@ module _ (p : Module) (f : Naming) (distinct : AreDistinct p f) where
             (cond b (suc l) l)
             (cond b (bind names (bound_name f k h) (Some (LetTarget l))) names)
             → lines_targets l names (let_if b (bound_name f k h) e rest) ≡ map Some
-            (cond b own [] ++ after_it (cond b (update numbers h l) numbers) (cond b (suc l) l))
+            (cond b (LetTarget l ∷ own) []
+            ++ after_it (cond b (update numbers h l) numbers) (cond b (suc l) l))
             ++ behind (cond b (suc l) l)
             (cond b (bind names (bound_name f k h) (Some (LetTarget l))) names)
         by true one more_of =
-            (λ i. one i ++ more_of i)
+            ap (λ ts. Some (LetTarget l) ∷ ts)
+            ((λ i. one i ++ more_of i)
             ∙ (sym (append_assoc (map Some own) _ _)
-            ∙ ap (λ ts. ts ++ behind (suc l) (bind names (bound_name f k h) (Some (LetTarget l)))) (sym (map-append Some own (after_it (update numbers h l) (suc l)))))
+            ∙ ap (λ ts. ts ++ behind (suc l) (bind names (bound_name f k h) (Some (LetTarget l)))) (sym (map-append Some own (after_it (update numbers h l) (suc l))))))
         by false one more_of = more_of
 
     performs_resolve : (l : ℕ) (names : Lookup) →
         Knows p f distinct (local_count f.function) names → (ws : List Bytes) → EachAsks p f ws →
         (tail : Lines) → lines_targets l names (perform_each ws tail) ≡
-        map Some (map WordTarget ws) ++ lines_targets l names tail
+        map Some (words_targets ws) ++ lines_targets l names tail
     performs_resolve l names knows [] asks tail = refl
     performs_resolve l names knows (w ∷ ws) asks tail =
-        word_resolves names w (knows.free w asks.0.1) (performs_resolve l names knows ws asks.1 tail)
+        word_resolves names w (knows.free w asks.0.1)
+        (ap (λ ts. Some OperandsEnd ∷ ts) (performs_resolve l names knows ws asks.1 tail))
 
     action_resolves : (names : Lookup) → Knows p f distinct (local_count f.function) names →
         (a : Action) (xs : List ℕ) (r : Option ℕ) → length callees ≤ length p.functions →
@@ -221,10 +225,11 @@ module _ (p : Module) (f : Naming) (distinct : AreDistinct p f) where
                 → lines_targets l names
                 (before (act_line f.names r (word_of f.names a)
                 (value_forms (written_form f s) xs)) tail) ≡ map Some
-                (action_targets a ++ operands_targets (value_targets f.function s numbers) xs)
+                (result_targets l r
+                ++ (action_targets a ++ operands_targets (value_targets f.function s numbers) xs))
                 ++ lines_targets (lets_after_result r l) (names_after_result f l r names) tail
             by None one = ap (λ ts. ts ++ lines_targets l names tail) one
-            by (Some h) one = ap (λ ts. ts ++ lines_targets (suc l) (bind names (f.names.numbered h) (Some (LetTarget l))) tail) one
+            by (Some h) one = ap (λ ts. Some (LetTarget l) ∷ (ts ++ lines_targets (suc l) (bind names (f.names.numbered h) (Some (LetTarget l))) tail)) one
 
         lines_resolve : (k l : ℕ) (ss : Statements) (s : Handles) (numbers : LetNumbers)
             (names : Lookup) → named_by_all f.function ss k ≤ total p f distinct →

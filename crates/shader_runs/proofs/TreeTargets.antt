@@ -1,6 +1,6 @@
 -- The identifiers and words of an expression's form stand for what is meant by it.
 use Rattle.std.proofs.Common.{◌≡◌, ℕ, zero, suc, ◌<◌, Bool, true, false, List, [], ◌∷◌, ◌++◌, map, length, Option}
-use Rattle.std.proofs.Common.{Some, None, refl, sym, ap, ◌∙◌, append_assoc}
+use Rattle.std.proofs.Common.{Some, None, refl, sym, ap, ◌∙◌}
 use Rattle.std.proofs.lemmas.List.{map-append}
 use Rattle.shader_runs.specs.Value.{Bytes, MemberNamed, ValueType, PointerType, Selector}
 use Rattle.shader_runs.specs.Program.{ConstantTree, Fixed, NamedConstant, Constructed, Indexing}
@@ -20,7 +20,8 @@ use Rattle.shader_runs.specs.Resolution.{Target, ConstantTarget, GlobalTarget, A
 use Rattle.shader_runs.specs.Resolution.{LocalTarget, LetTarget, LogicTarget, PartTarget, WordTarget}
 use Rattle.shader_runs.specs.Resolution.{Lookup, word_target, tree_targets}
 use Rattle.shader_runs.specs.Resolution.{trees_targets, tree_targets_if, constant_targets}
-use Rattle.shader_runs.specs.Resolution.{constants_targets, operands_targets, own_targets}
+use Rattle.shader_runs.specs.Resolution.{constants_targets, operands_targets, operands_targets_then}
+use Rattle.shader_runs.specs.Resolution.{own_targets}
 use Rattle.shader_runs.specs.Resolution.{LetNumbers, availability_targets, targets_below}
 use Rattle.shader_runs.specs.Resolution.{value_targets}
 use Rattle.shader_runs.specs.Resolution.{value_targets_if}
@@ -121,11 +122,10 @@ module _ (f : Naming) (names : Lookup) where
     operands_then : (xs : List ℕ) (tail : Trees) (more_meant : List Target) → EachOf Same xs →
         trees_targets names tail ≡ map Some more_meant →
         trees_targets names (value_forms_then operand xs tail) ≡ map Some
-        (operands_targets like xs ++ more_meant)
+        (operands_targets_then like xs more_meant)
     operands_then [] tail more_meant same rest = rest
     operands_then (x ∷ xs) tail more_meant same rest =
-        both (like x) (operands_targets like xs ++ more_meant) (value_targets_of names (operand x) ∙ same.0) (operands_then xs tail more_meant same.1 rest)
-        ∙ ap (map Some) (sym (append_assoc (like x) (operands_targets like xs) more_meant))
+        both (like x) (operands_targets_then like xs more_meant) (value_targets_of names (operand x) ∙ same.0) (operands_then xs tail more_meant same.1 rest)
 
     own_resolves : (e : Option Expression) → IsNamed e → EachOf Same (operands_of e) → plain_targets names (own_form f operand e) ≡ map Some (own_targets like e)
     own_resolves (Some (Constant e)) named same = named

@@ -1,7 +1,8 @@
 -- What the identifiers and words of a text stand for, and what a module means by them. A name is
 -- looked up where it stands, and inner names hide outer ones. So is a word before operands, which
 -- stands for itself where no name hides it. A part's word or number, `&&`, `||` and a literal stand
--- for themselves everywhere. On both sides a word comes before what it is over.
+-- for themselves everywhere. On both sides a word comes before what it is over, and the end of its
+-- operands after them, so that they are grouped in one way. A `let` tells where it is declared.
 --
 -- Throughout, of a point of a function: k names were given by front ends before it, l `let`s of the
 -- body stand before it, s are the handles in scope there, and a handle that has a name is bound by
@@ -40,11 +41,13 @@ pub data Target : Type 0 where
   ArgumentTarget : (number : ℕ) → Target
   -- a variable of the function
   LocalTarget : (number : ℕ) → Target
-  -- a `let`, by its number among those of the body
+  -- a `let`, by its number among those of the body: where it is declared, and where it is named
   LetTarget : (number : ℕ) → Target
   -- a word of the language before operands: an operator, a function or a type's constructor, what
   -- asks for an event, or a barrier
   WordTarget : (word : Bytes) → Target
+  -- the end of the operands of a word or a function
+  OperandsEnd : Target
   -- a member, an element or several components, by its word or its number
   PartTarget : Selector → Target
   -- `&&` or `||`
@@ -67,7 +70,8 @@ word_target word None = WordTarget word
 word_target word (Some t) = t
 
 abbrev mutual
-  -- the identifiers and words of an expression, each with what it stands for
+  -- the identifiers and words of an expression, each with what it stands for, and where the operands
+  -- of each word end
   pub tree_targets : Lookup → Tree → List (Option Target)
   tree_targets names (Name x) = names x ∷ []
   tree_targets names (LiteralOf v) = Some (LiteralTarget v) ∷ []
@@ -81,7 +85,7 @@ abbrev mutual
       Some (LogicTarget j) ∷ (tree_targets names a ++ tree_targets names b)
 
   pub trees_targets : Lookup → Trees → List (Option Target)
-  trees_targets names no_more = []
+  trees_targets names no_more = Some OperandsEnd ∷ []
   trees_targets names (more e es) = tree_targets names e ++ trees_targets names es
 
 -- those of an expression, if there is one
@@ -121,7 +125,7 @@ names_left l (before x ls) names =
 abbrev mutual
   -- those of a line
   pub line_targets : ℕ → Lookup → Line → List (Option Target)
-  line_targets l names (Let x e) = tree_targets names e
+  line_targets l names (Let x e) = Some (LetTarget l) ∷ tree_targets names e
   line_targets l names (Assign p e) = tree_targets names p ++ tree_targets names e
   line_targets l names (Braces b) = lines_targets l names b
   line_targets l names (IfElse e a b) =
@@ -196,13 +200,22 @@ abbrev mutual
   constant_targets (Joining j ty l r) = LogicTarget j ∷ (constant_targets l ++ constant_targets r)
 
   pub constants_targets : ConstantTrees → List Target
-  constants_targets no_constant = []
+  constants_targets no_constant = OperandsEnd ∷ []
   constants_targets (constant e es) = constant_targets e ++ constants_targets es
 
--- what operands mean
+-- what operands mean, and what stands after them
+abbrev pub operands_targets_then : (ℕ → List Target) → List ℕ → (tail : List Target) → List Target
+operands_targets_then operand [] tail = tail
+operands_targets_then operand (x ∷ xs) tail = operand x ++ operands_targets_then operand xs tail
+
+-- what the operands of a word mean, up to their end
 abbrev pub operands_targets : (ℕ → List Target) → List ℕ → List Target
-operands_targets operand [] = []
-operands_targets operand (x ∷ xs) = operand x ++ operands_targets operand xs
+operands_targets operand xs = operands_targets_then operand xs (OperandsEnd ∷ [])
+
+-- what words without operands mean
+abbrev pub words_targets : List Bytes → List Target
+words_targets [] = []
+words_targets (w ∷ ws) = WordTarget w ∷ OperandsEnd ∷ words_targets ws
 
 -- stands where a handle is out of scope, which the check of a module refuses
 abbrev pub no_value : List Target
@@ -221,7 +234,7 @@ own_targets operand (Some (AccessIndex x b)) = PartTarget x ∷ operand b
 own_targets operand (Some (Logical j a b)) = LogicTarget j ∷ (operand a ++ operand b)
 own_targets operand (Some (Swizzle letters v)) = PartTarget (MemberNamed letters) ∷ operand v
 own_targets operand (Some (Request a word xs es)) =
-    WordTarget word ∷ (operands_targets operand xs ++ constants_targets es)
+    WordTarget word ∷ operands_targets_then operand xs (constants_targets es)
 own_targets operand _ = no_value
 
 -- the number of the `let` that binds a handle
@@ -316,8 +329,13 @@ emit_targets f k l (h ∷ hs) s numbers =
     let own = own_targets (value_targets f.function s numbers) (expression_of f.function h) in
     let k1 = named_after f.function h k in
     let l1 = lets_after f.function h l in
-    cond (binds f.function h) own []
+    cond (binds f.function h) (LetTarget l ∷ own) []
     ++ emit_targets f k1 l1 hs (after_one f k h s) (numbers_after f.function l h numbers)
+
+-- the `let` that is declared for a result
+abbrev pub result_targets : (l : ℕ) → Option ℕ → List Target
+result_targets l None = []
+result_targets l (Some h) = LetTarget l ∷ []
 
 -- what an action asks for or calls
 abbrev pub action_targets : Action → List Target
@@ -349,9 +367,10 @@ abbrev mutual
       ++ (statements_targets f k1 l1 d s1 numbers1
       ++ value_targets_if f.function (after_all f k1 d s1) numbers2 e)
   statement_targets f k l (Return v) s numbers = value_targets_if f.function s numbers v
-  statement_targets f k l (Barrier bits) s numbers = map WordTarget (barrier_words bits)
+  statement_targets f k l (Barrier bits) s numbers = words_targets (barrier_words bits)
   statement_targets f k l (Act a xs r) s numbers =
-      action_targets a ++ operands_targets (value_targets f.function s numbers) xs
+      result_targets l r
+      ++ (action_targets a ++ operands_targets (value_targets f.function s numbers) xs)
   statement_targets f k l _ s numbers = []
 
   pub statements_targets : Naming → (k l : ℕ) → Statements → Handles → LetNumbers → List Target

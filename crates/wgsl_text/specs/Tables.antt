@@ -164,7 +164,7 @@ abbrev pub type_taking_words : List (List ℕ)
 type_taking_words =
     codes "bitcast" ∷ codes "coopLoad" ∷ codes "coopLoadT" ∷ []
 
--- built-in functions whose first operand may be the number of a component
+-- built-in functions whose first argument may be the number of a component
 abbrev pub gather_words : List (List ℕ)
 gather_words =
     codes "textureGather" ∷ codes "textureGatherCompare" ∷ []

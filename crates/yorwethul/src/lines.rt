@@ -107,7 +107,13 @@ fn tell_known(
     flags: WriterFlags,
     members: &mut Members,
 ) -> Result<(), AllocError> {
-    match write(alloc, &known.module, &mut known.info, flags, String::new(alloc)) {
+    match write(
+        alloc,
+        &known.module,
+        &mut known.info,
+        flags,
+        String::new(alloc),
+    ) {
         Ok(written) => tell_written(alloc, written, members),
         Err(unaccepted) => tell_unaccepted(alloc, unaccepted, members),
     }

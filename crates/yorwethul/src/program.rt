@@ -131,7 +131,13 @@ fn print_text<O: Write, E: Write>(
     err: &mut E,
 ) -> u8 {
     let flags = flags_for(request.explicit_types);
-    match write(alloc, &known.module, &mut known.info, flags, String::new(alloc)) {
+    match write(
+        alloc,
+        &known.module,
+        &mut known.info,
+        flags,
+        String::new(alloc),
+    ) {
         Ok(written) => print_written(written, out, err),
         Err(unaccepted) => refuse_unaccepted(unaccepted, err),
     }
@@ -155,11 +161,7 @@ fn tell_layouts<O: Write, E: Write>(alloc: Global, known: &Known, out: &mut O, e
     }
 }
 
-fn print_written<O: Write, E: Write>(
-    written: Written<String>,
-    out: &mut O,
-    err: &mut E,
-) -> u8 {
+fn print_written<O: Write, E: Write>(written: Written<String>, out: &mut O, err: &mut E) -> u8 {
     let Written { answer, sink } = written;
     match answer {
         Ok(()) => print(sink, out, err),

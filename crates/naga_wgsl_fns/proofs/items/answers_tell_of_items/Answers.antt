@@ -1,5 +1,8 @@
-use Rattle.naga_wgsl_fns.proofs.MeantFunctions.{items_told_by_answers}
+use Rattle.naga_wgsl_fns.proofs.MeantFunctions.{all_of_items_shown, items_shown}
 use Rattle.naga_wgsl_fns.proofs.items.answers_tell_of_items.Goals as goal
 
-pub returns : goal.returns
-returns c = items_told_by_answers
+pub returns-clause-some : goal.returns-clause-some
+returns-clause-some c = items_shown
+
+pub returns-clause-all : goal.returns-clause-all
+returns-clause-all c = all_of_items_shown

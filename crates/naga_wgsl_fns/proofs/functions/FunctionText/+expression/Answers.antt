@@ -701,7 +701,7 @@ write_sampling-returns g t c =
     c.level_str.result.now
     (c.level_str.ensures
     ∙ (λ i. zero_text
-    (zero_is_written (level_of s.level) (c.is_level_in_word-is_in_word.ensures i))
+    (zero_is_written (level_of s.level) (c.is_zero_by_name-by_name.ensures i))
     (c.zero_is_whole.ensures i))))
     (writes_then c.write_sampling_head.ensures
     (writes_then c.write_value.ensures
