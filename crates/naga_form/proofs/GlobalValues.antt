@@ -3,7 +3,7 @@
 -- Throughout, m is an accepted module and info what is known of it, e is a tree over constants
 -- alone (es are several), i is the number of a constant or an override, h that of a handle, v a
 -- value, and P tells of the constants that a tree may name.
-use Rattle.std.proofs.Common.{◌≡◌, ℕ, ◌<◌, Bool, true, false, List, [], ◌∷◌, length, Option, Some}
+use Rattle.std.proofs.Common.{◌≡◌, ℕ, ◌<◌, true, false, List, [], ◌∷◌, length, Option, Some}
 use Rattle.std.proofs.Common.{None, refl, sym, ap, ◌∙◌, map, slice_get}
 use Rattle.std.specs.Prelude.{IsTrue}
 use Rattle.std.specs.Option.{option_and_then, option_map_or}
