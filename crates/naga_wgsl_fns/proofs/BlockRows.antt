@@ -1,6 +1,6 @@
 -- The texts of blocks and of choices, from what is written of them in turn.
 use Rattle.std.proofs.Common.{cond}
-use Rattle.std.proofs.Common.{◌≡◌, ℕ, ◌*◌, suc, true, false, List, [], ◌∷◌, ◌++◌, codes, replicate}
+use Rattle.std.proofs.Common.{◌≡◌, ℕ, ◌*◌, suc, Bool, true, false, List, [], ◌∷◌, ◌++◌, codes, replicate}
 use Rattle.std.proofs.Common.{refl, sym, ap, ◌∙◌, append_assoc}
 use Rattle.std.proofs.lemmas.List.{append-nil}
 use Rattle.naga_back.specs.Indentation.{indentation}
