@@ -93,6 +93,7 @@ impl<W: TextSink> Writer<W> {
     /// named, under an identifier made of that label; an operation on an image; a `Load`, a
     /// derivative or the load of a cooperative matrix that is used; any other operator, but no part
     /// at an index, that is used twice or more. `EXPLICIT_TYPES` has each `let` tell its type.
+    /// `PORTABLE` has the text have what standard compilers ask for, as `enable subgroups;`.
     ///
     /// Where a struct's members are to keep their offsets, as `docs/REFUSALS.md` says, a member is
     /// given a size, as `@size(16) `, if by WGSL's rules alone the next one would begin before its
