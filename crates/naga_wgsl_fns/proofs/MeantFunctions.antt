@@ -218,17 +218,17 @@ module _ (m : Module) (none : HasNoSpecialTypes m) where
 
   names_none : (levels h : ℕ) → names_undeclared_within levels m h ≡ false
   names_none zero h = refl
-  names_none (suc levels) h = by (slice_get m.types h)
+  names_none (suc levels) h = by (slice_get m.types h) (names_none levels)
     where
-      by : (o : Option Type_) →
+      by : (o : Option Type_) → ((k : ℕ) → names_undeclared_within levels m k ≡ false) →
           option_map_or
           (λ t. names_undeclared_by m.special_types (names_undeclared_within levels m) h t.inner)
           o false ≡ false
-      by None = refl
-      by (Some t) =
+      by None before = refl
+      by (Some t) before =
           either (is_struct t.inner) (is_undeclared m.special_types h)
           (option_map_or (names_undeclared_within levels m) (over t.inner) false) (declared h)
-          (none_over (names_undeclared_within levels m) (names_none levels) (over t.inner))
+          (none_over (names_undeclared_within levels m) before (over t.inner))
 
 pub all_of_items_shown : AnswersShowAllOfItems
 all_of_items_shown m none constants variables =

@@ -50,8 +50,8 @@ use std::collections::HashMap;
 ///   functions. Nothing is asked of the types that `let`s tell there. An answer without an error
 ///   tells it of each of these, whatever its flags were (`answers_tell_of_those_before`). Such
 ///   answers of other calls tell it of items. Of a module with special types they don't tell
-///   whether a variable's type names a struct that no text declares (`answers_tell_of_items`), which
-///   `names_undeclared` tells.
+///   whether a variable's type names a struct that no text declares (`answers_tell_of_items`);
+///   `names_undeclared` tells that.
 /// - The program has the module's interface, where all that the module declares and all that is
 ///   written of its functions and entry points has forms.
 pub fn write_function<W: TextSink>(

@@ -106,10 +106,10 @@ impl<W: TextSink> Writer<W> {
     /// the sink, whole. Behind want of memory or a failure of the sink a beginning of the text
     /// stands there, and behind any other refusal what stood there before.
     ///
-    /// `docs/DIFFERENCES.md` lists where this departs from naga's writer. Of what naga writes, these
-    /// are operands out of scope: an expression where no `Emit` gave it, a use in `continuing` of
-    /// what a `continue` may skip, and a first value of a local that names the local itself or one
-    /// after it.
+    /// `docs/DIFFERENCES.md` lists where this departs from naga's writer. Of what naga writes,
+    /// these are operands out of scope: an expression where no `Emit` gave it, a use in
+    /// `continuing` of what a `continue` may skip, and a first value of a local that names the
+    /// local itself or one after it.
     ///
     /// ```text
     /// match writer.write(&shader.module, &shader.info) {
