@@ -317,7 +317,12 @@ class Reader:
             return self.lookup(word)
         self.is_outside(word)
         self.take("(")
-        return "call", (word, *generics), *self.listed(")", self.expression)
+        operands = self.listed(")", self.expression)
+        if word == "textureSampleLevel":
+            # level zero of an image of depths is whole in a text for standard compilers
+            operands = [("literal", ("abstract float", "0.0")) if e == ("literal", ("abstract", 0)) else e
+                        for e in operands]
+        return "call", (word, *generics), *operands
 
 
 def number(token):

@@ -342,6 +342,7 @@ access_rows = record {
   sample_of_array = record { form = search rules; text = refl };
   sample_at_level = record { form = search rules; text = refl };
   sample_at_zero = record { form = search rules; text = refl };
+  sample_at_whole_zero = record { form = search rules; text = refl };
   sample_with_bias = record { form = search rules; text = refl };
   sample_with_gradient = record { form = search rules; text = refl };
   sample_clamped = record { form = search rules; text = refl };

@@ -188,8 +188,12 @@ pub record AccessRows : Type 0 where
       "textureSampleLevel(t, s, p, l)"
   pub sample_at_zero : IsExpressionText
       (call "textureSampleLevel" (Argument (name "t") (Argument (name "s") (Argument (name "p")
-      (Argument (name "i") (ZeroArgument (Argument (name "o") NoArguments)))))))
+      (Argument (name "i") (ZeroArgument false (Argument (name "o") NoArguments)))))))
       "textureSampleLevel(t, s, p, i, 0.0, o)"
+  pub sample_at_whole_zero : IsExpressionText
+      (call "textureSampleLevel" (Argument (name "t") (Argument (name "s") (Argument (name "p")
+      (ZeroArgument true (Argument (name "o") NoArguments))))))
+      "textureSampleLevel(t, s, p, 0, o)"
   pub sample_with_bias : IsExpressionText
       (call "textureSampleBias" (names ("t" ∷ "s" ∷ "p" ∷ "b" ∷ [])))
       "textureSampleBias(t, s, p, b)"

@@ -63,7 +63,7 @@ pub record SpelledCalls : Type 0 where
   pub enables : AreWords (
       codes "f16 wgpu_int16 dual_source_blending clip_distances wgpu_mesh_shader " ++ (
       codes "wgpu_binding_array draw_index primitive_index wgpu_cooperative_matrix " ++
-      codes "wgpu_ray_tracing_pipeline wgpu_per_vertex")) enable_words
+      codes "wgpu_ray_tracing_pipeline wgpu_per_vertex subgroups")) enable_words
   pub type_taking : AreWords (codes "bitcast coopLoad coopLoadT") type_taking_words
   pub gathers : AreWords (codes "textureGather textureGatherCompare") gather_words
   pub levels : AreWords (codes "textureSampleLevel") level_words
