@@ -52,8 +52,8 @@ abbrev pub is_signed_within : ℕ → ℤ → Bool
 is_signed_within limit (pos n) = nat_lt n limit
 is_signed_within limit (negsuc n) = nat_lt n limit
 
--- a literal's integer is one of its type, its bits are as many as its type has, and its numeral is in
--- range and denotes no infinity
+-- a literal's integer is one of its type, its bits are as many as its type has, and its numeral is
+-- in range and denotes no infinity
 abbrev pub literal_is_within : ir.Literal → Bool
 literal_is_within (literal.Bool value) = true
 literal_is_within (literal.I16 value) = is_signed_within (2 ^ 15) value

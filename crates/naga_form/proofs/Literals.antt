@@ -22,7 +22,7 @@ use Rattle.naga_ir.specs.declared.expression.Literal.TheVariants as literal
 use Rattle.module_meaning.specs.Literals.{literal_is_within}
 use Rattle.module_meaning.specs.ExpressionForms.{is_written_literal}
 use Rattle.wgsl_text.specs.Literals.{Suffixed, LeastInteger, LeastLong, IsLiteral, IsFloating}
-use Rattle.wgsl_text.specs.Text.{AreDigits, IsPower, IsPrecision}
+use Rattle.wgsl_text.specs.Token.{AreDigits, IsPower, IsPrecision}
 use Rattle.wgsl_text.specs.Token.{SuffixI, SuffixLi, Precision, Half, Single}
 use Rattle.shader_runs.specs.Value.{Whole, Value, Truth, Opaque}
 use Rattle.naga_form.specs.Literals.{literal_form, power_form}

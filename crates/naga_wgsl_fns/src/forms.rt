@@ -251,7 +251,9 @@ pub(crate) fn literal_without_form(alloc: Global, literal: &Literal) -> Error
         | Literal::F16(_)
         | Literal::DecimalF64(_)
         | Literal::DecimalF32(_)
-        | Literal::DecimalF16(_) => unimplemented(alloc, "float literal"),
+        | Literal::DecimalF16(_) => {
+            unimplemented(alloc, "float literal")
+        }
         Literal::AbstractInt(_) | Literal::AbstractFloat(_) => {
             custom(
                 alloc,

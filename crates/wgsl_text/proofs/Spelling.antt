@@ -18,7 +18,8 @@ use Rattle.wgsl_text.specs.Token.{KeywordEnable, KeywordOverride, Suffix, NoSuff
 use Rattle.wgsl_text.specs.Token.{SuffixU, SuffixLi, SuffixLu, Token, Fixed, Word, Number}
 use Rattle.wgsl_text.specs.Token.{ZeroPointZero, Foreign, Decimal, Power, NoPower, PowerOf, Precision, Half, Single, Double}
 use Rattle.wgsl_text.specs.Text.{precision_text, fraction_text, decimal_tail, fraction_at}
-use Rattle.wgsl_text.specs.Text.{AreDigits, IsPower, IsPrecision, power_text, power_at, digits_at}
+use Rattle.wgsl_text.specs.Token.{AreDigits, IsPower, IsPrecision}
+use Rattle.wgsl_text.specs.Text.{power_text, power_at, digits_at}
 use Rattle.wgsl_text.specs.Text.{power_of_digits, power_after_letter, after_power, starts_with_lf}
 use Rattle.wgsl_text.specs.Text.{after_fraction, has_precision, precision_at, decimal_of, whole_of}
 use Rattle.wgsl_text.specs.Spelling.{SpellsDecimal, decimal_text}

@@ -5,7 +5,7 @@ use Rattle.std.specs.Prelude.{ℕ, Bool, List, [], ◌∷◌, true, false, codes
 use Rattle.std.specs.Prelude.{IsTrue}
 use Rattle.std.specs.Str.{all_ascii_digits}
 use Rattle.wgsl_text.specs.Token.{Decimal, Precision}
-use Rattle.wgsl_text.specs.Text.{AreDigits, IsPrecision}
+use Rattle.wgsl_text.specs.Token.{AreDigits, IsPrecision}
 use Rattle.wgsl_text.specs.Token.{OpenParen, CloseParen, Minus, KeywordTrue, KeywordFalse, Suffix}
 use Rattle.wgsl_text.specs.Token.{NoSuffix, SuffixI, SuffixU, SuffixLi, SuffixLu, Number, Piece}
 use Rattle.wgsl_text.specs.Token.{TokenPiece, Blank, mark, word, plain}
@@ -62,7 +62,7 @@ IsSuffixed SuffixLi negative n = n < 2 ^ 63
 IsSuffixed SuffixLu false n = n < 2 ^ 64
 IsSuffixed _ negative n = ⊥
 
--- some digits before the point, digits after it or none, and where there is a power of ten its own
+-- some digits before the point, digits or none after it, and those of a power of ten
 pub record IsFloating (whole fraction : List ℕ) (precision : Precision) : Type 0 where
   pub whole_digits : AreDigits whole
   pub fraction_digits : IsTrue (all_ascii_digits fraction)

@@ -3,7 +3,8 @@
 -- Throughout, t is a type, and e an expression.
 use Prim.Native.String.{String}
 use Rattle.std.specs.Prelude.{◌≡◌, ℕ, true, false, List, [], ◌∷◌, codes, None, Some}
-use Rattle.wgsl_text.specs.Token.{SuffixI, SuffixLi, SuffixLu, NoPower, PowerOf, Half, Single, Double}
+use Rattle.wgsl_text.specs.Token.{SuffixI, SuffixLi, SuffixLu, NoPower, PowerOf, Half, Single}
+use Rattle.wgsl_text.specs.Token.{Double}
 use Rattle.wgsl_text.specs.Literals.{Truth, Suffixed, SignedShort, UnsignedShort, LeastInteger}
 use Rattle.wgsl_text.specs.Literals.{LeastLong, Floating}
 use Rattle.wgsl_text.specs.Types.{TypeSpecifier, IsType}
@@ -116,7 +117,8 @@ pub record OperatorRows : Type 0 where
   pub double :
       IsExpressionText (Constant (Floating false (codes "1") (codes "0") (Double NoPower))) "1.0lf"
   pub great_double :
-      IsExpressionText (Constant (Floating false (codes "1") [] (Double (PowerOf false (codes "16")))))
+      IsExpressionText
+      (Constant (Floating false (codes "1") [] (Double (PowerOf false (codes "16")))))
       "1e16lf"
   pub small_double :
       IsExpressionText

@@ -14,7 +14,7 @@ use Rattle.wgsl_text.specs.Token.{Decimal, Precision}
 use Rattle.wgsl_text.specs.Token.{Foreign}
 use Rattle.wgsl_text.specs.Words.{is_word_text}
 use Rattle.wgsl_text.specs.Text.{mark_text, suffix_text, word_token, tokens, decimal_tail}
-use Rattle.wgsl_text.specs.Text.{AreDigits, IsPrecision}
+use Rattle.wgsl_text.specs.Token.{AreDigits, IsPrecision}
 
 -- a sign, and no keyword
 abbrev pub is_sign : Mark → Bool

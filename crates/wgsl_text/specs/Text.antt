@@ -4,8 +4,7 @@
 -- and t a token.
 use Rattle.std.specs.Prelude.{ℕ, zero, suc, ◌*◌, Bool, true, false, not, ◌&&◌, ◌||◌, if◌then◌else◌}
 use Rattle.std.specs.Prelude.{List, [], ◌∷◌, ◌++◌, codes, ◌==◌, length, take, drop, replicate}
-use Rattle.std.specs.Prelude.{◌<◌, IsTrue, ⊤}
-use Rattle.std.specs.Str.{bytes_eq, all_ascii_digits}
+use Rattle.std.specs.Str.{bytes_eq}
 use Rattle.std.specs.Char.{is_ascii_digit}
 use Rattle.std.specs.Str.Parse.{digits_value}
 use Rattle.std.specs.Fmt.{decimal}
@@ -92,20 +91,6 @@ abbrev pub precision_text : Precision → List ℕ
 precision_text Half = codes "h"
 precision_text Single = codes "f"
 precision_text (Double power) = power_text power ++ codes "lf"
-
--- some digits, and nothing else
-pub record AreDigits (ds : List ℕ) : Type 0 where
-  pub some : 0 < length ds
-  pub digits : IsTrue (all_ascii_digits ds)
-
--- a power of ten has digits
-abbrev pub IsPower : Power → Type 0
-IsPower NoPower = ⊤
-IsPower (PowerOf negative ds) = AreDigits ds
-
-abbrev pub IsPrecision : Precision → Type 0
-IsPrecision (Double power) = IsPower power
-IsPrecision _ = ⊤
 
 -- a point and the digits after it, if there are any
 abbrev pub fraction_text : List ℕ → List ℕ
