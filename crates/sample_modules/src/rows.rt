@@ -6,8 +6,7 @@ use crate::declaration_rows::{
 };
 use crate::expression_rows::{
     build_double, build_float, build_idle, build_modf, build_negate, build_numeral, build_pointer,
-    build_sample,
-    build_select,
+    build_sample, build_select,
 };
 use crate::layout_rows::{
     build_gap, build_misplaced, build_natural, build_stretched, build_stride,
