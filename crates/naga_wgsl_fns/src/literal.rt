@@ -37,6 +37,7 @@ pub fn write_literal<W: TextSink>(alloc: Global, literal: Literal, out: &mut Out
     }
 }
 
+#[tactic(auto, using(crate::proofs::Literals::double_row))]
 fn write_double<W: TextSink>(alloc: Global, numeral: Decimal, out: &mut Output<'_, W>)
     ensures { Writes W.text W.failures out.old out.new (f64_text numeral) }
 {
@@ -47,6 +48,7 @@ fn write_double<W: TextSink>(alloc: Global, numeral: Decimal, out: &mut Output<'
     }
 }
 
+#[tactic(auto, using(crate::proofs::Literals::single_row))]
 fn write_single<W: TextSink>(alloc: Global, numeral: Decimal, out: &mut Output<'_, W>)
     ensures { Writes W.text W.failures out.old out.new (f32_text numeral) }
 {
@@ -57,6 +59,7 @@ fn write_single<W: TextSink>(alloc: Global, numeral: Decimal, out: &mut Output<'
     }
 }
 
+#[tactic(auto, using(crate::proofs::Literals::half_row))]
 fn write_half<W: TextSink>(alloc: Global, numeral: Decimal, out: &mut Output<'_, W>)
     ensures { Writes W.text W.failures out.old out.new (f16_text numeral) }
 {
