@@ -1,7 +1,7 @@
 -- The words and signs of the grammar, spelled out: for each table a text of its words, in order.
 --
 -- Throughout, a is an attribute.
-use Rattle.std.specs.Prelude.{◌≡◌, ℕ, false, List, [], ◌∷◌, ◌++◌, map, codes}
+use Rattle.std.specs.Prelude.{◌≡◌, ℕ, false, true, List, [], ◌∷◌, ◌++◌, map, codes}
 use Rattle.wgsl_text.specs.Token.{OpenParen, CloseParen, OpenBracket, CloseBracket, OpenBrace}
 use Rattle.wgsl_text.specs.Token.{CloseBrace, Comma, Semicolon, Colon, Dot, At, Equals, LessThan}
 use Rattle.wgsl_text.specs.Token.{GreaterThan, Plus, Minus, Star, Slash, Percent, Ampersand, Bar}
