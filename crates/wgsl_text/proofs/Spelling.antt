@@ -16,7 +16,8 @@ use Rattle.wgsl_text.specs.Token.{KeywordSwitch, KeywordCase, KeywordDefault, Ke
 use Rattle.wgsl_text.specs.Token.{KeywordDiscard, KeywordFn, KeywordStruct, KeywordConst}
 use Rattle.wgsl_text.specs.Token.{KeywordEnable, KeywordOverride, Suffix, NoSuffix, SuffixI}
 use Rattle.wgsl_text.specs.Token.{SuffixU, SuffixLi, SuffixLu, Token, Fixed, Word, Number}
-use Rattle.wgsl_text.specs.Token.{ZeroPointZero, Foreign, Decimal, Power, NoPower, PowerOf, Precision, Half, Single, Double}
+use Rattle.wgsl_text.specs.Token.{ZeroPointZero, Foreign, Decimal, Power, NoPower, Precision, Half}
+use Rattle.wgsl_text.specs.Token.{Single, Double}
 use Rattle.wgsl_text.specs.Text.{precision_text, fraction_text, decimal_tail, fraction_at}
 use Rattle.wgsl_text.specs.Token.{AreDigits, IsPower, IsPrecision}
 use Rattle.wgsl_text.specs.Text.{power_text, power_at, digits_at}
