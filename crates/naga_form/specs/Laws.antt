@@ -47,7 +47,7 @@ use Rattle.module_meaning.specs.Written.{WrittenHaveFormsAt, WrittenHaveFormsBef
 use Rattle.module_meaning.specs.InfoSizes.{type_is_fit, resolution_is_fit}
 use Rattle.module_meaning.specs.Interface.{global_expression_value}
 use Rattle.module_meaning.specs.Layouts.{KeepsLayouts, TellsLayouts}
-use Rattle.module_meaning.specs.Literals.{literal_value}
+use Rattle.module_meaning.specs.Literals.{literal_value, with_bits}
 use Rattle.module_meaning.specs.Meanings.{OperatorsAreConsistent, HasTypedMeaning, HasTypedWorld}
 use Rattle.module_meaning.specs.Meanings.{IsNeverStuck, NoRunIsStuck}
 use Rattle.module_meaning.specs.ExpressionLabels.{name_of_label}
@@ -300,8 +300,11 @@ AlikeAreDistinguished =
     IsTrue (resolution_fits (length m.overrides) (length m.types) b) →
     (type_of_values m a ≡ type_of_values m b) ↔ IsTrue (are_alike m.types a b)
 
+-- two literals have one value exactly where they are one, with the bits that a numeral denotes in
+-- its place
 abbrev pub LiteralsAreDistinguished : Type 0
-LiteralsAreDistinguished = (a b : Literal) → literal_value a ≡ literal_value b → a ≡ b
+LiteralsAreDistinguished =
+    (a b : Literal) → (literal_value a ≡ literal_value b) ↔ (with_bits a ≡ with_bits b)
 
 -- what the runs call two operators is one word only where `one_word` sends them to one
 abbrev pub WordsAreDistinguished : Type 0

@@ -12,11 +12,13 @@ A type is a word with what stands in its angle brackets.
 
 import re
 
-from integer_values import wrapped
+from integer_values import exact, wrapped
 
 TOKEN = re.compile(
-    r"[A-Za-z_][A-Za-z0-9_]*|-?[0-9]+(?:\.[0-9]+)?(?:li|lu|i|u)?|&&|\|\||<<|<=|==|!=|[-{}()\[\]<>,;:.=+*/%&|^!~@]")
+    r"[A-Za-z_][A-Za-z0-9_]*|-?[0-9]+(?:\.[0-9]+)?(?:h|f|(?:e-?[0-9]+)?lf|li|lu|i|u)?|&&|\|\||<<|<=|==|!=|[-{}()\[\]<>,;:.=+*/%&|^!~@]")
 SUFFIXES = {"i": "i32", "u": "u32", "li": "i64", "lu": "u64", "": "abstract"}
+FLOAT = re.compile(r"(-?)([0-9]+)(?:\.([0-9]+))?(?:e(-?[0-9]+))?(h|f|lf)")
+FLOATS = {"h": "f16", "f": "f32", "lf": "f64"}
 SIGNS = ("+", "-", "*", "/", "%", "==", "!=", "<", "<=", ">", "&", "^", "|", "&&", "||", "<<")
 # the words behind which `<` begins a list
 GENERATORS = re.compile(
@@ -326,6 +328,11 @@ class Reader:
 
 
 def number(token):
+    told = FLOAT.fullmatch(token)
+    if told:
+        sign, whole, fraction, power, suffix = told.groups()
+        fraction = fraction or ""
+        return FLOATS[suffix], exact(sign == "-", int(whole + fraction), int(power or 0) - len(fraction))
     digits, point, suffix = re.fullmatch(r"(-?[0-9]+)(\.[0-9]+)?(\w*)", token).groups()
     if point:
         return "abstract float", token

@@ -280,6 +280,11 @@ operator_rows = record {
   unsigned_long = record { form = search rules; text = refl };
   signed_short = record { form = search rules; text = refl };
   unsigned_short = record { form = search rules; text = refl };
+  single = record { form = search rules; text = refl };
+  half = record { form = search rules; text = refl };
+  double = record { form = search rules; text = refl };
+  great_double = record { form = search rules; text = refl };
+  small_double = record { form = search rules; text = refl };
   least_integer = record { form = search rules; text = refl };
   least_long = record { form = search rules; text = refl };
   inlined_constant = record { form = search rules; text = refl };

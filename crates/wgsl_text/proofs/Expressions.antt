@@ -277,14 +277,14 @@ mutual
   arguments_spaced NoArguments is = close
   arguments_spaced (Argument e more) is = part (expression_spaced e is.0) (more_arguments_end more) $ more_arguments_spaced more is.1
   arguments_spaced (NumberArgument n more) is = size is.0 (λ ps e. number_argument_end more n ps) $ more_arguments_spaced more is.2
-  arguments_spaced (ZeroArgument false more) is = tok tt (λ ps e. refl) $ more_arguments_spaced more is
+  arguments_spaced (ZeroArgument false more) is = tok tt (λ ps e. more_arguments_end more ps e) $ more_arguments_spaced more is
   arguments_spaced (ZeroArgument true more) is = size plain_zero (λ ps e. number_argument_end more 0 ps) $ more_arguments_spaced more is
 
   pub more_arguments_spaced : (args : Arguments) → IsArguments args → Spaced (more_arguments_pieces args)
   more_arguments_spaced NoArguments is = close
   more_arguments_spaced (Argument e more) is = tok tt (λ ps e. refl) $ gap $ part (expression_spaced e is.0) (more_arguments_end more) $ more_arguments_spaced more is.1
   more_arguments_spaced (NumberArgument n more) is = tok tt (λ ps e. refl) $ gap $ size is.0 (λ ps e. number_argument_end more n ps) $ more_arguments_spaced more is.2
-  more_arguments_spaced (ZeroArgument false more) is = tok tt (λ ps e. refl) $ gap $ tok tt (λ ps e. refl) $ more_arguments_spaced more is
+  more_arguments_spaced (ZeroArgument false more) is = tok tt (λ ps e. refl) $ gap $ tok tt (λ ps e. more_arguments_end more ps e) $ more_arguments_spaced more is
   more_arguments_spaced (ZeroArgument true more) is = tok tt (λ ps e. refl) $ gap $ size plain_zero (λ ps e. number_argument_end more 0 ps) $ more_arguments_spaced more is
 
 -- The text of each row, from the texts of its parts.

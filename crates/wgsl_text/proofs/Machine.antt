@@ -14,6 +14,8 @@ use Rattle.wgsl_text.specs.Token.{KeywordCase, KeywordDefault, KeywordReturn, Ke
 use Rattle.wgsl_text.specs.Token.{KeywordFn, KeywordStruct, KeywordConst, KeywordEnable}
 use Rattle.wgsl_text.specs.Token.{KeywordOverride, Suffix, NoSuffix, SuffixU, Token, Fixed, Word}
 use Rattle.wgsl_text.specs.Token.{Number, ZeroPointZero, Foreign, Piece, TokenPiece, Blank, LineEnd}
+use Rattle.wgsl_text.specs.Token.{Decimal}
+use Rattle.wgsl_text.specs.Literals.{Floating}
 use Rattle.wgsl_text.specs.Token.{Indent}
 use Rattle.wgsl_text.specs.Literals.{Literal, Truth, Suffixed, SignedShort, UnsignedShort}
 use Rattle.wgsl_text.specs.Literals.{LeastInteger, LeastLong}
@@ -367,6 +369,7 @@ abbrev pub want : Token → Stack → State
 want (Fixed m) s = want_mark m s
 want (Word w) s = Got (Name w) s
 want (Number negative n suffix) s = want_number suffix negative n s
+want (Decimal negative whole fraction precision) s = Got (Constant (Floating negative whole fraction precision)) s
 want ZeroPointZero s = want_zero s
 want (Foreign b) s = Failed
 
