@@ -21,6 +21,7 @@ INK, PALE = "#1b1f24", "#57606a"
 
 LAYERS = [
     ("data", CODE, [
+        ("float_numerals", "floats in decimal"),
         ("naga_ir", "modules as data"),
         ("naga_info", "types and counts"),
         ("naga_builder", "builders"),
@@ -36,7 +37,6 @@ LAYERS = [
     ("numbers", CODE, [
         ("wgsl_layout", "WGSL's rules, by numbers"),
         ("naga_layout", "layouts of a module's types"),
-        ("float_numerals", "floats in decimal"),
     ]),
     ("languages", LAWS, [
         ("wgsl_text", "the grammar of texts"),

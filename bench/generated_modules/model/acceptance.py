@@ -1,7 +1,7 @@
 """Which modules are accepted."""
 
 from modules import EVENTS, LEAVES, PARTS, RESULTS, statements_in
-from operators import LITERALS, word_of
+from operators import LITERALS, is_numeral, numeral_fits, word_of
 from spelling import (
     BOOL, FUNCTION, I32, U32, alike, count_of_parts, has_parts, has_pointer_to_handle, held, identity, is_integer,
     is_override, override_of, part_of, pointed_at, pointer_to, points, scalar_of)
@@ -82,6 +82,7 @@ def ranges_fit(f):
     return (
         all(operand < h for h, e in enumerate(f.expressions) for operand in e.operands)
         and all(e.what[0] < len(named[e.kind]) for e in f.expressions if e.kind in named)
+        and all(numeral_fits(*e.what) for e in f.expressions if e.kind == "literal" and is_numeral(e.what[0]))
         and all(h < count for h in f.labels)
         and all(init is None or init < count for _, _, init in f.locals)
         and all(statement_range_fits(f, s, count) for s in statements_in(f.body)))

@@ -1,6 +1,7 @@
 """Types and labels by chance."""
 
 from layouts import Layouts
+from operators import NUMERALS, numeral_fits
 from spelling import (
     ATOMIC, BOOL, F16, F32, F64, FUNCTION, HALVES, HANDLE, I32, I64, LOAD, SPACES, STORE, U32, U64, pointer_to)
 from words import FORMATS
@@ -126,3 +127,14 @@ def some_type(r):
 def some_tile(r):
     """The columns and rows of a cooperative matrix."""
     return r.choice([8, 16]), r.choice([8, 16])
+
+
+def some_numeral(r, scalar):
+    """A sign, digits and a power of ten, most often of a usual number, and almost always of one that the type has."""
+    number = NUMERALS[scalar]
+    while True:
+        digits = r.choice([0, 1, 5, 10, r.randint(1, 999), r.randint(1, 99999999), r.randint(0, 2**64 - 1), 2**64 - 1])
+        least, greatest = r.choice([(-3, 0), (-3, 0), (-9, 9), (-9, 17), (-30, 30), (-400, 400)])
+        value = r.random() < 0.4, digits, r.randint(least, greatest)
+        if numeral_fits(number, value) or r.random() < 0.01:
+            return value

@@ -4,10 +4,10 @@ Most declarations have a form and are accepted; of others, a module has one faul
 """
 
 from bindings import some_binding
-from chance import some_label, some_number
+from chance import some_label, some_number, some_numeral
 from functions import RANGES, FunctionMaker
 from modules import Constant, EntryPoint, Expression, Override, Variable, statements_in
-from operators import LITERALS
+from operators import LITERALS, NUMERALS
 from refusals import formless_own
 from spelling import ATOMIC, BOOL, F32, FUNCTION, HANDLE, I32, LOAD, SPACES, STORE, U32, is_override
 from structs import StructMaker
@@ -42,7 +42,7 @@ class OwnMaker(FunctionMaker):
             return self.r.choice(known)
         if depth > 3 or self.chance(0.2):
             return self.zero(ty)
-        if ty[0] == "scalar" and ty[1] in RANGES or ty == ("scalar", BOOL):
+        if ty[0] == "scalar" and (ty[1] in RANGES or ty[1] in NUMERALS or ty[1] == BOOL):
             return self.number(ty[1])
         parts = self.parts_of(ty)
         if parts is None:
@@ -66,6 +66,8 @@ class OwnMaker(FunctionMaker):
         return self.put_typed("zero", ty)
 
     def number(self, scalar):
+        if scalar in NUMERALS:
+            return self.put("literal", ("scalar", scalar), [NUMERALS[scalar], some_numeral(self.r, scalar)])
         low, high = RANGES.get(scalar, (0, 1))
         value = self.r.choice([low, high, 0, 1, self.r.randint(max(low, -9), min(high, 9))])
         return self.put("literal", ("scalar", scalar), [LITERALS.index(scalar), value])

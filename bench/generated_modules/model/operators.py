@@ -1,5 +1,7 @@
 """The words of operators and of what is asked of the world."""
 
+from fractions import Fraction
+
 from naming import member_names
 from spelling import (
     BOOL, F16, F32, F64, I16, I32, I64, SCALAR_KINDS, SCALARS, U16, U32, U64, pointed_at, points, scalar_of, spelled,
@@ -9,13 +11,51 @@ from words import (
     SCANNED, UNARY)
 
 # the scalars of literals, by their numbers
-LITERALS = [BOOL, I32, U32, I64, U64, F32, F64, I16, U16, F16, ("abstract", 8), ("abstract float", 8)]
-SUFFIX = {I32: "i", U32: "u", I64: "li", U64: "lu"}
+LITERALS = [BOOL, I32, U32, I64, U64, F32, F64, I16, U16, F16, ("abstract", 8), ("abstract float", 8), F32, F64, F16]
+# those from here on are told by a numeral: a sign, digits and a power of ten
+NUMERALS = {F32: 12, F64: 13, F16: 14}
+# where the numbers that are nearest to an infinity begin, halfway from the greatest to what would be the next
+TOO_GREAT = {F16: 65520, F32: (2**25 - 1) * 2**103, F64: (2**54 - 1) * 2**970}
+SUFFIX = {I32: "i", U32: "u", I64: "li", U64: "lu", F32: "f", F64: "lf", F16: "h"}
 LEVEL_ZERO = "0.0"
+
+
+def is_numeral(number):
+    return number in NUMERALS.values()
+
+
+def numeral_fits(number, value):
+    """Whether the power of ten is near, and the number nearest to no infinity: it is below what is as far from the
+    greatest number as the next one would be."""
+    _, digits, exponent = value
+    return -400 <= exponent < 400 and digits * Fraction(10) ** exponent < TOO_GREAT[LITERALS[number]]
+
+
+def digits_text(digits, exponent):
+    """Digits without an exponent."""
+    if exponent >= 0:
+        return digits + "0" * exponent
+    padded = digits.zfill(1 - exponent)
+    return padded[:exponent] + "." + padded[exponent:]
+
+
+def numeral_text(scalar, value):
+    negative, number, exponent = value
+    digits, sign = str(number), "-" if negative else ""
+    power = len(digits) - 1 + exponent
+    if scalar != F64:
+        text = digits_text(digits, exponent)
+    elif -4 <= power < 16:
+        text = digits_text(digits, exponent) + (".0" if exponent >= 0 else "")
+    else:
+        text = digits[0] + ("." if digits[1:] else "") + digits[1:] + f"e{power}"
+    return sign + text + SUFFIX[scalar]
 
 
 def literal_text(number, value):
     scalar = LITERALS[number]
+    if is_numeral(number):
+        return numeral_text(scalar, value)
     if scalar == BOOL:
         return "true" if value else "false"
     if scalar == I32 and value == -2**31:
@@ -25,7 +65,7 @@ def literal_text(number, value):
     if scalar in (I16, U16):
         return f"{SCALARS[scalar]}({value})"
     # floats and abstract numbers have no text
-    return f"{value}{SUFFIX[scalar]}" if scalar in SUFFIX else f" {scalar[0]} {value}"
+    return f"{value}{SUFFIX[scalar]}" if scalar in (I32, U32, I64, U64) else f" {scalar[0]} {value}"
 
 
 # the least integers, which have no literal in the text

@@ -239,8 +239,8 @@ def read_base(s):
         return ({"&": "address", "*": "target"}[s[1]], e), closed(rest)
     if s[0] == "(":
         return read_in_parentheses(s[1:])
-    short = re.match(r"[iu]16\(-?[0-9]+\)", s)
-    for text in [*LEAST, "0.0", *([short[0]] if short else [])]:
+    short = re.match(r"[iu]16\(-?[0-9]+\)|-?[0-9]+(\.[0-9]+)?(h|f|(e-?[0-9]+)?lf)", s)
+    for text in [*([short[0]] if short else []), *LEAST, "0.0"]:
         if s.startswith(text):
             return ("literal", text), s[len(text):]
     word = type_at(s)

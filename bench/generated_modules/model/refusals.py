@@ -4,7 +4,7 @@ from bindings import formless_binding
 from layouts import standing_in_structs
 from modules import QUERIES, statements_in
 from operators import (
-    LITERALS, act_word, conversion_word, loaded_matrix, offset_of, wanted_scalar, word_of)
+    LITERALS, act_word, conversion_word, is_numeral, loaded_matrix, offset_of, wanted_scalar, word_of)
 from spelling import F16, F32, F64, lacking_scalar, scalar_of, spelled, whole_of
 from words import MATH, MEMBERS, RELATIONAL
 from writer import WRITTEN_OUT, Refused, Writer, binds, emitted_by, is_constant_text, is_partless, uses_of, written_of
@@ -120,7 +120,7 @@ def formless_scalar(scalar):
 def formless(f, h):
     e = f.expressions[h]
     if e.kind == "literal":
-        return formless_literal(LITERALS[e.what[0]])
+        return set() if is_numeral(e.what[0]) else formless_literal(LITERALS[e.what[0]])
     if e.kind == "math" and word_of(f, e) is None:
         return {"Unsupported math function: " + MATH[e.what[0]][0]}
     if e.kind == "relational" and word_of(f, e) is None:

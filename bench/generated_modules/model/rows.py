@@ -7,7 +7,7 @@ from naming import Namer, member_names
 from reading_programs import Program
 from refusals import UNDECLARED, refusal
 from runs import module_runs, text_runs
-from spelling import BOOL, F16, F32, FUNCTION, I32, SCALAR_KINDS, U16, pointer_to
+from spelling import BOOL, F16, F32, F64, FUNCTION, I32, SCALAR_KINDS, U16, pointer_to
 from texts import answers_of
 from words import MATH
 from worlds import term
@@ -146,6 +146,12 @@ def idle():
     f = function("u", INT)
     f.add(Expression("literal", FLOAT, [5, 0]))
     f.body = [returns(f.add(literal(1)))]
+    return f
+
+
+def numeral(ty, number, *value):
+    f = function("w", ty)
+    f.body = [returns(f.add(Expression("literal", ty, [number, value])))]
     return f
 
 
@@ -322,6 +328,10 @@ TEXTS = [
     ([named("f", "z", is_emitted=False), named("g", "z", "y")],
      "fn f(x: i32) -> i32 {\n    return x;\n}\n\nfn g(y: i32) -> i32 {\n    let z = (y + y);\n    return z;\n}\n\n"),
     ([idle()], "fn u() -> i32 {\n    return 1i;\n}\n\n"),
+    ([numeral(FLOAT, 12, False, 5, -1)], "fn w() -> f32 {\n    return 0.5f;\n}\n\n"),
+    ([numeral(("scalar", F16), 14, True, 12, 1)], "enable f16;\n\nfn w() -> f16 {\n    return -120h;\n}\n\n"),
+    ([numeral(("scalar", F64), 13, False, 1, 16)], "fn w() -> f64 {\n    return 1e16lf;\n}\n\n"),
+    ([numeral(("scalar", F64), 13, True, 15, -6)], "fn w() -> f64 {\n    return -1.5e-5lf;\n}\n\n"),
     ([sampled()], SAMPLED.format("_e3", "textureSampleLevel(t, s, p, 0.0)")),
     ([sampled(1, "auto")], SAMPLED.format("_e3", "textureGather(1, t, s, p)")),
     ([sampled(None, "auto", True)], SAMPLED.format("_e5", "textureSample(t, s, p, vec2(1i))")),

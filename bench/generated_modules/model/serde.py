@@ -6,7 +6,7 @@ import struct
 
 from bindings import binding_form
 from spelling import ATOMIC, F32, F64, LOAD, SCALAR_KINDS, STORE, is_override
-from operators import LITERALS
+from operators import LITERALS, is_numeral
 from words import COMPARING, MATH, OPERATIONS, words_of
 
 SIZES = {2: "Bi", 3: "Tri", 4: "Quad"}
@@ -255,6 +255,9 @@ def class_form(kind, *rest):
 
 def literal_form(number, value):
     scalar = LITERALS[number]
+    if is_numeral(number):
+        negative, digits, exponent = value
+        return {f"DecimalF{8 * scalar[1]}": {"negative": negative, "digits": digits, "exponent": exponent}}
     kind, width = scalar
     letter = {"sint": "I", "uint": "U", "float": "F"}.get(kind)
     name = kind_form(kind) if letter is None else letter + str(8 * width)

@@ -6,11 +6,12 @@ from enables import enables_text
 from interface import kept_layouts, module_interface, text_interface, text_layouts
 from layouts import Layouts
 from modules import PARTS, statements_in
+from operators import LITERALS, is_numeral
 from reading_programs import Program
 from refusals import declared_items, standing_in_declarations
 from runs import module_runs, text_runs
 from serde import line_of
-from spelling import HANDLE, is_override, points, whole_of
+from spelling import HANDLE, SCALARS, is_override, points, whole_of
 from words import MATH
 from worlds import NoValue, Term
 from writer import emitted_by, written_of
@@ -131,6 +132,9 @@ class Tally:
         written = [(f, f.expressions[h]) for f in module.bodies() for h in written_of(f)]
         for kind in {e.kind for _, e in written}:
             self.add(f"written, with expressions: {kind}")
+        for _, e in written:
+            if e.kind == "literal" and is_numeral(e.what[0]):
+                self.add(f"written, with numerals: {SCALARS[LITERALS[e.what[0]]]}")
         arguments = [ty for f in module.bodies() for _, ty in f.arguments]
         self.add("written, with pointers as arguments", any(map(points, arguments)))
         for kind in {ty[0] for ty in module.types}:

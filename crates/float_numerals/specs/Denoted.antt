@@ -3,9 +3,9 @@
 -- (roundTiesToEven). The standard library's `round` computes it over whole numbers alone.
 --
 -- Throughout, f is a format (binary32 or binary64), d a numeral, and e a power of ten.
-use Rattle.std.specs.Prelude.{ℕ, suc, ◌+◌, ◌*◌, ◌^◌, Bool, ℤ, pos, negsuc}
+use Rattle.std.specs.Prelude.{ℕ, suc, ◌+◌, ◌*◌, ◌%◌, ◌^◌, Bool, ◌&&◌, nat_lt, ℤ, pos, negsuc}
 use Rattle.std.specs.Prelude.{List, ◌++◌, length, to_bits}
-use Rattle.std.specs.Float.{Float, Format}
+use Rattle.std.specs.Float.{Float, Format, binary32, binary64}
 use Rattle.std.specs.Float.Ieee.{round}
 use Rattle.std.specs.Str.Parse.{digits_value}
 use Rattle.fast_float.specs.Rounding.{nearest_to_decimal}
@@ -18,6 +18,28 @@ denoted f d = nearest_to_decimal f d.negative d.digits d.exponent
 -- its bits
 abbrev pub denoted_bits : Format → Decimal → ℕ
 denoted_bits f d = to_bits f (denoted f d)
+
+-- ---- which numerals are in range, and finite
+
+-- The power of ten is near enough to 0 that a text of it isn't long. All floats of eight bytes have
+-- numerals that are, and with 64 bits of digits the numbers beyond are 0 or too great.
+abbrev pub has_near_power : ℤ → Bool
+has_near_power (pos e) = nat_lt e 400
+has_near_power (negsuc e) = nat_lt e 400
+
+-- the digits have 64 bits, and the power of ten is near
+abbrev pub is_in_range : Decimal → Bool
+is_in_range d = nat_lt d.digits (2 ^ 64) && has_near_power d.exponent
+
+-- it is in range, and denotes an `f32` that is no infinity: without its sign, its bits are below
+-- those of an infinity
+abbrev pub is_finite_single : Decimal → Bool
+is_finite_single d = is_in_range d && nat_lt (denoted_bits binary32 d % 2 ^ 31) 0x7f80_0000
+
+-- the same of an `f64`
+abbrev pub is_finite_double : Decimal → Bool
+is_finite_double d =
+    is_in_range d && nat_lt (denoted_bits binary64 d % 2 ^ 63) 0x7ff0_0000_0000_0000
 
 -- ---- as a text tells it: by a sign, digits before a point and after it, and an exponent, which is
 -- 0 where none is written (the WGSL specification, "Numeric Literals")

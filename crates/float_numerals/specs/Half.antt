@@ -6,11 +6,12 @@
 --
 -- Throughout, num / den is a fraction and d a numeral.
 use Rattle.std.specs.Prelude.{ℕ, suc, ◌+◌, ◌-◌, ◌*◌, ◌/◌, ◌^◌, ℤ, pos, negsuc, if◌then◌else◌}
-use Rattle.std.specs.Prelude.{Bool, List, ◌++◌, length, min}
+use Rattle.std.specs.Prelude.{Bool, ◌&&◌, nat_lt, List, ◌++◌, length, min}
 use Rattle.std.specs.Str.Parse.{digits_value}
 use lib.Ieee.{size}
 use lib.Ieee.Nearest.{closest}
 use Rattle.float_numerals.specs.declared.decimal.Decimal.{Decimal}
+use Rattle.float_numerals.specs.Denoted.{is_in_range}
 
 -- how many binary digits of the whole part there are too many
 abbrev pub dropped : (num den : ℕ) → ℕ
@@ -36,7 +37,11 @@ half_of digits (negsuc e) = half_size digits (10 ^ suc e)
 abbrev pub denoted_half : Decimal → ℕ
 denoted_half d = (if d.negative then 32768 else 0) + half_of d.digits d.exponent
 
--- the same as a text tells it: by the digits before a point and after it
+-- it is in range, and denotes an `f16` that is no infinity
+abbrev pub is_finite_half : Decimal → Bool
+is_finite_half d = is_in_range d && nat_lt (half_of d.digits d.exponent) 31744
+
+-- the bits as a text tells them: by the digits before a point and after it
 abbrev pub told_half : Bool → (whole fraction : List ℕ) → ℕ
 told_half negative whole fraction =
     (if negative then 32768 else 0) +

@@ -1,19 +1,15 @@
 //! Which numeral a float is written by.
 
-ghost use Rattle.std.specs.Prelude.{◌≡◌, ◌<◌, ◌%◌, ◌^◌, IfSome, IfOk};
+ghost use Rattle.std.specs.Prelude.{◌≡◌, ◌<◌, ◌%◌, ◌^◌, IfSome, IfOk, IsTrue};
 ghost use Rattle.std.specs.Float.{binary32, binary64};
-ghost use Rattle.float_numerals.specs.Denoted.{denoted_bits};
-ghost use Rattle.float_numerals.specs.Half.{denoted_half};
+ghost use Rattle.float_numerals.specs.Denoted.{denoted_bits, is_finite_double, is_finite_single};
+ghost use Rattle.float_numerals.specs.Half.{denoted_half, is_finite_half};
 
-use crate::decimal::Decimal;
+use crate::decimal::{DOUBLE_INFINITY, Decimal, SINGLE_INFINITY};
 use crate::half::HALF_INFINITY;
 use fast_float::Numeral;
 use std::alloc::{AllocError, Global};
 use std::num::{f32_from_bits_with_nan, f64_from_bits_with_nan};
-
-const SINGLE_INFINITY: u32 = 0x7f80_0000;
-
-const DOUBLE_INFINITY: u64 = 0x7ff0_0000_0000_0000;
 
 /// The numeral by which the `f32` with these bits is written. Its digits are those that Rust's
 /// formatting chooses, the fewest that denote it. There is none for an infinity or a NaN, nor where
@@ -26,13 +22,14 @@ const DOUBLE_INFINITY: u64 = 0x7ff0_0000_0000_0000;
 pub fn single_decimal(alloc: Global, bits: u32) -> Result<Option<Decimal>, AllocError>
     ensures same { IfOk result (λ found. IfSome found (λ d. denoted_bits binary32 d ≡ bits)) }
     ensures finite { IfOk result (λ found. IfSome found (λ _. bits % 2 ^ 31 < 0x7f80_0000)) }
+    ensures within { IfOk result (λ found. IfSome found (λ d. IsTrue (is_finite_single d))) }
 {
     if bits % 0x8000_0000 >= SINGLE_INFINITY {
         return Ok(None);
     }
     let found = single_candidate(alloc, f32_from_bits_with_nan(bits))?;
     Ok(match found {
-        Some(decimal) if decimal.single_bits() == bits => found,
+        Some(decimal) if decimal.is_finite_single() && decimal.single_bits() == bits => found,
         _ => None,
     })
 }
@@ -47,6 +44,7 @@ pub fn double_decimal(alloc: Global, bits: u64) -> Result<Option<Decimal>, Alloc
     ensures same { IfOk result (λ found. IfSome found (λ d. denoted_bits binary64 d ≡ bits)) }
     ensures finite { IfOk result (λ found. IfSome found
         (λ _. bits % 2 ^ 63 < 0x7ff0_0000_0000_0000)) }
+    ensures within { IfOk result (λ found. IfSome found (λ d. IsTrue (is_finite_double d))) }
 {
     if bits % 0x8000_0000_0000_0000 >= DOUBLE_INFINITY {
         return Ok(None);
@@ -59,7 +57,7 @@ pub fn double_decimal(alloc: Global, bits: u64) -> Result<Option<Decimal>, Alloc
     };
     let found = decimal_of(text.as_bytes());
     Ok(match found {
-        Some(decimal) if decimal.double_bits() == bits => found,
+        Some(decimal) if decimal.is_finite_double() && decimal.double_bits() == bits => found,
         _ => None,
     })
 }
@@ -74,13 +72,14 @@ pub fn double_decimal(alloc: Global, bits: u64) -> Result<Option<Decimal>, Alloc
 pub fn half_decimal(alloc: Global, bits: u16) -> Result<Option<Decimal>, AllocError>
     ensures same { IfOk result (λ found. IfSome found (λ d. denoted_half d ≡ bits)) }
     ensures finite { IfOk result (λ found. IfSome found (λ _. bits % 2 ^ 15 < 0x7c00)) }
+    ensures within { IfOk result (λ found. IfSome found (λ d. IsTrue (is_finite_half d))) }
 {
     if bits % 0x8000 >= HALF_INFINITY {
         return Ok(None);
     }
     let found = single_candidate(alloc, single_of(bits))?;
     Ok(match found {
-        Some(decimal) if decimal.half_bits() == bits => found,
+        Some(decimal) if decimal.is_finite_half() && decimal.half_bits() == bits => found,
         _ => None,
     })
 }

@@ -2,11 +2,16 @@
 
 ghost use Rattle.std.specs.Prelude.{◌≡◌};
 ghost use Rattle.std.specs.Float.{binary32, binary64};
-ghost use Rattle.float_numerals.specs.Denoted.{denoted_bits};
-ghost use Rattle.float_numerals.specs.Half.{denoted_half};
+ghost use Rattle.float_numerals.specs.Denoted.{denoted_bits, is_finite_double, is_finite_single};
+ghost use Rattle.float_numerals.specs.Denoted.{is_in_range};
+ghost use Rattle.float_numerals.specs.Half.{denoted_half, is_finite_half};
 
-use crate::half::half_size;
+use crate::half::{HALF_INFINITY, half_size};
 use std::num::{f32_to_bits_with_nan, f64_to_bits_with_nan};
+
+pub(crate) const SINGLE_INFINITY: u32 = 0x7f80_0000;
+
+pub(crate) const DOUBLE_INFINITY: u64 = 0x7ff0_0000_0000_0000;
 
 /// The number `digits * 10 ^ exponent`, or its negative.
 ///
@@ -59,5 +64,52 @@ impl Decimal {
     {
         let size = half_size(self.digits, self.exponent);
         if self.negative { 0x8000 + size } else { size }
+    }
+    /// Whether its power of ten is from -400 on and below 400. All floats have numerals that are;
+    /// the text of one beyond would be long.
+    ///
+    /// ```text
+    /// Decimal { negative: false, digits: 0, exponent: 400 }.is_in_range() // false
+    /// ```
+    pub fn is_in_range(self) -> bool
+        ensures { result ≡ is_in_range self }
+    {
+        self.exponent >= -400 && self.exponent < 400
+    }
+
+    /// Whether it is in range, and the nearest `f32` is no infinity.
+    ///
+    /// ```text
+    /// Decimal { negative: false, digits: 1, exponent: 38 }.is_finite_single() // true
+    /// Decimal { negative: false, digits: 1, exponent: 39 }.is_finite_single() // false
+    /// ```
+    pub fn is_finite_single(self) -> bool
+        ensures { result ≡ is_finite_single self }
+    {
+        self.is_in_range() && self.single_bits() % 0x8000_0000 < SINGLE_INFINITY
+    }
+
+    /// Whether it is in range, and the nearest `f64` is no infinity.
+    ///
+    /// ```text
+    /// Decimal { negative: false, digits: 1, exponent: 308 }.is_finite_double() // true
+    /// Decimal { negative: false, digits: 1, exponent: 309 }.is_finite_double() // false
+    /// ```
+    pub fn is_finite_double(self) -> bool
+        ensures { result ≡ is_finite_double self }
+    {
+        self.is_in_range() && self.double_bits() % 0x8000_0000_0000_0000 < DOUBLE_INFINITY
+    }
+
+    /// Whether it is in range, and the nearest `f16` is no infinity.
+    ///
+    /// ```text
+    /// Decimal { negative: false, digits: 65519, exponent: 0 }.is_finite_half() // true
+    /// Decimal { negative: false, digits: 65520, exponent: 0 }.is_finite_half() // false
+    /// ```
+    pub fn is_finite_half(self) -> bool
+        ensures { result ≡ is_finite_half self }
+    {
+        self.is_in_range() && half_size(self.digits, self.exponent) < HALF_INFINITY
     }
 }

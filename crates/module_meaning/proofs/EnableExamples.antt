@@ -1,12 +1,29 @@
 -- Which extensions a module needs, by examples: for each cause of each of them a module that has this
--- cause alone, beside what comes near to it, and one that needs them all. Functions are any.
-use Rattle.std.proofs.Common.{◌≡◌, ℕ, true, false, List, [], ◌∷◌, map, Option, Some, None, codes}
+-- cause alone, beside what comes near to it, and one that needs them all. Functions are any. And what
+-- standard compilers ask for besides, in modules with no functions, or with one.
+use Rattle.std.proofs.Common.{◌≡◌, ℕ, Bool, true, false, List, [], ◌∷◌, map, Option, Some, None}
+use Rattle.std.proofs.Common.{codes, take}
+use Rattle.std.specs.List.{filter}
 use Rattle.std.proofs.Common.{refl, arith, Vec, Global}
 use Rattle.naga_ir.specs.declared.binding.Binding.{Binding}
 use Rattle.naga_ir.specs.declared.binding.Binding.TheVariants.{BuiltIn, Location}
 use Rattle.naga_ir.specs.declared.binding.BuiltIn.TheVariants as builtin
 use Rattle.naga_ir.specs.declared.binding.Interpolation.TheVariants as interpolation
+use Rattle.naga_info.specs.declared.info.ModuleInfo.{ModuleInfo}
+use Rattle.naga_info.specs.declared.info.TypeResolution.{TypeResolution}
+use Rattle.naga_info.specs.declared.info.TypeResolution.TheVariants as resolution
+use Rattle.naga_ir.specs.StatementTree.{BlockTree, StatementTree, block, branch}
+use Rattle.naga_ir.specs.StatementTree.{case, control_barrier, loop, no_cases, no_statements}
+use Rattle.naga_ir.specs.StatementTree.{return, simple, statement, subgroup_ballot}
+use Rattle.naga_ir.specs.StatementTree.{subgroup_collective_operation, subgroup_gather, switch}
+use Rattle.naga_ir.specs.declared.expression.Expression as ir
+use Rattle.naga_ir.specs.declared.expression.Expression.TheVariants as expression
 use Rattle.naga_ir.specs.declared.module.EntryPoint.{EntryPoint}
+use Rattle.naga_ir.specs.declared.module.Function.{Function}
+use Rattle.naga_ir.specs.declared.operators.CollectiveOperation.TheVariants as collective
+use Rattle.naga_ir.specs.declared.operators.GatherMode.TheVariants as gather
+use Rattle.naga_ir.specs.declared.operators.SubgroupOperation.TheVariants as operation
+use Rattle.naga_ir.specs.declared.statement.SwitchValue.TheVariants as label
 use Rattle.naga_ir.specs.declared.module.GlobalVariable.{GlobalVariable}
 use Rattle.naga_ir.specs.declared.module.Module.{Module}
 use Rattle.naga_ir.specs.declared.module.ShaderStage.{ShaderStage}
@@ -17,6 +34,7 @@ use Rattle.naga_ir.specs.declared.types.ArraySize.TheVariants as size
 use Rattle.naga_ir.specs.declared.types.CooperativeRole.TheVariants as role
 use Rattle.naga_ir.specs.declared.types.CooperativeSize.TheVariants as cooperative
 use Rattle.naga_ir.specs.declared.types.Scalar.{Scalar}
+use Rattle.naga_ir.specs.declared.types.ScalarKind.{ScalarKind}
 use Rattle.naga_ir.specs.declared.types.ScalarKind.TheVariants as kind
 use Rattle.naga_ir.specs.declared.types.StructMember.{StructMember}
 use Rattle.naga_ir.specs.declared.types.Type_.{Type_}
@@ -25,7 +43,7 @@ use Rattle.naga_ir.specs.declared.types.TypeInner.TheVariants as inner
 use Rattle.naga_ir.specs.declared.types.VectorSize.TheVariants as vector
 use Rattle.wgsl_text.specs.Tables.{enable_words}
 use Rattle.module_meaning.proofs.NumberExamples.{one}
-use Rattle.module_meaning.specs.Enables.{extensions, needed_enables}
+use Rattle.module_meaning.specs.Enables.{extensions, is_enabled}
 
 -- the extensions are those of the grammar, in its order
 all_words : map (λ x. x.word) extensions ≡ enable_words
@@ -56,7 +74,14 @@ unsigned = record { kind = kind.Uint; width = 2 }
 abbrev at_location : (blend_src : Option ℕ) → Binding
 at_location blend_src = Location 0 None None blend_src false
 
-module _ (m : Module) (members : Vec StructMember Global) (v : GlobalVariable) (p : EntryPoint) where
+module _ (m : Module) (members : Vec StructMember Global) (v : GlobalVariable) (p : EntryPoint)
+    (info : ModuleInfo) (f : Function) where
+  abbrev enables : (portable : Bool) → Module → ModuleInfo → List (List ℕ)
+  enables portable given known = map (λ x. x.word) (filter (is_enabled portable given known) extensions)
+
+  abbrev needed_enables : Module → List (List ℕ)
+  needed_enables given = enables false given info
+
   -- ---- modules with one cause
   abbrev of_type : TypeInner → Module
   of_type it = record m {
@@ -316,11 +341,149 @@ module _ (m : Module) (members : Vec StructMember Global) (v : GlobalVariable) (
         bare (struct_of (BuiltIn builtin.PrimitiveIndex)) ∷
         bare (struct_of (BuiltIn builtin.DrawIndex)) ∷ bare (inner.BindingArray 0 size.Dynamic) ∷
         bare (struct_of (BuiltIn builtin.ClipDistances)) ∷ bare (struct_of (at_location (Some 0))) ∷
-        bare (inner.Scalar unsigned) ∷ bare (inner.Scalar half) ∷ [];
+        bare (inner.Scalar unsigned) ∷ bare (inner.Scalar half) ∷
+        bare (struct_of (BuiltIn builtin.SubgroupSize)) ∷ [];
     global_variables = record v { space = space.TaskPayload } ∷ [];
-  }) ≡ enable_words
+  }) ≡ take 11 enable_words
   all_needed = refl
 
   -- none by none
   none_needed : needed_enables (record m { types = []; global_variables = []; entry_points = none m.entry_points }) ≡ []
   none_needed = refl
+
+  -- ---- for standard compilers
+  abbrev asked : Module → List (List ℕ)
+  asked given =
+      enables true (record given { functions = [] })
+      (record info { functions = none info.functions; entry_points = none info.entry_points })
+
+  -- an entry point that does nothing
+  abbrev resting : EntryPoint → EntryPoint
+  resting point =
+      record point { function = record point.function { expressions = []; body = no_statements } }
+
+  abbrev f16_alone : List (List ℕ)
+  f16_alone = codes "f16" ∷ []
+
+  abbrev subgroups_alone : List (List ℕ)
+  subgroups_alone = codes "subgroups" ∷ []
+
+  an_atomic_half : asked (of_type (inner.Atomic half)) ≡ f16_alone
+  an_atomic_half = refl
+
+  a_half_pointed_to : asked (of_type (inner.ValuePointer (Some vector.Bi) half space.Function)) ≡ f16_alone
+  a_half_pointed_to = refl
+
+  a_matrix_of_halves : asked (of_type (inner.CooperativeMatrix cooperative.Eight cooperative.Eight half role.A)) ≡
+      codes "f16" ∷ codes "wgpu_cooperative_matrix" ∷ []
+  a_matrix_of_halves = refl
+
+  an_atomic_integer : asked (of_type (inner.Atomic unsigned)) ≡ []
+  an_atomic_integer = refl
+
+  -- builtin values of subgroups, of members, arguments and results
+  abbrev AskedFor : Binding → Type 0
+  AskedFor b = asked (of_entry_point (resting (started stage.Compute (Some b) None))) ≡ subgroups_alone
+
+  of_a_member : asked (of_type (struct_of (BuiltIn builtin.SubgroupSize))) ≡ subgroups_alone
+  of_a_member = refl
+
+  their_number : AskedFor (BuiltIn builtin.NumSubgroups)
+  their_number = refl
+
+  which_of_them : AskedFor (BuiltIn builtin.SubgroupId)
+  which_of_them = refl
+
+  their_size : AskedFor (BuiltIn builtin.SubgroupSize)
+  their_size = refl
+
+  which_invocation : AskedFor (BuiltIn builtin.SubgroupInvocationId)
+  which_invocation = refl
+
+  another_builtin : asked (of_entry_point (resting (started stage.Compute (Some (BuiltIn builtin.LocalInvocationIndex)) None))) ≡ []
+  another_builtin = refl
+
+  -- any other text enables nothing for them
+  unasked : needed_enables (of_type (struct_of (BuiltIn builtin.SubgroupSize))) ≡ []
+  unasked = refl
+
+  -- a module with one function, of whose expressions this is known
+  abbrev of_function : List ir.Expression → BlockTree → Module
+  of_function es body = record m {
+    types = [];
+    global_variables = [];
+    functions = record f { expressions = es; body = body } ∷ [];
+    entry_points = none m.entry_points;
+  }
+
+  abbrev knowing : List TypeResolution → ModuleInfo
+  knowing types = record info {
+    functions = one info.functions (map (λ r. record { ref_count = 0; ty = r }) types);
+    entry_points = none info.entry_points;
+  }
+
+  abbrev wide : TypeInner
+  wide = inner.Scalar (record { kind = kind.Float; width = 4 })
+
+  -- ---- what is spelled in a function
+  abbrev of_conversion : ScalarKind → Option ℕ → TypeInner → List (List ℕ)
+  of_conversion to convert from =
+      enables true
+      (of_function (expression.FunctionArgument 0 ∷ expression.As 0 to convert ∷ []) no_statements)
+      (knowing (resolution.Value from ∷ resolution.Value wide ∷ []))
+
+  to_half : of_conversion kind.Float (Some 2) wide ≡ f16_alone
+  to_half = refl
+
+  bits_of_an_integer : of_conversion kind.Float None (inner.Scalar signed) ≡ f16_alone
+  bits_of_an_integer = refl
+
+  bits_of_a_wide_integer : of_conversion kind.Float None (inner.Scalar (record { kind = kind.Sint; width = 4 })) ≡ []
+  bits_of_a_wide_integer = refl
+
+  to_float : of_conversion kind.Float (Some 4) (inner.Scalar unsigned) ≡ []
+  to_float = refl
+
+  -- a `let` of it may tell its type
+  of_this_type : enables true (of_function (expression.FunctionArgument 0 ∷ []) no_statements)
+      (knowing (resolution.Value (inner.ValuePointer None half space.Function) ∷ [])) ≡ f16_alone
+  of_this_type = refl
+
+  -- ---- what is done in one
+  abbrev doing : StatementTree → List (List ℕ)
+  doing s = enables true (of_function [] (statement s no_statements)) (knowing [])
+
+  abbrev ballot : StatementTree
+  ballot = simple (subgroup_ballot 0 None)
+
+  a_ballot : doing ballot ≡ subgroups_alone
+  a_ballot = refl
+
+  a_gather : doing (simple (subgroup_gather gather.BroadcastFirst 0 1)) ≡ subgroups_alone
+  a_gather = refl
+
+  an_operation : doing (simple (subgroup_collective_operation operation.Add collective.Reduce 0 1)) ≡ subgroups_alone
+  an_operation = refl
+
+  a_barrier : doing (simple (control_barrier (record { 0 = 5 }))) ≡ subgroups_alone
+  a_barrier = refl
+
+  another_barrier : doing (simple (control_barrier (record { 0 = 3 }))) ≡ []
+  another_barrier = refl
+
+  a_return : doing (simple (return None)) ≡ []
+  a_return = refl
+
+  -- wherever it stands
+  in_a_block : doing (block (statement (simple (return None)) (statement ballot no_statements))) ≡ subgroups_alone
+  in_a_block = refl
+
+  in_a_branch : doing (branch 0 no_statements (statement ballot no_statements)) ≡ subgroups_alone
+  in_a_branch = refl
+
+  in_a_case : doing (switch 0 (case label.Default no_statements true (case label.Default (statement ballot no_statements) false no_cases))) ≡
+      subgroups_alone
+  in_a_case = refl
+
+  behind_a_loop : doing (loop no_statements (statement ballot no_statements) None) ≡ subgroups_alone
+  behind_a_loop = refl

@@ -30,6 +30,7 @@ use Rattle.naga_ir.specs.declared.types.StructMember as ir_member
 use Rattle.naga_ir.specs.declared.types.Type_.{Type_}
 use Rattle.naga_ir.specs.declared.types.TypeInner.TheVariants as inner
 use Rattle.naga_ir.specs.declared.types.VectorSize.TheVariants as vector
+use Rattle.naga_back.specs.declared.flags.WriterFlags.{WriterFlags}
 use Rattle.naga_info.specs.declared.info.ModuleInfo.{ModuleInfo}
 use Rattle.naga_layout.specs.Types.{layout_at}
 use Rattle.naga_names.specs.Keys.{NameMap}
@@ -288,8 +289,11 @@ module _ (other : ir_module.Module) (info : ModuleInfo) (label : String Global)
     abbrev settings : Settings
     settings = record { overrides = number 2 ∷ number 9 ∷ []; globals = [] }
 
+    abbrev flags : WriterFlags
+    flags = record { 0 = 0 }
+
     abbrev declared : Interface
-    declared = module_interface settings meaning names m info
+    declared = module_interface settings meaning names m info flags
 
     -- ---- its text
     abbrev i32 : TypeSpecifier

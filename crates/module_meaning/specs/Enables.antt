@@ -1,11 +1,16 @@
--- The extensions of WGSL that a text enables: which there are, in the order of the text, and what a
--- module needs each of them for.
+-- The extensions of WGSL that a text enables: which there are, in the order of the text, what a
+-- module needs each of them for, and what standard compilers ask for one besides. A text enables an
+-- extension where its module needs it. One that is written for standard compilers enables it where
+-- they ask for it, too.
 --
--- Throughout, x is an extension, m a module or a member, t a type, s a scalar, v a variable of the
--- module, p an entry point, a an argument, and r a result.
+-- Throughout, x is an extension, m a module or a member, info what is known of a module, t a type,
+-- s a scalar, v a variable of the module, p an entry point, a an argument, and r a result.
 use Rattle.std.specs.Prelude.{ℕ, Bool, true, false, not, ◌&&◌, ◌||◌, ◌==◌, List, [], ◌∷◌, codes}
 use Rattle.std.specs.Prelude.{map}
 use Rattle.std.specs.List.{filter, list_any}
+use Rattle.naga_back.specs.Flags.{is_portable}
+use Rattle.naga_back.specs.declared.flags.WriterFlags.{WriterFlags}
+use Rattle.naga_info.specs.declared.info.ModuleInfo.{ModuleInfo}
 use Rattle.std.specs.Option.{is_none, is_some, option_map_or}
 use Rattle.naga_ir.specs.declared.binding.Binding.{Binding}
 use Rattle.naga_ir.specs.declared.binding.Binding.TheVariants.{BuiltIn, Location}
@@ -24,26 +29,33 @@ use Rattle.naga_ir.specs.declared.types.ScalarKind.{ScalarKind}
 use Rattle.naga_ir.specs.declared.types.ScalarKind.TheVariants as kind
 use Rattle.naga_ir.specs.declared.types.TypeInner.{TypeInner}
 use Rattle.naga_ir.specs.declared.types.TypeInner.TheVariants as inner
+use Rattle.module_meaning.specs.Halves.{float_has_16_bits, spells_halves}
+use Rattle.module_meaning.specs.Subgroups.{is_subgroup_builtin, names_subgroups}
 
 -- An extension by its word, and what it is needed for: types, bindings of struct members and of
 -- what passes in or out of entry points, stages of entry points, and address spaces of the module's
--- variables.
+-- variables. Whether each text that needs it enables it, or one for standard compilers alone; and
+-- where these ask for it besides.
 pub record Extension : Type 0 where
   pub word : List ℕ
+  pub in_each_text : Bool
   pub for_type : TypeInner → Bool
   pub for_binding : Binding → Bool
   pub for_stage : ShaderStage → Bool
   pub for_space : AddressSpace → Bool
+  pub is_asked_for : Module → ModuleInfo → Bool
 
--- one that nothing needs
+-- one that nothing needs, and that nobody asks for
 abbrev pub unneeded : Extension
 unneeded =
     record {
       word = [];
+      in_each_text = true;
       for_type = λ _. false;
       for_binding = λ _. false;
       for_stage = λ _. false;
       for_space = λ _. false;
+      is_asked_for = λ _ _. false;
     }
 
 -- ---- scalars of 16 bits
@@ -54,10 +66,6 @@ is_over test (inner.Vector size s) = test s
 is_over test (inner.Matrix columns rows s) = test s
 is_over test _ = false
 
-abbrev pub float_has_16_bits : ScalarKind → (width : ℕ) → Bool
-float_has_16_bits kind.Float width = width == 2
-float_has_16_bits _ width = false
-
 abbrev pub integer_has_16_bits : ScalarKind → (width : ℕ) → Bool
 integer_has_16_bits kind.Sint width = width == 2
 integer_has_16_bits kind.Uint width = width == 2
@@ -67,6 +75,7 @@ abbrev pub f16 : Extension
 f16 = record unneeded {
   word = codes "f16";
   for_type = is_over (λ s. float_has_16_bits s.kind s.width);
+  is_asked_for = spells_halves;
 }
 
 abbrev pub int16 : Extension
@@ -221,12 +230,23 @@ abbrev pub cooperative_matrix : Extension
 cooperative_matrix =
     record unneeded { word = codes "wgpu_cooperative_matrix"; for_type = is_cooperative_matrix }
 
+-- ---- subgroups
+-- a builtin value, or a statement
+abbrev pub subgroups : Extension
+subgroups = record unneeded {
+  word = codes "subgroups";
+  in_each_text = false;
+  for_binding = is_builtin is_subgroup_builtin;
+  is_asked_for = λ m info. names_subgroups m;
+}
+
 -- ---- modules
 -- all of them, in the order of a text
 abbrev pub extensions : List Extension
 extensions =
     f16 ∷ int16 ∷ dual_source_blending ∷ clip_distances ∷ mesh_shader ∷ binding_array ∷
-    draw_index ∷ primitive_index ∷ cooperative_matrix ∷ ray_tracing_pipeline ∷ per_vertex ∷ []
+    draw_index ∷ primitive_index ∷ cooperative_matrix ∷ ray_tracing_pipeline ∷ per_vertex ∷
+    subgroups ∷ []
 
 -- The type of a module needs it: any struct, whether a text declares it or not, for the binding of
 -- a member.
@@ -249,6 +269,13 @@ is_needed m x =
     (list_any (λ v. x.for_space v.space) m.global_variables ||
     list_any (entry_point_needs x) m.entry_points.items)
 
--- the words of those that a text enables for the module
-abbrev pub needed_enables : Module → List (List ℕ)
-needed_enables m = map (λ x. x.word) (filter (is_needed m) extensions)
+-- A text for standard compilers enables it where the module needs it or these ask for it, and any
+-- other one where the module needs it, if each text does.
+abbrev pub is_enabled : (portable : Bool) → Module → ModuleInfo → Extension → Bool
+is_enabled true m info x = is_needed m x || x.is_asked_for m info
+is_enabled false m info x = x.in_each_text && is_needed m x
+
+-- the words of those that a text enables for the module, written with these flags
+abbrev pub written_enables : Module → ModuleInfo → WriterFlags → List (List ℕ)
+written_enables m info flags =
+    map (λ x. x.word) (filter (is_enabled (is_portable flags) m info) extensions)

@@ -38,6 +38,7 @@ use Rattle.naga_ir.specs.declared.types.TypeInner.TheVariants as inner
 use Rattle.naga_info.specs.Resolution.{inner_of}
 use Rattle.naga_info.specs.declared.info.ExpressionInfo.{ExpressionInfo}
 use Rattle.naga_info.specs.declared.info.TypeResolution.TheVariants.{Handle, Value}
+use Rattle.float_numerals.specs.Denoted.{is_in_range}
 use Rattle.module_meaning.specs.AlikeTypes.{is_spelled}
 use Rattle.module_meaning.specs.Conversions.{conversion_target}
 use Rattle.module_meaning.specs.ExpressionOperators.{has_parts, scalar_behind}
@@ -50,7 +51,8 @@ use Rattle.naga_words.specs.Spelling.{is_struct}
 use Rattle.wgsl_words.specs.Words.{math_word}
 
 -- ---- literals
--- the literal is of `bool` or of one of these integer types
+-- the literal is of `bool` or of one of these integer types, or a numeral of a floating-point type
+-- that is in range
 abbrev pub is_written_literal : LiteralValue → Bool
 is_written_literal (literal.Bool value) = true
 is_written_literal (literal.I16 value) = true
@@ -59,6 +61,9 @@ is_written_literal (literal.I32 value) = true
 is_written_literal (literal.U32 value) = true
 is_written_literal (literal.I64 value) = true
 is_written_literal (literal.U64 value) = true
+is_written_literal (literal.DecimalF64 numeral) = is_in_range numeral
+is_written_literal (literal.DecimalF32 numeral) = is_in_range numeral
+is_written_literal (literal.DecimalF16 numeral) = is_in_range numeral
 is_written_literal _ = false
 
 -- the type that is known of the expression with this handle passes a test

@@ -1,7 +1,9 @@
 -- What it is for a program to be faithful to a module: it has the module's interface, and it does
--- what the module does. Throughout, g is the number of a function or entry point.
+-- what the module does. Throughout, flags say how the module is written, and g is the number of a
+-- function or entry point.
 use Rattle.std.specs.Prelude.{◌≡◌, ℕ, List, Option, Some, IsTrue}
 use Rattle.naga_ir.specs.declared.module.Module.{Module}
+use Rattle.naga_back.specs.declared.flags.WriterFlags.{WriterFlags}
 use Rattle.naga_info.specs.declared.info.ModuleInfo.{ModuleInfo}
 use Rattle.wgsl_text.specs.Declarations.{Program}
 use Rattle.shader_runs.specs.Value.{Value, has_types}
@@ -21,20 +23,21 @@ use Rattle.module_meaning.specs.Layouts.{KeepsLayouts}
 
 -- The program tells what the module declares: under all values of overrides of their types, under
 -- every typed meaning of operators and in every world both have one interface.
-abbrev pub TellsInterfaceOf : Module → ModuleInfo → Program → Type 0
-TellsInterfaceOf m info program =
+abbrev pub TellsInterfaceOf : Module → ModuleInfo → WriterFlags → Program → Type 0
+TellsInterfaceOf m info flags program =
     let shape = module_shape m info in
     (settings : Settings) → SettingsFit shape settings →
     (meaning : Meaning) → IsTyped shape meaning →
     (world : World) →
     interface_read shape.parts settings meaning world program
-    ≡ module_interface settings meaning (module_names m) m info
+    ≡ module_interface settings meaning (module_names m) m info flags
 
 -- The program declares what the module declares, and each struct that is concerned stands in memory
 -- as in the module: its members are at the same offsets, and it takes the module's span, where that
 -- has room for all members and is a multiple of the struct's alignment.
-pub record HasInterfaceOf (m : Module) (info : ModuleInfo) (program : Program) : Type 0 where
-  pub tells : TellsInterfaceOf m info program
+pub record HasInterfaceOf (m : Module) (info : ModuleInfo) (flags : WriterFlags)
+    (program : Program) : Type 0 where
+  pub tells : TellsInterfaceOf m info flags program
   pub layouts : KeepsLayouts m program
 
 -- What holds of each run of the function or entry point g of the module and the run of the program

@@ -1,9 +1,9 @@
 -- The interface of a module under its names: what it declares for others.
 --
--- Throughout, names are those of the module m, of which info is known, t its types with their
--- names, value tells the value of one of its own expressions, if it has one, and each declaration
--- goes by its first letter and stands beside its handle: constant, override, global variable,
--- function, entry point.
+-- Throughout, names are those of the module m, of which info is known, flags say how it is written,
+-- t its types with their names, value tells the value of one of its own expressions, if it has one,
+-- and each declaration goes by its first letter and stands beside its handle: constant, override,
+-- global variable, function, entry point.
 use Rattle.std.specs.Prelude.{ℕ, ◌+◌, List, [], ◌∷◌, map, Option, Some}
 use Rattle.std.specs.Prelude.{None, if◌then◌else◌}
 use Rattle.std.specs.List.{enumerate_from, filter_map}
@@ -24,7 +24,8 @@ use Rattle.naga_info.specs.declared.info.ModuleInfo.{ModuleInfo}
 use Rattle.naga_names.specs.Keys.{NameMap}
 use Rattle.naga_names.specs.Reset.{members_of}
 use Rattle.naga_names.specs.declared.key.NameKey.TheVariants as key
-use Rattle.module_meaning.specs.Enables.{needed_enables}
+use Rattle.naga_back.specs.declared.flags.WriterFlags.{WriterFlags}
+use Rattle.module_meaning.specs.Enables.{written_enables}
 use Rattle.naga_words.specs.Contexts.{names_of, Names as TypeNames}
 use Rattle.wgsl_words.specs.Words.{space_word, space_access_word}
 use Rattle.shader_runs.specs.Constants.{module_initialiser_value}
@@ -173,14 +174,14 @@ entry_point_interface names t p =
     }
 
 -- ---- modules
--- what a module declares, each kind in its order
+-- What a module declares, each kind in its order. Which extensions are enabled hangs on the flags.
 abbrev pub module_interface :
-    Settings → Meaning → NameMap → ir_module.Module → ModuleInfo → Interface
-module_interface settings meaning names m info =
+    Settings → Meaning → NameMap → ir_module.Module → ModuleInfo → WriterFlags → Interface
+module_interface settings meaning names m info flags =
     let t : TypeNames = names_of m.types names in
     let value = global_expression_value m info settings meaning in
     record {
-      enables = needed_enables m;
+      enables = written_enables m info flags;
       structs = filter_map (struct_interface names t m) (enumerate_from 0 m.types);
       constants = filter_map (constant_interface names t value) (enumerate_from 0 m.constants);
       overrides = map (override_interface names t value) (enumerate_from 0 m.overrides);

@@ -13,6 +13,7 @@ pub mod ExpressionTypes
 pub mod Faithful
 pub mod FunctionNumbers
 pub mod FunctionShapes
+pub mod Halves
 pub mod ExpressionLabels
 pub mod InfoSizes
 pub mod Initialisers
@@ -41,6 +42,7 @@ pub mod StageBindings
 pub mod StatementForms
 pub mod StatementShapes
 pub mod StatementsFit
+pub mod Subgroups
 pub mod Switches
 pub mod ExpressionContexts
 pub mod TypeIdentity

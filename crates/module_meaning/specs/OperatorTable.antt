@@ -376,7 +376,7 @@ math_count _ = 1
 abbrev pub is_zero_by_name : (gathers compares clamped : Bool) → Bool
 is_zero_by_name gathers compares clamped = gathers || (compares || clamped)
 
--- Level zero is written as the number `0.0`, unless the built-in's name tells it.
+-- Level zero is written as a number, unless the built-in's name tells it.
 abbrev pub zero_is_written : Level → (by_name : Bool) → Bool
 zero_is_written Zero false = true
 zero_is_written _ by_name = false

@@ -55,8 +55,9 @@ pub enum Fault {
     /// A type with a meaning of its own is not there.
     SpecialTypes,
     /// What is named is not there: the type or the initialiser of a constant, an override or a
-    /// variable, the variables of an entry point, what an expression names beside its operands, or
-    /// what a statement names.
+    /// variable, the variables of an entry point, what an expression names beside its operands, the
+    /// number of a literal whose numeral is out of range or denotes an infinity, or what a
+    /// statement names.
     Names,
     /// The type of an argument or of the result is not there.
     Signature,

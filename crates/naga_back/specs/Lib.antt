@@ -1,5 +1,6 @@
 pub mod Baking
 pub mod FixedInput
+pub mod Flags
 pub mod FunctionContext
 pub mod Indentation
 pub mod Kinds

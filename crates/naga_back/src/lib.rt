@@ -16,7 +16,7 @@ pub mod rays;
 
 pub use baking::{BakeRefCount, Baked, NeedBakeExpressions};
 pub use context::{FunctionCtx, FunctionType};
-pub use flags::WriterFlags;
+pub use flags::{WriterFlags, annotates_types, is_portable};
 pub use kinds::{IsHandle, IsTerminator};
 pub use operators::{COMPONENTS, binary_operation_str};
 pub use rays::{RayFlag, RayIntersectionType};

@@ -100,6 +100,8 @@ use Rattle.wgsl_text.specs.Statements as tree
 use Rattle.wgsl_text.specs.Expressions as tree_expressions
 use Rattle.naga_form.proofs.ReadExpressions.{plain_read, value_is, place_is, is_place, places_in}
 use Rattle.naga_form.proofs.ReadExpressions.{ReadsOut, ItemsRead, own_if_reads}
+use Rattle.naga_back.specs.declared.flags.WriterFlags.{WriterFlags}
+use Rattle.naga_back.specs.Flags.{annotates_types}
 
 pub names_counted : (names : NameMap) (m : Module) (g n : ℕ)
     (args : List FunctionArgument) → map (λ p. p.name) (parameters_form names m g n args) ≡
@@ -154,7 +156,7 @@ availability_reads : (s : Availability) (p : PlainForm) (q : Plain) → plain_re
 availability_reads (Bound x) p q e = refl
 availability_reads _ p q e = e
 
-module _ (named : ℕ → List ℕ) (m : Module) (info : ModuleInfo) (g : ℕ) (f : ir_function.Function)
+module _ (flags : WriterFlags) (named : ℕ → List ℕ) (m : Module) (info : ModuleInfo) (g : ℕ) (f : ir_function.Function)
     (es : List ExpressionInfo) (size : length f.expressions ≡ length es) (W : ℕ → Type 0)
     (closed : AreClosed W (binds (function_shape m info f es)) f) (written : AreWritten W m f es)
     (constants : ConstantsAreRead m info) where
@@ -162,7 +164,7 @@ module _ (named : ℕ → List ℕ) (m : Module) (info : ModuleInfo) (g : ℕ) (
   own = function_naming (module_names m) named m info g f es
 
   abbrev source : Source
-  source = function_source m info f es
+  source = function_source flags m info f es
 
   abbrev d : Declared
   d = source.declared
@@ -433,7 +435,7 @@ pointer_reads m ty t at =
     (inner_tree_row text-append (type_names m) (λ handle. true) (inner.Pointer ty space.Function)
     ∙ ap (λ o. option_map type_layout (option_map (pointer_tree (codes "function") None) o)) at))
 
-module _ (named : ℕ → List ℕ) (m : Module) (info : ModuleInfo) (g : ℕ) (f : ir_function.Function)
+module _ (flags : WriterFlags) (named : ℕ → List ℕ) (m : Module) (info : ModuleInfo) (g : ℕ) (f : ir_function.Function)
     (es : List ExpressionInfo) (size : length f.expressions ≡ length es) (W : ℕ → Type 0)
     (closed : AreClosed W (binds (function_shape m info f es)) f) (written : AreWritten W m f es)
     (constants : ConstantsAreRead m info) where
@@ -443,7 +445,7 @@ module _ (named : ℕ → List ℕ) (m : Module) (info : ModuleInfo) (g : ℕ) (
   locals_read : LocalsHaveForms (type_names m) f.local_variables →
       (l : ℕ) (vs : List LocalVariable) →
       ((k : ℕ) → slice_get vs k ≡ slice_get f.local_variables (k + l)) →
-      map variable_read (locals_form own_names (type_names m) (function_source m info f es) l vs) ≡
+      map variable_read (locals_form own_names (type_names m) (function_source flags m info f es) l vs) ≡
       variables_from own_names l (map (λ v. v.init) vs)
   locals_read formed l [] at = refl
   locals_read formed l (v ∷ vs) at =
@@ -456,7 +458,7 @@ module _ (named : ℕ → List ℕ) (m : Module) (info : ModuleInfo) (g : ℕ) (
         name = own_names.names.local_ l;
         pointer = pointer i;
         first_value =
-            value_if_reads named m info g f es size W closed written constants
+            value_if_reads flags named m info g f es size W closed written constants
             (at_start own_names.function) v.init (closed.firsts l v here) i;
       }
       ∷ (rest ∙ ap (λ k. variables_from own_names k (map (λ v. v.init) vs)) (add-one l)) i
@@ -473,45 +475,45 @@ pub locals_have_forms : (told : Bool) (m : Module) (info : ModuleInfo)
 locals_have_forms told m info f es have l v at = tree_there (type_names m) (Handle v.ty) (spelled_of_spellable m (Handle v.ty) (have.types (Handle v.ty) (OfLocal l v at)))
 
 -- whatever is written of a function is read as its shape is
-pub written_reads : (explicit : Bool) (named : ℕ → List ℕ) (m : Module) (info : ModuleInfo) (g : ℕ)
+pub written_reads : (flags : WriterFlags) (named : ℕ → List ℕ) (m : Module) (info : ModuleInfo) (g : ℕ)
     (f : ir_function.Function) (es : List ExpressionInfo) → length f.expressions ≡ length es →
     LocalsHaveForms (type_names m) f.local_variables →
     (W : ℕ → Type 0) → AreClosed W (binds (function_shape m info f es)) f → AreWritten W m f es →
     ConstantsAreRead m info →
-    function_read (function_form explicit (module_names m) named m info g f es) ≡ form_function
+    function_read (function_form flags (module_names m) named m info g f es) ≡ form_function
     (function_naming (module_names m) named m info g f es)
-written_reads explicit named m info g f es size formed W closed written constants =
+written_reads flags named m info g f es size formed W closed written constants =
     let names = module_names m in
-    let locals = locals_read named m info g f es size W closed written constants formed 0 f.local_variables (λ k. ap (slice_get f.local_variables) (sym (add-zero k))) in
+    let locals = locals_read flags named m info g f es size W closed written constants formed 0 f.local_variables (λ k. ap (slice_get f.local_variables) (sym (add-zero k))) in
     λ i. record {
       name = function_name m names g;
       parameters = (names_counted names m g 0 f.arguments.items ∙ ap (names_from (argument_name m names g) 0) (sym (mapped_length (λ a. declared_type m a.ty) f.arguments.items))) i;
       variables = locals i;
-      lines = lines_read named m info g f es size W closed written constants
-          (annotated_type explicit m (type_names m) es) 0 f.body
+      lines = lines_read flags named m info g f es size W closed written constants
+          (annotated_type (annotates_types flags) m (type_names m) es) 0 f.body
           (at_start (function_shape m info f es)) closed.body i;
     }
 
 -- where this has forms, whether the types that its `let`s may tell are among it or not
-pub reads_where : (told explicit : Bool) (named : ℕ → List ℕ) (m : Module) (info : ModuleInfo)
+pub reads_where : (told : Bool) (flags : WriterFlags) (named : ℕ → List ℕ) (m : Module) (info : ModuleInfo)
     (g : ℕ) (f : ir_function.Function) (es : List ExpressionInfo) →
     length m.global_expressions ≡ length info.const_expression_types.items →
     WrittenHaveForms told m info f es →
     length f.expressions ≡ length es →
-    function_read (function_form explicit (module_names m) named m info g f es) ≡ form_function
+    function_read (function_form flags (module_names m) named m info g f es) ≡ form_function
     (function_naming (module_names m) named m info g f es)
-reads_where told explicit named m info g f es own_size have size =
-    written_reads explicit named m info g f es size
+reads_where told flags named m info g f es own_size have size =
+    written_reads flags named m info g f es size
     (locals_have_forms told m info f es have)
     (IsWrittenIn m info f es) (written_are_closed m info f es) have.expressions
     (constants_read (outer_names (module_names m) m) m info (type_names m)
     (spelled_as_trees m (λ h. None)) (names_are_read m) own_size)
 
-pub function_reads : (explicit : Bool) (named : ℕ → List ℕ) (m : Module) (info : ModuleInfo) (g : ℕ)
+pub function_reads : (flags : WriterFlags) (named : ℕ → List ℕ) (m : Module) (info : ModuleInfo) (g : ℕ)
     (f : ir_function.Function) (es : List ExpressionInfo) →
     length m.global_expressions ≡ length info.const_expression_types.items →
-    WrittenHaveForms explicit m info f es →
+    WrittenHaveForms (annotates_types flags) m info f es →
     length f.expressions ≡ length es →
-    function_read (function_form explicit (module_names m) named m info g f es) ≡ form_function
+    function_read (function_form flags (module_names m) named m info g f es) ≡ form_function
     (function_naming (module_names m) named m info g f es)
-function_reads explicit = reads_where explicit explicit
+function_reads flags = reads_where (annotates_types flags) flags

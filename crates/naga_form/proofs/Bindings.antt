@@ -62,6 +62,8 @@ use Rattle.naga_form.proofs.AcceptedFunctions.{functions_counted}
 use Rattle.naga_form.proofs.Runs.{reads_as_shapes_under}
 use Rattle.naga_form.proofs.WrittenFunctions.{all_functions_under}
 use Rattle.module_meaning.specs.Written.{AllWrittenHaveForms}
+use Rattle.naga_back.specs.declared.flags.WriterFlags.{WriterFlags}
+use Rattle.naga_back.specs.Flags.{annotates_types}
 
 module _ (n : Naming) (annotated : ℕ → Option TypeSpecifier) (source : Source) where
   -- what the `let`s of bound handles tell
@@ -212,44 +214,44 @@ annotated_spells true m t es h = by (slice_get es h)
     by None = refl
     by (Some k) = row k.ty (names_undeclared m k.ty)
 
-functions_tell : (explicit : Bool) (named : LabelNames) (names : NameMap) (m : Module)
+functions_tell : (flags : WriterFlags) (named : LabelNames) (names : NameMap) (m : Module)
     (info : ModuleInfo) (g : ℕ) (fs : List ir_function.Function) (ess : List (List ExpressionInfo)) →
     map (λ (f : tree_functions.Function). statements_annotations f.body)
-    (functions_under named explicit names m info g fs ess) ≡ module_annotations explicit m
+    (functions_under named flags names m info g fs ess) ≡ module_annotations (annotates_types flags) m
     (names_of m.types names) (namings_from named names m g (function_shapes m info fs ess)) ess
-functions_tell explicit named names m info g [] ess = refl
-functions_tell explicit named names m info g (f ∷ fs) [] = refl
-functions_tell explicit named names m info g (f ∷ fs) (es ∷ ess) =
+functions_tell flags named names m info g [] ess = refl
+functions_tell flags named names m info g (f ∷ fs) [] = refl
+functions_tell flags named names m info g (f ∷ fs) (es ∷ ess) =
     let n = function_naming names (named g) m info g f es in
     let t = names_of m.types names in
-    let line = lines_tell n (annotated_type explicit m t es) (function_source m info f es) 0 f.body (at_start n.function)
-    ∙ (λ i. map (λ b. annotated_spells explicit m t es b.handle i) (function_bindings n)) in
-    λ i. line i ∷ functions_tell explicit named names m info (g + 1) fs ess i
+    let line = lines_tell n (annotated_type (annotates_types flags) m t es) (function_source flags m info f es) 0 f.body (at_start n.function)
+    ∙ (λ i. map (λ b. annotated_spells (annotates_types flags) m t es b.handle i) (function_bindings n)) in
+    λ i. line i ∷ functions_tell flags named names m info (g + 1) fs ess i
 
 -- what the `let`s of each function tell
-pub annotations_are : (m : Module) (info : ModuleInfo) (explicit : Bool) (named : LabelNames) →
+pub annotations_are : (m : Module) (info : ModuleInfo) (flags : WriterFlags) (named : LabelNames) →
     IsTrue (is_accepted m info) →
-    (lets_read (program_under named m info explicit)).annotations
-    ≡ (module_lets named m info explicit).annotations
-annotations_are m info explicit named accepted =
+    (lets_read (program_under named m info flags)).annotations
+    ≡ (module_lets named m info (annotates_types flags)).annotations
+annotations_are m info flags named accepted =
     ap (map (λ (f : tree_functions.Function). statements_annotations f.body))
-    (all_functions_under m info explicit named (functions_counted m info accepted))
-    ∙ functions_tell explicit named (module_names m) m info 0 (all_functions m) (all_infos info)
+    (all_functions_under m info flags named (functions_counted m info accepted))
+    ∙ functions_tell flags named (module_names m) m info 0 (all_functions m) (all_infos info)
 
 -- under whatever names labels have
-pub binds_as_under : (m : Module) (info : ModuleInfo) (explicit : Bool) (named : LabelNames) →
-    IsTrue (is_accepted m info) → DeclarationsHaveForms m → AllWrittenHaveForms explicit m info →
-    BindsUnder named m info explicit (program_under named m info explicit)
-binds_as_under m info explicit named accepted declarations have =
+pub binds_as_under : (m : Module) (info : ModuleInfo) (flags : WriterFlags) (named : LabelNames) →
+    IsTrue (is_accepted m info) → DeclarationsHaveForms m → AllWrittenHaveForms (annotates_types flags) m info →
+    BindsUnder named m info (annotates_types flags) (program_under named m info flags)
+binds_as_under m info flags named accepted declarations have =
     let names =
-    ap text_lets (reads_as_shapes_under m info explicit named accepted declarations have)
+    ap text_lets (reads_as_shapes_under m info flags named accepted declarations have)
     ∙ binds_as_meant (module_shape m info) (outer_names (module_names m) m)
     (namings_under named (module_names m) m info) in
-    let annotations = annotations_are m info explicit named accepted in
+    let annotations = annotations_are m info flags named accepted in
     λ i. record { names = names i; annotations = annotations i }
 
-pub binds_as : (m : Module) (info : ModuleInfo) (explicit : Bool) → IsTrue (is_accepted m info) →
-    DeclarationsHaveForms m → AllWrittenHaveForms explicit m info →
-    BindsAs m info explicit (written_program m info explicit)
-binds_as m info explicit accepted declarations have =
-    binds_as_under m info explicit (expression_name m) accepted declarations have
+pub binds_as : (m : Module) (info : ModuleInfo) (flags : WriterFlags) → IsTrue (is_accepted m info) →
+    DeclarationsHaveForms m → AllWrittenHaveForms (annotates_types flags) m info →
+    BindsAs m info (annotates_types flags) (written_program m info flags)
+binds_as m info flags accepted declarations have =
+    binds_as_under m info flags (expression_name m) accepted declarations have

@@ -59,6 +59,7 @@ use Rattle.naga_form.specs.ConstantForms.{global_form}
 use Rattle.naga_form.specs.Declarations.{constant_form, override_form, program_under}
 use Rattle.naga_form.specs.Declarations.{variable_form}
 use Rattle.naga_form.specs.Types.{type_form}
+use Rattle.naga_back.specs.declared.flags.WriterFlags.{WriterFlags}
 
 -- a word of the table of types names no item
 plain_names_no_item : (w : List ℕ) → stands_in plain_type_words w ≡ true → names_no_item w ≡ true
@@ -68,10 +69,10 @@ plain_names_no_item w plain =
     ap names_no_item (sym (named_text w))
     ∙ (free_parts (type_layout (Named w)) free).no_item
 
-module _ (m : Module) (info : ModuleInfo) (explicit : Bool) (labels : LabelNames)
+module _ (m : Module) (info : ModuleInfo) (flags : WriterFlags) (labels : LabelNames)
     (accepted : IsTrue (is_accepted m info)) where
   abbrev program : Program
-  program = program_under labels m info explicit
+  program = program_under labels m info flags
 
   abbrev names : Lookup
   names = text_names (program_read program)
@@ -82,7 +83,7 @@ module _ (m : Module) (info : ModuleInfo) (explicit : Bool) (labels : LabelNames
       ≡ map Some (initialiser_meant m info o)
   one_resolves None is = refl
   one_resolves (Some h) is =
-      initialiser_found m info explicit labels accepted h (is h refl)
+      initialiser_found m info flags labels accepted h (is h refl)
 
   -- those of constants with names, from the number k on
   constants_resolve_from : (k : ℕ) (cs : List Constant) →
@@ -118,7 +119,7 @@ module _ (m : Module) (info : ModuleInfo) (explicit : Bool) (labels : LabelNames
           let written = is 0 c refl named in
           let read = written_is_read m info (declarations_are m info accepted).size c.init written in
           let here =
-          initialiser_found m info explicit labels accepted c.init written
+          initialiser_found m info flags labels accepted c.init written
           ∙ (ap (λ o. map Some (option_map_or constant_targets o [])) read.1
           ∙ ap (λ o. map Some (constant_targets (unwrap_or o (zero_of_type m c.ty)))) (sym read.1)) in
           λ i. here i ∷ rest i
@@ -157,7 +158,7 @@ module _ (m : Module) (info : ModuleInfo) (explicit : Bool) (labels : LabelNames
   pub stages_resolve : stage_targets program ≡ map (map Some) (module_stage_targets m)
   stages_resolve =
       stages_named (module_names m) names (length m.global_variables)
-      (variable_found m info explicit labels accepted) explicit labels m info
+      (variable_found m info flags labels accepted) flags labels m info
       (length m.functions) m.entry_points.items info.entry_points.items
       (entry_points_counted m info accepted) (stage_variables_within m info accepted)
 
@@ -173,7 +174,7 @@ module _ (m : Module) (info : ModuleInfo) (explicit : Bool) (labels : LabelNames
         let w = (type_names m).struct_name h in (
           ap (λ o. option_or (option_map StructItem o) (option_map ValueItem (names w)))
               (ap (struct_named program.structs) name
-              ∙ struct_found m info explicit labels h t at both),
+              ∙ struct_found m info flags labels h t at both),
           false_from_ne_true (stands_in plain_type_words w)
               (λ plain.
               item_is_no_word m w (no_word_of_item w (plain_names_no_item w plain))
@@ -183,9 +184,9 @@ module _ (m : Module) (info : ModuleInfo) (explicit : Bool) (labels : LabelNames
         let name = or_nothing (module_names m (key.Override o)) in
         let w = (type_names m).override_name o in
         ap (λ k. option_or (option_map StructItem k) (option_map ValueItem (names w)))
-        (ap (struct_named program.structs) name ∙ override_not_found m info explicit labels o lt)
+        (ap (struct_named program.structs) name ∙ override_not_found m info flags labels o lt)
         ∙ ap (option_map ValueItem)
-        (override_found m info explicit labels accepted o lt);
+        (override_found m info flags labels accepted o lt);
   }
 
   pub types_resolve : TypesResolve m program
@@ -204,7 +205,7 @@ module _ (m : Module) (info : ModuleInfo) (explicit : Bool) (labels : LabelNames
 
   -- ---- members
   pub members_resolve : MembersResolve m program
-  members_resolve = members_found m info explicit labels
+  members_resolve = members_found m info flags labels
 
   -- ---- all outside of initialisers
   pub items_resolve : ItemsResolve m program

@@ -25,6 +25,7 @@ use Rattle.wgsl_text.specs.Declarations.{Struct, StructMember}
 use Rattle.wgsl_text.specs.Words.{stands_in}
 use Rattle.naga_form.specs.Declarations.{member_form, program_under, struct_form}
 use Rattle.naga_form.proofs.ListPlaces.{formed_at, numbered_at}
+use Rattle.naga_back.specs.declared.flags.WriterFlags.{WriterFlags}
 
 -- an element of a list stands in it
 stands_at : (words : List (List ℕ)) (i : ℕ) (w : List ℕ) → slice_get words i ≡ Some w →
@@ -72,7 +73,7 @@ module _ (m : Module) where
       (filter_map (struct_form (module_names m) (type_names m) m) ps)
       (filter_map (declared_struct_name (module_names m) m.special_types) ps) (all_named ps)
 
-  pub one_vocabulary : (info : ModuleInfo) (explicit : Bool) (labels : LabelNames) →
-      vocabulary_read (program_under labels m info explicit)
+  pub one_vocabulary : (info : ModuleInfo) (flags : WriterFlags) (labels : LabelNames) →
+      vocabulary_read (program_under labels m info flags)
       ≡ (outer_names (module_names m) m).vocabulary
-  one_vocabulary info explicit labels = ap vocabulary_of (all_named (enumerate_from 0 m.types))
+  one_vocabulary info flags labels = ap vocabulary_of (all_named (enumerate_from 0 m.types))

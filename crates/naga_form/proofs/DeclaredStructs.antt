@@ -28,10 +28,11 @@ use Rattle.naga_form.proofs.DistinguishedItems.{items_are_distinguished}
 use Rattle.naga_form.proofs.ListPlaces.{formed_at, formed_from, made_at, made_from, numbered_at}
 use Rattle.naga_form.proofs.ListPlaces.{numbered_from, numbered_taken, place_found, place_none}
 use Rattle.naga_form.specs.Declarations.{member_form, program_under}
+use Rattle.naga_back.specs.declared.flags.WriterFlags.{WriterFlags}
 
-module _ (m : Module) (info : ModuleInfo) (explicit : Bool) (labels : LabelNames) where
+module _ (m : Module) (info : ModuleInfo) (flags : WriterFlags) (labels : LabelNames) where
   abbrev program : Program
-  program = program_under labels m info explicit
+  program = program_under labels m info flags
 
   abbrev struct_name : ℕ → List ℕ
   struct_name h = name_in (module_names m) (key.Type_ h)

@@ -53,6 +53,8 @@ use Rattle.naga_form.proofs.Splits.{turned_first}
 use Rattle.naga_form.proofs.TextItems.{are_forms, forms, items_fit, program}
 use Rattle.naga_form.proofs.EmptyCases.{no_case_falls}
 use Rattle.naga_form.proofs.WrittenFunctions.{form_at}
+use Rattle.naga_back.specs.declared.flags.WriterFlags.{WriterFlags}
+use Rattle.naga_back.specs.Flags.{annotates_types}
 
 module _ (m : Module) (info : ModuleInfo) (accepted : IsTrue (is_accepted m info)) where
   abbrev p : shapes.Module
@@ -99,7 +101,7 @@ module _ (m : Module) (info : ModuleInfo) (accepted : IsTrue (is_accepted m info
       let all = subst (Tells (shape_numbered m info accepted)) (sym (shapes_parted count)) (all_distinguished m info accepted) in
       sym (first_numbered (others count) (first_shapes count) g lt) ∙ all g (omega (arith, lt, joined))
 
-  module _ (explicit : Bool) (named : LabelNames) (are : AreLabelNames m named) where
+  module _ (flags : WriterFlags) (named : LabelNames) (are : AreLabelNames m named) where
     -- ---- one function, behind those before it
     left_at : {told : Bool} (g : ℕ) (f : ir_function.Function) (es : List ExpressionInfo) →
         slice_get known g ≡ Some (f, es) → WrittenHaveFormsAt told m info g →
@@ -206,13 +208,13 @@ module _ (m : Module) (info : ModuleInfo) (accepted : IsTrue (is_accepted m info
           slice_get ess i ≡ Some es → WrittenHaveForms false m info f es) →
           ((i : ℕ) (f : ir_function.Function) (es : List ExpressionInfo) → slice_get fs i ≡ Some f →
           slice_get ess i ≡ Some es → length f.expressions ≡ length es) →
-          take c (map function_read (functions_under named explicit (module_names m) m info g fs ess)) ≡
+          take c (map function_read (functions_under named flags (module_names m) m info g fs ess)) ≡
           map form_function (namings_from named (module_names m) m g (map shape_of (take c (zip fs ess))))
       first_read g zero fs ess have sizes = refl
       first_read g (suc c) [] ess have sizes = refl
       first_read g (suc c) (f ∷ fs) [] have sizes = refl
       first_read g (suc c) (f ∷ fs) (es ∷ ess) have sizes =
-          λ i. reads_where false explicit (named g) m info g f es (declarations_are m info accepted).size
+          λ i. reads_where false flags (named g) m info g f es (declarations_are m info accepted).size
           (have 0 f es (omega arith) refl refl) (sizes 0 f es refl refl) i
           ∷ first_read (g + 1) c fs ess
           (λ i f es lt here known. have (suc i) f es (omega (arith, lt)) here known)
@@ -220,7 +222,7 @@ module _ (m : Module) (info : ModuleInfo) (accepted : IsTrue (is_accepted m info
 
       -- the texts of all
       abbrev texts : List TextFunction
-      texts = map function_read (forms m info explicit named)
+      texts = map function_read (forms m info flags named)
 
       first_texts : reverse (take count texts) ≡ form_functions first_namings
       first_texts =
@@ -233,7 +235,7 @@ module _ (m : Module) (info : ModuleInfo) (accepted : IsTrue (is_accepted m info
 
       -- ---- one that calls these alone
       module _ (g : ℕ) (f : ir_function.Function) (es : List ExpressionInfo)
-          (at : slice_get known g ≡ Some (f, es)) (have : WrittenHaveFormsAt explicit m info g)
+          (at : slice_get known g ≡ Some (f, es)) (have : WrittenHaveFormsAt (annotates_types flags) m info g)
           (scope : ScopeHoldsIn m info g) (few : count ≤ g)
           (enough : (accepted_at m info accepted g f es at).callees ≤ count) where
         abbrev own : Naming
@@ -282,21 +284,21 @@ module _ (m : Module) (info : ModuleInfo) (accepted : IsTrue (is_accepted m info
         own_text =
             let both = zip_parts (all_functions m) (all_infos info) g (f, es) at in
             let first : 0 + g ≡ g = omega arith in
-            slice_get-map function_read (forms m info explicit named) g
+            slice_get-map function_read (forms m info flags named) g
             ∙ (ap (option_map function_read)
-            (form_at explicit named (module_names m) m info 0 (all_functions m) (all_infos info) g f es both.0 both.1)
-            ∙ (ap (λ h. Some (function_read (function_form explicit (module_names m) (named h) m info h f es))) first
+            (form_at flags named (module_names m) m info 0 (all_functions m) (all_infos info) g f es both.0 both.1)
+            ∙ (ap (λ h. Some (function_read (function_form flags (module_names m) (named h) m info h f es))) first
             ∙ ap Some
-            (function_reads explicit (named g) m info g f es (declarations_are m info accepted).size
+            (function_reads flags (named g) m info g f es (declarations_are m info accepted).size
             (have f es both.0 both.1) (of_number m info accepted g f es both.0 both.1).size)))
 
         before_text : reverse (take g texts) ≡ between ++ form_functions first_namings
         before_text = turned_first texts count g few ∙ ap (λ fs. between ++ fs) first_texts
 
-        pub texts_around : (program_read (program m info explicit named)).functions
+        pub texts_around : (program_read (program m info flags named)).functions
             ≡ later ++ (form_function own ∷ (between ++ form_functions first_namings))
         texts_around =
-            ap (λ fs. reverse (map function_read fs)) (are_forms m info explicit named accepted)
+            ap (λ fs. reverse (map function_read fs)) (are_forms m info flags named accepted)
             ∙ (turned_at texts g (form_function own) own_text
             ∙ ap (λ fs. later ++ (form_function own ∷ fs)) before_text)
 
@@ -326,7 +328,7 @@ module _ (m : Module) (info : ModuleInfo) (accepted : IsTrue (is_accepted m info
             let fits =
             function_fits_at g f es at have scope (first_shapes g) before_counted (first_shapes_tell g) in
             record {
-              items = subst (λ fs. ItemsFit p n fs) texts_around (items_fit m info explicit named accepted);
+              items = subst (λ fs. ItemsFit p n fs) texts_around (items_fit m info flags named accepted);
               others = later_shapes;
               uncalled = uncalled;
               functions = ap (λ fs. later_shapes ++ (own.function ∷ fs)) (sym before) ∙ shapes_around;

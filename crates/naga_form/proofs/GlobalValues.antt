@@ -3,7 +3,7 @@
 -- Throughout, m is an accepted module and info what is known of it, e is a tree over constants
 -- alone (es are several), i is the number of a constant or an override, h that of a handle, v a
 -- value, and P tells of the constants that a tree may name.
-use Rattle.std.proofs.Common.{◌≡◌, ℕ, ◌<◌, Bool, true, false, List, [], ◌∷◌, length, Option, Some}
+use Rattle.std.proofs.Common.{◌≡◌, ℕ, ◌<◌, true, false, List, [], ◌∷◌, length, Option, Some}
 use Rattle.std.proofs.Common.{None, refl, sym, ap, ◌∙◌, map, slice_get}
 use Rattle.std.specs.Prelude.{IsTrue}
 use Rattle.std.specs.Option.{option_and_then, option_map_or}
@@ -53,6 +53,7 @@ use Rattle.naga_form.proofs.OtherVariables.{items_with, read_as_they_are, read_s
 use Rattle.naga_form.proofs.OtherVariables.{typed_with, value_with, with_variables, words_with}
 use Rattle.naga_form.proofs.ReadDeclarations.{constants_read, overrides_read, written_is_read}
 use Rattle.naga_form.proofs.TextItems.{items_fit}
+use Rattle.naga_back.specs.declared.flags.WriterFlags.{WriterFlags}
 
 -- where each constant that a tree may name has a value, so has the tree
 module _ (known : ℕ → Option Value) (meaning : Meaning) (P : ℕ → Type 0)
@@ -110,11 +111,11 @@ module _ (m : Module) (info : ModuleInfo) (accepted : IsTrue (is_accepted m info
       ∙ sym (mapped_length (variable_shape m) m.global_variables)
 
   -- a text declares it, where constants with names have forms
-  reads_constants : ConstantsHaveForms m → (explicit : Bool) (labels : LabelNames) →
-      let text = program_read (program_under labels m info explicit) in
+  reads_constants : ConstantsHaveForms m → (flags : WriterFlags) (labels : LabelNames) →
+      let text = program_read (program_under labels m info flags) in
       text ≡ form_module_with read outer text.functions
-  reads_constants have explicit labels =
-      let text = program_read (program_under labels m info explicit) in
+  reads_constants have flags labels =
+      let text = program_read (program_under labels m info flags) in
       λ i. record {
         constants = constants_read m info (declarations_are m info accepted).size have i;
         overrides = overrides_read m info i;
@@ -152,31 +153,31 @@ module _ (m : Module) (info : ModuleInfo) (accepted : IsTrue (is_accepted m info
         )
 
     -- and the text has it in every world
-    pub values_alike : ConstantsHaveForms m → (explicit : Bool) (labels : LabelNames)
+    pub values_alike : ConstantsHaveForms m → (flags : WriterFlags) (labels : LabelNames)
         (world : World) →
-        let program = program_under labels m info explicit in
+        let program = program_under labels m info flags in
         text_initialiser_value (program_read program) shape.parts settings world meaning
         (vocabulary_read program) (expression_read (global_form m (type_names m) h)) ≡
         global_expression_value m info settings meaning h
-    values_alike have explicit labels world =
-        let program : Program = program_under labels m info explicit in
+    values_alike have flags labels world =
+        let program : Program = program_under labels m info flags in
         let own = written_is_read m info (declarations_are m info accepted).size h is in
         ap
         (λ (vocabulary : Vocabulary).
         text_initialiser_value (program_read program) shape.parts settings world meaning vocabulary
         (expression_read (global_form m (type_names m) h)))
-        (one_vocabulary m info explicit labels)
+        (one_vocabulary m info flags labels)
         ∙ (ap
         (λ (text : TextModule).
         text_initialiser_value text shape.parts settings world meaning outer.vocabulary
         (expression_read (global_form m (type_names m) h)))
-        (reads_constants have explicit labels)
+        (reads_constants have flags labels)
         ∙ (ap
         (text_initialiser_value (form_module_with read outer (program_read program).functions)
         shape.parts settings world meaning outer.vocabulary) own.2
         ∙ (initialisers_are_alike read outer (program_read program).functions
         (items_with shape variables outer counted (program_read program).functions
-        (items_fit m info explicit labels accepted))
+        (items_fit m info flags labels accepted))
         settings (settings_with m shape refl settings fit) meaning
         (typed_with shape variables meaning typed) world tree
         (words_with shape variables outer counted tree
@@ -185,15 +186,15 @@ module _ (m : Module) (info : ModuleInfo) (accepted : IsTrue (is_accepted m info
         ∙ (value_with shape variables settings meaning tree
         ∙ sym (ap (option_and_then (module_initialiser_value shape settings meaning)) tree_is)))))
 
-  pub has_value_of : (explicit : Bool) (labels : LabelNames) (h : ℕ) →
+  pub has_value_of : (flags : WriterFlags) (labels : LabelNames) (h : ℕ) →
       IsTrue (global_is_written m h) →
-      HasValueOf m info h (program_under labels m info explicit) (global_form m (type_names m) h)
-  has_value_of explicit labels h is settings fit meaning typed =
+      HasValueOf m info h (program_under labels m info flags) (global_form m (type_names m) h)
+  has_value_of flags labels h is settings fit meaning typed =
       let value = global_has_value settings fit meaning typed h is in (
         value.0,
         value.1,
         λ have world.
-            values_alike settings fit meaning typed h is have explicit labels world ∙ value.1,
+            values_alike settings fit meaning typed h is have flags labels world ∙ value.1,
       )
 
 -- ---- initialisers

@@ -49,6 +49,7 @@ use Rattle.naga_form.proofs.ItemKeys.{keys_tell}
 use Rattle.naga_form.proofs.ListPlaces.{made_from, place_none}
 use Rattle.naga_form.proofs.Names.{argument_there, item_not_numbered, local_there}
 use Rattle.naga_form.specs.Declarations.{override_form, program_under}
+use Rattle.naga_back.specs.declared.flags.WriterFlags.{WriterFlags}
 
 -- ---- keys
 -- the key of what a type may name
@@ -65,9 +66,9 @@ local_in_none : (ty : FunctionType) (i : ℕ) → is_in_types (local_key ty i) �
 local_in_none (item.Function h) i = refl
 local_in_none (item.EntryPoint j) i = refl
 
-module _ (m : Module) (info : ModuleInfo) (explicit : Bool) (labels : LabelNames) where
+module _ (m : Module) (info : ModuleInfo) (flags : WriterFlags) (labels : LabelNames) where
   abbrev program : Program
-  program = program_under labels m info explicit
+  program = program_under labels m info flags
 
   -- ---- names
   abbrev override_names : List (List ℕ)
@@ -87,13 +88,13 @@ module _ (m : Module) (info : ModuleInfo) (explicit : Bool) (labels : LabelNames
       is_in_types item.0 ≡ true → name_in (module_names m) item.0 ≢ w) →
       is_in_no_type program w ≡ true
   free_if w differs =
-      ap is_none (place_none w (struct_names m info explicit labels ++ override_names)
+      ap is_none (place_none w (struct_names m info flags labels ++ override_names)
       (λ j at. ⊎_elim (λ here. in_structs j here) (λ there. in_overrides there.0 there.2)
-      (in_append (struct_names m info explicit labels) override_names j w at)))
+      (in_append (struct_names m info flags labels) override_names j w at)))
     where
-      in_structs : (j : ℕ) → slice_get (struct_names m info explicit labels) j ≡ Some w → ⊥
+      in_structs : (j : ℕ) → slice_get (struct_names m info flags labels) j ≡ Some w → ⊥
       in_structs j at =
-          let x = name_from m info explicit labels j w at in
+          let x = name_from m info flags labels j w at in
           differs _ (type_stands wgsl_names m x.1.handle x.1.type x.1.there) refl
           (sym x.1.name ∙ x.2)
 

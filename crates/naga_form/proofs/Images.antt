@@ -138,40 +138,41 @@ module _ (operand : ℕ → PlainForm) (like : ℕ → runs.Plain) (outer : Modu
   operands_read [] same args = refl
   operands_read (h ∷ hs) same args = λ i. more (same.0 i) (operands_read hs same.1 args i)
 
-  -- the level `0.0`, where it is written, and an offset are the constants behind the operands
-  behind_read : (l : SampleLevel) (unwritten : Bool) (offset : List Expression)
+  -- level zero, where it is written, and an offset are the constants behind the operands
+  behind_read : (l : SampleLevel) (unwritten whole : Bool) (offset : List Expression)
       (c : Option ConstantTree) →
       arguments_read (operands offset) ≡ constant_forms outer (trees (option_to_list c)) →
-      arguments_read (zero_then (zero_is_written (level_of l) unwritten) (operands offset)) ≡
+      arguments_read (zero_then (zero_is_written (level_of l) unwritten) whole (operands offset)) ≡
       constant_forms outer (trees (written_zero l unwritten ++ option_to_list c))
-  behind_read level.Zero false offset c same = ap (more (LiteralOf (Opaque (codes "f32") 0))) same
-  behind_read level.Zero true offset c same = same
-  behind_read _ unwritten offset c same = same
+  behind_read level.Zero false whole offset c same =
+      ap (more (LiteralOf (Opaque (codes "f32") 0))) same
+  behind_read level.Zero true whole offset c same = same
+  behind_read _ unwritten whole offset c same = same
 
   -- a sampling is read as its operator over its operands and constants
   pub sampling_read : (gather : Option SwizzleComponent) (l : SampleLevel)
-      (compares clamped arrayed with_offset of_depths unwritten : Bool) →
+      (compares clamped arrayed with_offset of_depths unwritten whole : Bool) →
       sampling_is_written gather l compares clamped ≡ true → (h : ℕ) (hs : List ℕ) →
       AllReadLike operand like (h ∷ hs) → (offset : List Expression) (c : Option ConstantTree) →
       arguments_read (operands offset) ≡ constant_forms outer (trees (option_to_list c)) →
       let op = sample_operator of_depths gather (level_of l) compares clamped arrayed with_offset in
       expression_read
-      (sampling_form op (zero_is_written (level_of l) unwritten) (value_forms operand (h ∷ hs))
-      offset) ≡
+      (sampling_form op (zero_is_written (level_of l) unwritten) whole
+      (value_forms operand (h ∷ hs)) offset) ≡
       Apply (run_word op)
       (runs.value_forms_then like (h ∷ hs)
       (constant_forms outer (trees (written_zero l unwritten ++ option_to_list c))))
-  sampling_read gather l compares clamped arrayed with_offset of_depths unwritten is h hs same offset
-      c behind =
+  sampling_read gather l compares clamped arrayed with_offset of_depths unwritten whole is h hs same
+      offset c behind =
       let op = sample_operator of_depths gather (level_of l) compares clamped arrayed with_offset in
-      let last = zero_then (zero_is_written (level_of l) unwritten) (operands offset) in
+      let last = zero_then (zero_is_written (level_of l) unwritten) whole (operands offset) in
       let args = operands_then (value_forms operand (h ∷ hs)) last in
       λ i. Apply
       (word_read gather l compares clamped arrayed with_offset of_depths is (as_value (operand h))
       (operands_then (value_forms operand hs) last) i)
       ((component_read (gathered_component op) args
       ∙ (operands_read (h ∷ hs) same last
-      ∙ ap (runs.value_forms_then like (h ∷ hs)) (behind_read l unwritten offset c behind))) i)
+      ∙ ap (runs.value_forms_then like (h ∷ hs)) (behind_read l unwritten whole offset c behind))) i)
 
 -- ---- what is of the grammar
 then_operands : (es offset : List Expression) →
@@ -179,10 +180,10 @@ then_operands : (es offset : List Expression) →
 then_operands [] offset = refl
 then_operands (e ∷ es) offset = ap (Argument e) (then_operands es offset)
 
-then_level : (es offset : List Expression) →
-    operands_with_level es offset ≡ operands_then es (ZeroArgument (operands offset))
-then_level [] offset = refl
-then_level (e ∷ es) offset = ap (Argument e) (then_level es offset)
+then_level : (whole : Bool) (es offset : List Expression) →
+    operands_with_level whole es offset ≡ operands_then es (ZeroArgument whole (operands offset))
+then_level whole [] offset = refl
+then_level whole (e ∷ es) offset = ap (Argument e) (then_level whole es offset)
 
 each_both : (es offset : List Expression) → Each IsExpression es → Each IsExpression offset →
     Each IsExpression (es ++ offset)
@@ -205,17 +206,17 @@ module _ (e : Expression) (es offset : List Expression) (are : Each IsExpression
       (called_words.expression (Named w) ((e ∷ es) ++ offset) callee
       (each_both (e ∷ es) offset are last))
 
-  gather_is : (compares : Bool) (c : SwizzleComponent) (l : Level) (clamped arrayed with_offset : Bool) →
+  gather_is : (compares : Bool) (c : SwizzleComponent) (l : Level) (clamped arrayed with_offset whole : Bool) →
       let op = Gather (Some c) l compares clamped arrayed with_offset in
-      IsExpression (sampling_form op false (e ∷ es) offset)
-  gather_is true c l clamped arrayed with_offset =
+      IsExpression (sampling_form op false whole (e ∷ es) offset)
+  gather_is true c l clamped arrayed with_offset whole =
       subst
       (λ args. IsExpression
       (Call (Named (codes "textureGatherCompare")) (component_then (Some (component_number c)) args)))
       (then_operands (e ∷ es) offset)
       (called_words.gather (codes "textureGatherCompare") (component_number c) e (es ++ offset) refl
       (low c) (each_both (e ∷ es) offset are last))
-  gather_is false c l clamped arrayed with_offset =
+  gather_is false c l clamped arrayed with_offset whole =
       subst
       (λ args. IsExpression
       (Call (Named (codes "textureGather")) (component_then (Some (component_number c)) args)))
@@ -223,21 +224,22 @@ module _ (e : Expression) (es offset : List Expression) (are : Each IsExpression
       (called_words.gather (codes "textureGather") (component_number c) e (es ++ offset) refl
       (low c) (each_both (e ∷ es) offset are last))
 
-  depths_is : (compares : Bool) (l : Level) (clamped arrayed with_offset : Bool) →
+  depths_is : (compares : Bool) (l : Level) (clamped arrayed with_offset whole : Bool) →
       let op = Gather None l compares clamped arrayed with_offset in
-      IsExpression (sampling_form op false (e ∷ es) offset)
+      IsExpression (sampling_form op false whole (e ∷ es) offset)
   unfolding is_builtin builtin_words
-  depths_is true l clamped arrayed with_offset =
+  depths_is true l clamped arrayed with_offset whole =
       plain_is (codes "textureGatherCompare") (callee_of (codes "textureGatherCompare") refl)
-  depths_is false l clamped arrayed with_offset =
+  depths_is false l clamped arrayed with_offset whole =
       plain_is (codes "textureGather") (callee_of (codes "textureGather") refl)
 
-  level_is : (arrayed with_offset : Bool) →
-      IsExpression (sampling_form (Sample Zero false false arrayed with_offset) true (e ∷ es) offset)
-  level_is arrayed with_offset =
+  level_is : (arrayed with_offset whole : Bool) →
+      IsExpression
+      (sampling_form (Sample Zero false false arrayed with_offset) true whole (e ∷ es) offset)
+  level_is arrayed with_offset whole =
       subst (λ args. IsExpression (Call (Named (codes "textureSampleLevel")) args))
-      (then_level (e ∷ es) offset)
-      (called_words.level (codes "textureSampleLevel") e es offset refl are last)
+      (then_level whole (e ∷ es) offset)
+      (called_words.level whole (codes "textureSampleLevel") e es offset refl are last)
 
   word_called : (l : Level) (compares clamped arrayed with_offset : Bool) →
       is_some (sample_word l compares clamped) ≡ true →
@@ -263,10 +265,11 @@ module _ (e : Expression) (es offset : List Expression) (are : Each IsExpression
   word_called Graded false false arrayed with_offset is = callee_of (codes "textureSampleGrad") refl
   word_called _ compares true arrayed with_offset is = absurd cc
 
-  sample_is : (l : Level) (compares clamped arrayed with_offset : Bool) →
+  sample_is : (l : Level) (compares clamped arrayed with_offset whole : Bool) →
       is_some (sample_word l compares clamped) ≡ true →
-      IsExpression (sampling_form (Sample l compares clamped arrayed with_offset) false (e ∷ es) offset)
-  sample_is l compares clamped arrayed with_offset is =
+      IsExpression
+      (sampling_form (Sample l compares clamped arrayed with_offset) false whole (e ∷ es) offset)
+  sample_is l compares clamped arrayed with_offset whole is =
       plain_is (run_word (Sample l compares clamped arrayed with_offset))
       (word_called l compares clamped arrayed with_offset is)
 
@@ -275,43 +278,45 @@ module _ (e : Expression) (es offset : List Expression) (are : Each IsExpression
   none_gathered _ = refl
 
   -- the level is written just where `textureSampleLevel` takes it
-  by_level : (l : SampleLevel) (compares clamped arrayed with_offset : Bool) →
+  by_level : (l : SampleLevel) (compares clamped arrayed with_offset whole : Bool) →
       is_some (sample_word (level_of l) compares clamped) ≡ true →
       IsExpression
       (sampling_form (Sample (level_of l) compares clamped arrayed with_offset)
-      (zero_is_written (level_of l) (compares || clamped)) (e ∷ es) offset)
-  by_level level.Zero false false arrayed with_offset is = level_is arrayed with_offset
-  by_level level.Zero false true arrayed with_offset is =
-      sample_is Zero false true arrayed with_offset is
-  by_level level.Zero true clamped arrayed with_offset is =
-      sample_is Zero true clamped arrayed with_offset is
-  by_level level.Auto compares clamped arrayed with_offset is =
-      sample_is Automatic compares clamped arrayed with_offset is
-  by_level (level.Exact x) compares clamped arrayed with_offset is =
-      sample_is Exact compares clamped arrayed with_offset is
-  by_level (level.Bias x) compares clamped arrayed with_offset is =
-      sample_is Biased compares clamped arrayed with_offset is
-  by_level (level.Gradient x y) compares clamped arrayed with_offset is =
-      sample_is Graded compares clamped arrayed with_offset is
+      (zero_is_written (level_of l) (compares || clamped)) whole (e ∷ es) offset)
+  by_level level.Zero false false arrayed with_offset whole is = level_is arrayed with_offset whole
+  by_level level.Zero false true arrayed with_offset whole is =
+      sample_is Zero false true arrayed with_offset whole is
+  by_level level.Zero true clamped arrayed with_offset whole is =
+      sample_is Zero true clamped arrayed with_offset whole is
+  by_level level.Auto compares clamped arrayed with_offset whole is =
+      sample_is Automatic compares clamped arrayed with_offset whole is
+  by_level (level.Exact x) compares clamped arrayed with_offset whole is =
+      sample_is Exact compares clamped arrayed with_offset whole is
+  by_level (level.Bias x) compares clamped arrayed with_offset whole is =
+      sample_is Biased compares clamped arrayed with_offset whole is
+  by_level (level.Gradient x y) compares clamped arrayed with_offset whole is =
+      sample_is Graded compares clamped arrayed with_offset whole is
 
   -- a sampling that has a form is of the grammar
   pub sampling_is : (gather : Option SwizzleComponent) (l : SampleLevel)
-      (compares clamped arrayed with_offset of_depths : Bool) →
+      (compares clamped arrayed with_offset of_depths whole : Bool) →
       sampling_is_written gather l compares clamped ≡ true →
       IsExpression
       (sampling_form
       (sample_operator of_depths gather (level_of l) compares clamped arrayed with_offset)
-      (zero_is_written (level_of l) (is_some gather || (compares || clamped))) (e ∷ es) offset)
-  sampling_is None l compares clamped arrayed with_offset of_depths is =
-      by_level l compares clamped arrayed with_offset is
-  sampling_is (Some c) l compares clamped arrayed with_offset true is =
+      (zero_is_written (level_of l) (is_some gather || (compares || clamped))) whole (e ∷ es)
+      offset)
+  sampling_is None l compares clamped arrayed with_offset of_depths whole is =
+      by_level l compares clamped arrayed with_offset whole is
+  sampling_is (Some c) l compares clamped arrayed with_offset true whole is =
       subst
       (λ b. IsExpression
-      (sampling_form (Gather None (level_of l) compares clamped arrayed with_offset) b (e ∷ es) offset))
-      (sym (none_gathered l)) (depths_is compares (level_of l) clamped arrayed with_offset)
-  sampling_is (Some c) l compares clamped arrayed with_offset false is =
-      subst
-      (λ b. IsExpression
-      (sampling_form (Gather (Some c) (level_of l) compares clamped arrayed with_offset) b (e ∷ es)
+      (sampling_form (Gather None (level_of l) compares clamped arrayed with_offset) b whole (e ∷ es)
       offset))
-      (sym (none_gathered l)) (gather_is compares c (level_of l) clamped arrayed with_offset)
+      (sym (none_gathered l)) (depths_is compares (level_of l) clamped arrayed with_offset whole)
+  sampling_is (Some c) l compares clamped arrayed with_offset false whole is =
+      subst
+      (λ b. IsExpression
+      (sampling_form (Gather (Some c) (level_of l) compares clamped arrayed with_offset) b whole
+      (e ∷ es) offset))
+      (sym (none_gathered l)) (gather_is compares c (level_of l) clamped arrayed with_offset whole)

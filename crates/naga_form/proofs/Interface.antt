@@ -53,7 +53,7 @@ use Rattle.module_meaning.specs.DeclarationForms.{DeclarationsHaveForms, IsIniti
 use Rattle.module_meaning.proofs.DeclarationForms.{items_have_forms}
 use Rattle.module_meaning.specs.DeclarationForms.{IsMemberBinding, IsPassed, binding_has_form}
 use Rattle.module_meaning.specs.DeclarationForms.{stage_has_form}
-use Rattle.module_meaning.specs.Enables.{needed_enables}
+use Rattle.module_meaning.specs.Enables.{written_enables}
 use Rattle.module_meaning.specs.Faithful.{HasInterfaceOf, TellsInterfaceOf}
 use Rattle.module_meaning.specs.FunctionNumbers.{all_functions}
 use Rattle.module_meaning.specs.Interface.{argument_passed, body_interface, constant_interface}
@@ -96,6 +96,8 @@ use Rattle.naga_form.proofs.GlobalValues.{values_alike}
 use Rattle.naga_form.proofs.SwitchLabels.{AllEnd, block_ends, lines_tell}
 use Rattle.naga_form.proofs.TypeTrees.{type_row}
 use Rattle.naga_form.proofs.WrittenFunctions.{entry_point_at}
+use Rattle.naga_back.specs.declared.flags.WriterFlags.{WriterFlags}
+use Rattle.naga_back.specs.Flags.{annotates_types}
 
 -- the layout of a type's form is its spelling, and nothing where it has no form
 spelled_form : (t : TypeNames) (ty : ℕ) → type_layout (type_form t ty) ≡ spelled_type t ty
@@ -322,13 +324,13 @@ module _ (m : Module) where
         } ∷ rest i
 
   -- ---- functions
-  module _ (explicit : Bool) (labels : LabelNames) (info : ModuleInfo)
+  module _ (flags : WriterFlags) (labels : LabelNames) (info : ModuleInfo)
       (declarations : DeclarationsHaveForms m)
       (ends : (g : ℕ) (f : ir_function.Function) → slice_get (all_functions m) g ≡ Some f →
       AllEnd f.body) where
     body_declared : (named : ℕ → List ℕ) (g : ℕ) (f : ir_function.Function)
         (es : List ExpressionInfo) → slice_get (all_functions m) g ≡ Some f →
-        function_interface_read (function_form explicit names named m info g f es) ≡
+        function_interface_read (function_form flags names named m info g f es) ≡
         body_interface t (function_name m names g) f
     body_declared named g f es at =
         let bound : BindingsHaveForms f = (declarations.heads g).bindings f at in
@@ -346,10 +348,10 @@ module _ (m : Module) where
           result = result i;
           locals =
               locals_declared (function_naming names named m info g f es) t
-              (function_source m info f es) 0 f.local_variables i;
+              (function_source flags m info f es) 0 f.local_variables i;
           switches =
               lines_tell (function_naming names named m info g f es)
-              (annotated_type explicit m t es) (function_source m info f es) 0 f.body
+              (annotated_type (annotates_types flags) m t es) (function_source flags m info f es) 0 f.body
               (ends g f at) (at_start (function_naming names named m info g f es).function) i;
         }
 
@@ -357,7 +359,7 @@ module _ (m : Module) where
         length fs ≡ length ess →
         ((i : ℕ) (f : ir_function.Function) → slice_get fs i ≡ Some f →
         slice_get m.functions (g + i) ≡ Some f) →
-        map function_interface_read (functions_under labels explicit names m info g fs ess) ≡
+        map function_interface_read (functions_under labels flags names m info g fs ess) ≡
         function_interfaces names m g fs
     functions_declared g [] [] size there = refl
     functions_declared g [] (es ∷ ess) size there = refl
@@ -403,7 +405,7 @@ module _ (m : Module) where
           ((i : ℕ) (p : EntryPoint) → slice_get ps i ≡ Some p →
           slice_get m.entry_points.items (j + i) ≡ Some p) →
           map entry_point_interface_read
-          (entry_points_under labels explicit names m info (length m.functions + j) ps ess) ≡
+          (entry_points_under labels flags names m info (length m.functions + j) ps ess) ≡
           map (entry_point_interface names t) (enumerate_from j ps)
       entry_points_declared j [] [] size there = refl
       entry_points_declared j [] (es ∷ ess) size there = refl
@@ -421,20 +423,20 @@ module _ (m : Module) where
           ap
           (λ n.
           map entry_point_interface_read
-          (entry_points_under labels explicit names m info n ps ess)) next
+          (entry_points_under labels flags names m info n ps ess)) next
           ∙ entry_points_declared (j + 1) ps ess (ap pred size)
           (further m.entry_points.items j p ps there) in
           λ i. record { stage = stage_declared j p at i; function = function i } ∷ rest i
 
 -- ---- modules
-module _ (m : Module) (info : ModuleInfo) (explicit : Bool) (labels : LabelNames)
+module _ (m : Module) (info : ModuleInfo) (flags : WriterFlags) (labels : LabelNames)
     (accepted : IsTrue (is_accepted m info)) (declarations : DeclarationsHaveForms m)
-    (have : AllWrittenHaveForms explicit m info) where
+    (have : AllWrittenHaveForms (annotates_types flags) m info) where
   abbrev program_of_shapes : shapes.Module
   program_of_shapes = module_shape m info
 
   abbrev program_told : TextModule
-  program_told = program_read (program_under labels m info explicit)
+  program_told = program_read (program_under labels m info flags)
 
   -- the cases of its switches end, so that no label is lost
   ends : (g : ℕ) (f : ir_function.Function) → slice_get (all_functions m) g ≡ Some f → AllEnd f.body
@@ -445,32 +447,32 @@ module _ (m : Module) (info : ModuleInfo) (explicit : Bool) (labels : LabelNames
       block_ends m f (map (λ e. e.ty) known.0) false false f.body sound.1
       (have g f known.0 at known.1).statements
 
-  tells_interface : TellsInterfaceOf m info (program_under labels m info explicit)
+  tells_interface : TellsInterfaceOf m info flags (program_under labels m info flags)
   tells_interface settings fit meaning typed world =
       let read : Expression → Option Value = λ e.
       text_initialiser_value program_told program_of_shapes.parts settings world meaning
-      (vocabulary_read (program_under labels m info explicit)) (expression_read e) in
+      (vocabulary_read (program_under labels m info flags)) (expression_read e) in
       let value = global_expression_value m info settings meaning in
       let constants = (items_have_forms m declarations).constants in
       let same : (h : ℕ) → IsInitialiser m h →
       read (global_form m (type_names m) h) ≡ value h =
       λ h initial.
       values_alike m info accepted settings fit meaning typed h
-      (declarations.initialisers h initial) constants explicit labels world in
+      (declarations.initialisers h initial) constants flags labels world in
       let first : length m.functions + 0 ≡ length m.functions = omega arith in
       let names = module_names m in
       let entry_points =
       ap
       (λ n.
       map entry_point_interface_read
-      (entry_points_under labels explicit names m info n m.entry_points.items
+      (entry_points_under labels flags names m info n m.entry_points.items
       info.entry_points.items))
       (sym first)
-      ∙ entry_points_declared m explicit labels info declarations ends accepted 0 m.entry_points.items
+      ∙ entry_points_declared m flags labels info declarations ends accepted 0 m.entry_points.items
       info.entry_points.items (entry_points_counted m info accepted)
       (from_start m.entry_points.items) in
       λ i. record {
-        enables = needed_enables m;
+        enables = written_enables m info flags;
         structs = structs_from m declarations 0 m.types (from_start m.types) i;
         constants =
             constants_from m read value same 0 m.constants (from_start m.constants) i;
@@ -479,18 +481,18 @@ module _ (m : Module) (info : ModuleInfo) (explicit : Bool) (labels : LabelNames
         globals =
             globals_from m read value same 0 m.global_variables (from_start m.global_variables) i;
         functions =
-            functions_declared m explicit labels info declarations ends 0 m.functions info.functions.items
+            functions_declared m flags labels info declarations ends 0 m.functions info.functions.items
             (functions_counted m info accepted) (from_start m.functions) i;
         entry_points = entry_points i;
       }
 
-  pub has_interface_under : HasInterfaceOf m info (program_under labels m info explicit)
+  pub has_interface_under : HasInterfaceOf m info flags (program_under labels m info flags)
   has_interface_under = record {
     tells = tells_interface;
-    layouts = keeps_layouts m info explicit labels accepted declarations;
+    layouts = keeps_layouts m info flags labels accepted declarations;
   }
 
-pub has_interface : (m : Module) (info : ModuleInfo) (explicit : Bool) →
-    IsTrue (is_accepted m info) → DeclarationsHaveForms m → AllWrittenHaveForms explicit m info →
-    HasInterfaceOf m info (written_program m info explicit)
-has_interface m info explicit = has_interface_under m info explicit (expression_name m)
+pub has_interface : (m : Module) (info : ModuleInfo) (flags : WriterFlags) →
+    IsTrue (is_accepted m info) → DeclarationsHaveForms m → AllWrittenHaveForms (annotates_types flags) m info →
+    HasInterfaceOf m info flags (written_program m info flags)
+has_interface m info flags = has_interface_under m info flags (expression_name m)

@@ -3,7 +3,7 @@
 --
 -- Throughout, m is a module, of which info is known, i is the number of a constant or an override, o
 -- that of an override alone, v a variable, and h the handle of one of the module's own expressions.
-use Rattle.std.proofs.Common.{◌≡◌, ℕ, ◌<◌, Bool, true, [], None, Some, suc, sym, ap, subst, ◌∙◌}
+use Rattle.std.proofs.Common.{◌≡◌, ℕ, ◌<◌, true, [], None, Some, suc, sym, ap, subst, ◌∙◌}
 use Rattle.std.proofs.Common.{List, length, map}
 use Rattle.std.specs.Option.{option_map_or}
 use Rattle.std.specs.Prelude.{IsTrue}
@@ -40,8 +40,9 @@ use Rattle.naga_form.proofs.Operators.{spelled_as_trees, SpellsTypes}
 use Rattle.naga_form.proofs.TextItems.{items_fit, reads_names}
 use Rattle.naga_form.specs.ConstantForms.{global_form}
 use Rattle.naga_form.specs.Declarations.{program_under}
+use Rattle.naga_back.specs.declared.flags.WriterFlags.{WriterFlags}
 
-module _ (m : Module) (info : ModuleInfo) (explicit : Bool) (named : LabelNames)
+module _ (m : Module) (info : ModuleInfo) (flags : WriterFlags) (named : LabelNames)
     (accepted : IsTrue (is_accepted m info)) where
   abbrev p : shapes.Module
   p = module_shape m info
@@ -50,20 +51,20 @@ module _ (m : Module) (info : ModuleInfo) (explicit : Bool) (named : LabelNames)
   n = outer_names (module_names m) m
 
   abbrev program : Program
-  program = program_under named m info explicit
+  program = program_under named m info flags
 
   abbrev fs : List TextFunction
   fs = (program_read program).functions
 
   fits : ItemsFit p n fs
-  fits = items_fit m info explicit named accepted
+  fits = items_fit m info flags named accepted
 
   -- what each name stands for
   abbrev names : Lookup
   names = text_names (program_read program)
 
   names_are : names ≡ text_names (form_module_with p n fs)
-  names_are = reads_names m info explicit named accepted
+  names_are = reads_names m info flags named accepted
 
   pub variable_found : (v : ℕ) → v < length m.global_variables →
       names (global_name (module_names m) v) ≡ Some (GlobalTarget v)

@@ -54,6 +54,7 @@ use Rattle.naga_form.proofs.ListPlaces.{formed_if, numbered_at}
 use Rattle.naga_form.proofs.Names.{item_is_identifier}
 use Rattle.naga_form.proofs.SameValues.{or_nothing}
 use Rattle.naga_form.specs.Declarations.{member_form, program_under}
+use Rattle.naga_back.specs.declared.flags.WriterFlags.{WriterFlags}
 
 -- ---- items that are counted
 module _ {X : Type 0} (test : X → Bool) where
@@ -126,9 +127,9 @@ stands_there w (x ∷ xs) i s place at = by (bytes_eq w x.name) refl place (λ i
         (λ e. false≢true (sym other ∙ (bytes_eq-Decides w x.name).1 (sym ((bytes_eq-Decides x.name w).0 e)))))
         ∙ left k.0 k.1 (ap (slice_get (x ∷ xs)) k.2 ∙ at)
 
-module _ (m : Module) (info : ModuleInfo) (explicit : Bool) (labels : LabelNames) where
+module _ (m : Module) (info : ModuleInfo) (flags : WriterFlags) (labels : LabelNames) where
   abbrev program : Program
-  program = program_under labels m info explicit
+  program = program_under labels m info flags
 
   -- a text declares the type
   abbrev declares : ℕ × Type_ → Bool
@@ -154,7 +155,7 @@ module _ (m : Module) (info : ModuleInfo) (explicit : Bool) (labels : LabelNames
         found =
             subst (λ w. struct_named program.structs w ≡ Some (record { name = w; members = (form (h, ty)).members })) (sym same)
             (stands_there (name_in (module_names m) (key.Type_ h)) program.structs (struct_number m h) (form (h, ty))
-            (struct_found m info explicit labels h ty at is) (struct_at m info explicit labels h ty at is));
+            (struct_found m info flags labels h ty at is) (struct_at m info flags labels h ty at is));
         named = subst IsIdentifier (sym same) (item_is_identifier m (key.Type_ h, has.0) has.1);
         next = one_more declares (enumerate_from 0 m.types) h (h, ty) (numbered_at m.types h ty at) is;
       }
@@ -235,11 +236,11 @@ module _ (m : Module) (info : ModuleInfo) (explicit : Bool) (labels : LabelNames
         (keeps_one h own.0 ks own.1 is (members_aligned (layout_in m) (all_aligned (module_rule m) m.types) (members_of own.0.inner) ks parts.placed) parts.concerned)
 
 -- an accepted module's layouts are kept, where all that it declares has a form
-pub keeps_layouts : (m : Module) (info : ModuleInfo) (explicit : Bool) (labels : LabelNames) → IsTrue (is_accepted m info) →
-    DeclarationsHaveForms m → KeepsLayouts m (program_under labels m info explicit)
-keeps_layouts m info explicit labels accepted forms = keeps m info explicit labels accepted forms
+pub keeps_layouts : (m : Module) (info : ModuleInfo) (flags : WriterFlags) (labels : LabelNames) → IsTrue (is_accepted m info) →
+    DeclarationsHaveForms m → KeepsLayouts m (program_under labels m info flags)
+keeps_layouts m info flags labels accepted forms = keeps m info flags labels accepted forms
 
 -- and users are told them
-pub tells_layouts : (m : Module) (info : ModuleInfo) (explicit : Bool) (labels : LabelNames) → IsTrue (is_accepted m info) →
-    DeclarationsHaveForms m → TellsLayouts m (program_under labels m info explicit)
-tells_layouts m info explicit labels accepted forms = tells m info explicit labels accepted forms
+pub tells_layouts : (m : Module) (info : ModuleInfo) (flags : WriterFlags) (labels : LabelNames) → IsTrue (is_accepted m info) →
+    DeclarationsHaveForms m → TellsLayouts m (program_under labels m info flags)
+tells_layouts m info flags labels accepted forms = tells m info flags labels accepted forms

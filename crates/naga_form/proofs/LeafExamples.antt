@@ -85,6 +85,7 @@ source = record {
   declared = declared;
   type_names = type_words;
   constant = λ h. Name (codes "limit");
+  portable = false;
 }
 
 module _ (f : Function) where

@@ -15,6 +15,9 @@ module _ (m : Module) where
   literal_typed (literal.F64 bits) = refl
   literal_typed (literal.F32 bits) = refl
   literal_typed (literal.F16 bits) = refl
+  literal_typed (literal.DecimalF64 numeral) = refl
+  literal_typed (literal.DecimalF32 numeral) = refl
+  literal_typed (literal.DecimalF16 numeral) = refl
   literal_typed (literal.U16 value) = refl
   literal_typed (literal.I16 value) = refl
   literal_typed (literal.U32 value) = refl
@@ -30,6 +33,9 @@ pub literal_is_none : (v : Literal) → IsLiteral (literal_value v)
 literal_is_none (literal.F64 bits) = tt
 literal_is_none (literal.F32 bits) = tt
 literal_is_none (literal.F16 bits) = tt
+literal_is_none (literal.DecimalF64 numeral) = tt
+literal_is_none (literal.DecimalF32 numeral) = tt
+literal_is_none (literal.DecimalF16 numeral) = tt
 literal_is_none (literal.U16 value) = tt
 literal_is_none (literal.I16 value) = tt
 literal_is_none (literal.U32 value) = tt

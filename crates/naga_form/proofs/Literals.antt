@@ -1,20 +1,33 @@
 -- Literals: their forms are of the grammar and are read with their values, and different literals
 -- have different values.
 use Rattle.std.proofs.Common.{◌≡◌, ℕ, ◌<◌, suc, Bool, true, false, refl, sym, ap, ◌∙◌, arith, ◌*◌}
-use Rattle.std.proofs.Common.{◌+◌, pos, negsuc, ◌^◌, ◌/◌, ◌%◌, ℤ}
-use Rattle.std.specs.Prelude.{codes, if◌then◌else◌, IsTrue, ◌==◌}
-use Rattle.std.proofs.lemmas.Bool.{false≢true, eqb-true, ltb-true, eqb-false}
+use Rattle.std.proofs.Common.{◌+◌, pos, negsuc, ◌^◌, ◌/◌, ◌%◌, ℤ, zero, ◌≤◌, List, length, nat_abs}
+use Rattle.std.specs.Prelude.{codes, if◌then◌else◌, IsTrue, ◌==◌, ◌↔◌, nat_lt, to_bits}
+use Rattle.std.specs.Float.{binary32, binary64}
+use Rattle.std.specs.Fmt.{decimal}
+use Rattle.std.specs.Str.{all_ascii_digits}
+use Rattle.std.specs.Str.Parse.{AllDigits, digits_value}
+use Rattle.std.proofs.lemmas.Bool.{false≢true, eqb-true, ltb-true, eqb-false, and_parts}
+use Rattle.std.proofs.lemmas.Fmt.{decimal_is_IsNumeral}
+use Rattle.std.proofs.lemmas.Str.Parse.{IsNumeralModel, numerals_by_value, tells_all_ascii_digits}
+use Rattle.float_numerals.specs.declared.decimal.Decimal.{Decimal}
+use Rattle.float_numerals.specs.Denoted.{told, has_near_power, is_in_range}
+use Rattle.float_numerals.specs.Texts.{double_exponent, double_fraction, double_whole}
+use Rattle.float_numerals.specs.Texts.{fraction_digits, whole_digits}
+use Rattle.float_numerals.proofs.Doubles.{double_told, double_written}
+use Rattle.float_numerals.proofs.Numerals.{decimal_split, told_is, told_half_is}
 use Rattle.naga_ir.specs.declared.expression.Literal.{Literal}
 use Rattle.naga_ir.specs.declared.expression.Literal as ir_literal
 use Rattle.naga_ir.specs.declared.expression.Literal.TheVariants as literal
 use Rattle.module_meaning.specs.Literals.{literal_is_within}
 use Rattle.module_meaning.specs.ExpressionForms.{is_written_literal}
-use Rattle.wgsl_text.specs.Literals.{Suffixed, LeastInteger, LeastLong, IsLiteral}
-use Rattle.wgsl_text.specs.Token.{SuffixI, SuffixLi}
+use Rattle.wgsl_text.specs.Literals.{Suffixed, LeastInteger, LeastLong, IsLiteral, IsFloating}
+use Rattle.wgsl_text.specs.Token.{AreDigits, IsPower, IsPrecision}
+use Rattle.wgsl_text.specs.Token.{SuffixI, SuffixLi, Precision, Half, Single}
 use Rattle.shader_runs.specs.Value.{Whole, Value, Truth, Opaque}
-use Rattle.naga_form.specs.Literals.{literal_form}
-use Rattle.module_meaning.specs.Literals.{literal_value, integer_payload, abstract_word}
-use Rattle.text_meaning.specs.Literals.{value_read}
+use Rattle.naga_form.specs.Literals.{literal_form, power_form}
+use Rattle.module_meaning.specs.Literals.{literal_value, integer_payload, abstract_word, with_bits}
+use Rattle.text_meaning.specs.Literals.{value_read, power_value, integer_of_sign}
 use Rattle.std.specs.Str.{bytes_eq}
 use Rattle.naga_ir.specs.declared.types.ScalarKind.TheVariants as kind
 
@@ -25,6 +38,23 @@ integer_read n false e = refl
 long_read : (n : ℕ) (b : Bool) → (n == 9223372036854775807) ≡ b → value_read (if b then LeastLong else Suffixed true (suc n) SuffixLi) ≡ Whole (codes "i64") (negsuc n)
 long_read n true e = ap (λ k. Whole (codes "i64") (negsuc k)) (sym (eqb-true n 9223372036854775807 e))
 long_read n false e = refl
+
+-- a numeral in range
+
+digits_fit : (d : Decimal) → is_in_range d ≡ true → d.digits < 2 ^ 64
+digits_fit d w = ltb-true d.digits (2 ^ 64) (and_parts (nat_lt d.digits (2 ^ 64)) (has_near_power d.exponent) w).0
+
+near_fits : (e : ℤ) → has_near_power e ≡ true → nat_abs e ≤ 2 ^ 63
+near_fits (pos n) w = (let less = ltb-true n 400 w in omega (arith, less))
+near_fits (negsuc n) w = (let less = ltb-true n 400 w in omega (arith, less))
+
+exponent_fits : (d : Decimal) → is_in_range d ≡ true → nat_abs d.exponent ≤ 2 ^ 63
+exponent_fits d w = near_fits d.exponent (and_parts (nat_lt d.digits (2 ^ 64)) (has_near_power d.exponent) w).1
+
+power_read : (e : ℤ) → nat_abs e < 2 ^ 64 → power_value (power_form e) ≡ e
+power_read (pos zero) small = refl
+power_read (pos (suc n)) small = ap (integer_of_sign false) (decimal_is_IsNumeral (suc n) small).1
+power_read (negsuc n) small = ap (integer_of_sign true) (decimal_is_IsNumeral (suc n) small).1
 
 -- a literal that is written is read with its value
 pub literal_read : (v : ir_literal.Literal) → is_written_literal v ≡ true → value_read (literal_form v) ≡ literal_value v
@@ -38,6 +68,13 @@ literal_read (literal.I16 (pos n)) w = refl
 literal_read (literal.I16 (negsuc n)) w = refl
 literal_read (literal.U16 n) w = refl
 literal_read (literal.U64 n) w = refl
+literal_read (literal.DecimalF64 numeral) w =
+    let fits = digits_fit numeral w in
+    let d = double_written numeral fits (exponent_fits numeral w) in
+    ap (λ e. Opaque (codes "f64") (to_bits binary64 (told binary64 numeral.negative (double_whole numeral) (double_fraction numeral) e))) (power_read (double_exponent numeral) d.small)
+    ∙ ap (λ x. Opaque (codes "f64") (to_bits binary64 x)) (double_told binary64 numeral fits)
+literal_read (literal.DecimalF32 numeral) w = ap (λ x. Opaque (codes "f32") (to_bits binary32 x)) (told_is binary32 numeral (digits_fit numeral w))
+literal_read (literal.DecimalF16 numeral) w = ap (λ n. Opaque (codes "f16") n) (told_half_is numeral (digits_fit numeral w))
 literal_read _ w = absurd (false≢true w)
 
 -- of the grammar
@@ -49,6 +86,26 @@ least_or n false e lt = let other : n ≡ 2147483647 → ⊥ = eqb-false n 21474
 least_long_or : (n : ℕ) (b : Bool) → (n == 9223372036854775807) ≡ b → n < 2 ^ 63 → IsLiteral (if b then LeastLong else Suffixed true (suc n) SuffixLi)
 least_long_or n true e lt = tt
 least_long_or n false e lt = let other : n ≡ 9223372036854775807 → ⊥ = eqb-false n 9223372036854775807 e in omega (arith, lt, other)
+
+own_digits : IsNumeralModel (λ ds. all_ascii_digits ds ≡ true) (digits_value 10)
+own_digits = numerals_by_value _ tells_all_ascii_digits
+
+are_digits : (ds : List ℕ) → 0 < length ds → AllDigits 10 ds → AreDigits ds
+are_digits ds some is = record { some = some; digits = own_digits.from ds is }
+
+decimal_is : (d : Decimal) (precision : Precision) → d.digits < 2 ^ 64 → IsPrecision precision → IsFloating (whole_digits d) (fraction_digits d) precision
+decimal_is d precision fits is =
+    let s = decimal_split d fits in
+    record {
+      whole_digits = are_digits (whole_digits d) s.some s.whole_digits;
+      fraction_digits = own_digits.from (fraction_digits d) s.fraction_digits;
+      power_digits = is;
+    }
+
+power_is : (e : ℤ) → nat_abs e < 2 ^ 64 → IsPower (power_form e)
+power_is (pos zero) small = tt
+power_is (pos (suc n)) small = (let is = (decimal_is_IsNumeral (suc n) small).0 in are_digits (decimal (suc n)) is.0 is.1)
+power_is (negsuc n) small = (let is = (decimal_is_IsNumeral (suc n) small).0 in are_digits (decimal (suc n)) is.0 is.1)
 
 pub literal_is : (v : ir_literal.Literal) → IsTrue (is_written_literal v) → IsTrue (literal_is_within v) → IsLiteral (literal_form v)
 literal_is (literal.Bool b) w e = tt
@@ -62,6 +119,15 @@ literal_is (literal.U16 n) w e = ltb-true n (2 ^ 16) e
 literal_is (literal.I64 (pos n)) w e = ltb-true n (2 ^ 63) e
 literal_is (literal.I64 (negsuc n)) w e = least_long_or n (n == 9223372036854775807) refl (ltb-true n (2 ^ 63) e)
 literal_is (literal.U64 n) w e = ltb-true n (2 ^ 64) e
+literal_is (literal.DecimalF64 numeral) w e =
+    let d = double_written numeral (digits_fit numeral w) (exponent_fits numeral w) in
+    record {
+      whole_digits = are_digits (double_whole numeral) d.some d.whole_digits;
+      fraction_digits = own_digits.from (double_fraction numeral) d.fraction_digits;
+      power_digits = power_is (double_exponent numeral) d.small;
+    }
+literal_is (literal.DecimalF32 numeral) w e = decimal_is numeral Single (digits_fit numeral w) tt
+literal_is (literal.DecimalF16 numeral) w e = decimal_is numeral Half (digits_fit numeral w) tt
 literal_is _ w e = absurd (cc)
 
 -- different values
@@ -100,9 +166,29 @@ literal_of (Opaque w n) =
 literal_of (Truth b) = literal.Bool b
 literal_of _ = literal.U32 0
 
-literal_distinguished : (v : Literal) → literal_of (literal_value v) ≡ v
+literal_distinguished : (v : Literal) → literal_of (literal_value v) ≡ with_bits v
 literal_distinguished (literal.AbstractInt z) = ap literal.AbstractInt (integer_distinguished z)
 literal_distinguished _ = refl
 
-pub values_apart : (a b : Literal) → literal_value a ≡ literal_value b → a ≡ b
-values_apart a b e = sym (literal_distinguished a) ∙ (ap literal_of e ∙ literal_distinguished b)
+value_with_bits : (v : Literal) → literal_value (with_bits v) ≡ literal_value v
+value_with_bits (literal.F64 bits) = refl
+value_with_bits (literal.F32 bits) = refl
+value_with_bits (literal.F16 bits) = refl
+value_with_bits (literal.DecimalF64 numeral) = refl
+value_with_bits (literal.DecimalF32 numeral) = refl
+value_with_bits (literal.DecimalF16 numeral) = refl
+value_with_bits (literal.U16 value) = refl
+value_with_bits (literal.I16 value) = refl
+value_with_bits (literal.U32 value) = refl
+value_with_bits (literal.I32 value) = refl
+value_with_bits (literal.U64 value) = refl
+value_with_bits (literal.I64 value) = refl
+value_with_bits (literal.Bool value) = refl
+value_with_bits (literal.AbstractInt value) = refl
+value_with_bits (literal.AbstractFloat bits) = refl
+
+pub values_apart : (a b : Literal) → (literal_value a ≡ literal_value b) ↔ (with_bits a ≡ with_bits b)
+values_apart a b = (
+  λ e. sym (literal_distinguished a) ∙ (ap literal_of e ∙ literal_distinguished b),
+  λ e. sym (value_with_bits a) ∙ (ap literal_value e ∙ value_with_bits b),
+)

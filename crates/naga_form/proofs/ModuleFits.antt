@@ -55,6 +55,8 @@ use Rattle.naga_form.proofs.ItemKeys.{CountsItems}
 use Rattle.naga_form.proofs.NamedConstants.{constants_length}
 use Rattle.naga_form.proofs.OutsideWords.{global_words as global_words_outside}
 use Rattle.naga_form.proofs.OutsideWords.{initialiser_words_outside}
+use Rattle.naga_back.specs.declared.flags.WriterFlags.{WriterFlags}
+use Rattle.naga_back.specs.Flags.{annotates_types}
 
 -- ---- lists
 -- there are as many shapes as functions
@@ -161,7 +163,7 @@ module _ (m : Module) (info : ModuleInfo) (accepted : IsTrue (is_accepted m info
       (initialiser_words_outside m info (types_are_fit m info accepted) p counts found.constant))
       (constants_tell m p counts)
 
-  module _ (explicit : Bool) (have : AllWrittenHaveForms explicit m info) where
+  module _ (flags : WriterFlags) (have : AllWrittenHaveForms (annotates_types flags) m info) where
     -- the statements of each function that is known have forms
     forms_at : (k : ℕ) (f : ir_function.Function) (es : List ExpressionInfo) →
         slice_get (functions_known m info) k ≡ Some (f, es) → block_has_forms f.body ≡ true

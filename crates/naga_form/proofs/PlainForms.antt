@@ -11,6 +11,7 @@ use Rattle.naga_form.specs.Expressions.{variable_plain, PlainForm, ValueForm, Re
 use Rattle.naga_form.specs.Expressions.{as_value, as_reference, applied_plain, no_form, own_plain}
 use Rattle.naga_form.specs.Expressions.{own_if, availability_plain, plain_below, plain_form, Source}
 use Rattle.naga_form.specs.Expressions.{function_source, constant_form, value_forms, cast_tree}
+use Rattle.naga_form.specs.Expressions.{zero_is_whole}
 use Rattle.naga_form.specs.Expressions.{load_tree, operator_type, unnamed_form}
 use Rattle.shader_runs.specs.Value.{Selector, MemberNamed, ElementAt}
 use Rattle.wgsl_text.specs.Expressions.{Index, IsExpression}
@@ -67,6 +68,7 @@ use Rattle.naga_ir.specs.declared.expression.Expression.TheVariants as expressio
 use Rattle.shader_runs.specs.Program.{binds}
 use Rattle.shader_runs.specs.Scope.{Availability, Bound, Handles, Naming}
 use Rattle.module_meaning.specs.Namings.{function_naming}
+use Rattle.naga_back.specs.declared.flags.WriterFlags.{WriterFlags}
 
 -- ---- plain forms
 -- a plain form of the grammar
@@ -116,7 +118,7 @@ pub values_are : (operand : ℕ → PlainForm) (hs : List ℕ) → ArePlain oper
 values_are operand [] all = tt
 values_are operand (h ∷ hs) all = (value_is_one (operand h) all.0, values_are operand hs all.1)
 
-module _ (m : Module) (info : ModuleInfo) (g : ℕ) (f : ir_function.Function)
+module _ (flags : WriterFlags) (m : Module) (info : ModuleInfo) (g : ℕ) (f : ir_function.Function)
     (found : slice_get (all_functions m) g ≡ Some f) (es : List ExpressionInfo) (callees : ℕ)
     (ranges : function_in_range m callees f ≡ true) (W : ℕ → Type 0)
     (closed : AreClosed W (binds (function_shape m info f es)) f) (written : AreWritten W m f es)
@@ -129,7 +131,7 @@ module _ (m : Module) (info : ModuleInfo) (g : ℕ) (f : ir_function.Function)
   own = function_naming (module_names m) named m info g f es
 
   abbrev source : Source
-  source = function_source m info f es
+  source = function_source flags m info f es
 
   abbrev d : Declared
   d = source.declared
@@ -289,7 +291,8 @@ module _ (m : Module) (info : ModuleInfo) (g : ℕ) (f : ir_function.Function)
       (option_to_list offset) all))
       (constants_are (option_to_list offset) is.1) gather level (is_some depth_ref) clamp
       (is_some array_index) (is_some offset)
-      (option_map_or is_depth_image (type_known d.context image) false) is.0
+      (option_map_or is_depth_image (type_known d.context image) false)
+      (zero_is_whole source image) is.0
   own_is operand h e at is all =
       application_is no_form tt operand (operator_type d.context (type_names m) e) (expression_operands e) all
       (applied_operator d.context e)

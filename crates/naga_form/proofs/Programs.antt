@@ -1,6 +1,6 @@
 -- What is written for a module is a program of the grammar.
 use Rattle.module_meaning.specs.Accepted.{is_accepted}
-use Rattle.module_meaning.specs.Enables.{Extension, extensions, is_needed}
+use Rattle.module_meaning.specs.Enables.{Extension, extensions, is_enabled}
 use Rattle.module_meaning.specs.DeclarationForms.{DeclarationsHaveForms}
 use Rattle.module_meaning.specs.ExpressionTypes.{have_their_types}
 use Rattle.module_meaning.specs.Numbers.{binding_fits_32_bits}
@@ -75,6 +75,8 @@ use Rattle.module_meaning.specs.StatementsFit.{body_is_sound}
 use Rattle.naga_form.proofs.FittingStatements.{body_fits}
 use Rattle.naga_form.proofs.PlainForms.{IsPlainForm, NamesAre, plain_is, unnamed_is, value_is_one}
 use Rattle.naga_form.proofs.StatementPrograms.{lines_are, start_is}
+use Rattle.naga_back.specs.declared.flags.WriterFlags.{WriterFlags}
+use Rattle.naga_back.specs.Flags.{annotates_types, is_portable}
 
 -- ---- functions
 module _ (m : Module) (info : ModuleInfo) (g : ℕ) (f : ir_function.Function)
@@ -83,8 +85,8 @@ module _ (m : Module) (info : ModuleInfo) (g : ℕ) (f : ir_function.Function)
     (sound : body_is_sound m f (map (λ e. e.ty) es) ≡ true) (W : ℕ → Type 0)
     (closed : AreClosed W (binds (function_shape m info f es)) f) (written : AreWritten W m f es)
     (types : TypesAreFit m) (fits : (h : ℕ) (k : ExpressionInfo) → slice_get es h ≡ Some k →
-    IsFit m k.ty) (demands : are_operands_fit m.types (map (λ e. e.ty) es) f.expressions ≡ true) (explicit : Bool)
-    (spelled : (r : TypeResolution) → IsSpelledIn explicit m info f es r → is_spellable m r ≡ true)
+    IsFit m k.ty) (demands : are_operands_fit m.types (map (λ e. e.ty) es) f.expressions ≡ true) (flags : WriterFlags)
+    (spelled : (r : TypeResolution) → IsSpelledIn (annotates_types flags) m info f es r → is_spellable m r ≡ true)
     (few : length f.expressions ≤ 2 ^ 64) (named : ℕ → List ℕ) (identifiers : (k : ℕ) →
     k < length (expression_labels f) → IsIdentifier (named k)) (constants : (c : ℕ) →
     constant_is_written m c ≡ true → IsExpression (written_constant_form m (type_names m) c)) where
@@ -92,19 +94,19 @@ module _ (m : Module) (info : ModuleInfo) (g : ℕ) (f : ir_function.Function)
   own = function_naming (module_names m) named m info g f es
 
   abbrev source : Source
-  source = function_source m info f es
+  source = function_source flags m info f es
 
   abbrev d : Declared
   d = source.declared
 
   formed : (s : Handles) → NamesAre s → (h : ℕ) → W h → IsPlainForm (plain_form own source s h)
-  formed = plain_is m info g f found es callees ranges W closed written types fits demands named constants
+  formed = plain_is flags m info g f found es callees ranges W closed written types fits demands named constants
 
   unnamed_formed : (s : Handles) → NamesAre s → (h : ℕ) → W h → IsPlainForm (unnamed_form own source s h)
-  unnamed_formed = unnamed_is m info g f found es callees ranges W closed written types fits demands named constants
+  unnamed_formed = unnamed_is flags m info g f found es callees ranges W closed written types fits demands named constants
 
   starts : NamesAre (at_start own.function)
-  starts = start_is m info g f es named identifiers few
+  starts = start_is flags m info g f es named identifiers few
 
   locals_are : (l : ℕ) (vs : List LocalVariable) → l + length vs ≡ length f.local_variables →
       ((k : ℕ) → slice_get vs k ≡ slice_get f.local_variables (k + l)) →
@@ -181,7 +183,7 @@ module _ (m : Module) (info : ModuleInfo) (g : ℕ) (f : ir_function.Function)
   result_named : (h : ℕ) → h < length f.expressions → IsIdentifier (numbered_name h)
   result_named h lt = numbered_is h (omega (arith, lt, few))
 
-  function_is : block_has_forms f.body ≡ true → IsFunction (function_form explicit (module_names m) named m info g f es)
+  function_is : block_has_forms f.body ≡ true → IsFunction (function_form flags (module_names m) named m info g f es)
   function_is has =
       let all : 0 + length f.arguments.items ≡ length f.arguments.items = omega arith in
       let all_labels : 0 + length (expression_labels f) ≤ length (expression_labels f) = omega arith in
@@ -194,20 +196,20 @@ module _ (m : Module) (info : ModuleInfo) (g : ℕ) (f : ir_function.Function)
         parameters = parameters_are 0 f.arguments.items all (λ k. ap (slice_get f.arguments.items) (sym (add-zero k)));
         result = result_is f.result refl;
         locals = locals_are 0 f.local_variables all_locals (λ k. ap (slice_get f.local_variables) (sym (add-zero k))) (locals_are_in_range m callees f ranges);
-        body = lines_are m info g f es named identifiers few W formed unnamed_formed
-            (annotated_type explicit m (type_names m) es) (distinguished_is m types explicit es fits) 0
+        body = lines_are flags m info g f es named identifiers few W formed unnamed_formed
+            (annotated_type (annotates_types flags) m (type_names m) es) (distinguished_is m types (annotates_types flags) es fits) 0
             f.body statements (at_start own.function) starts all_labels closed.body;
       }
 
 -- ---- modules
-module _ (explicit : Bool) (m : Module) (info : ModuleInfo) (accepted : IsTrue (is_accepted m info)) where
+module _ (flags : WriterFlags) (m : Module) (info : ModuleInfo) (accepted : IsTrue (is_accepted m info)) where
   -- a function, under names of front ends that are identifiers
   pub one_is : (named : ℕ → List ℕ) (g : ℕ) (f : ir_function.Function)
       (found : slice_get (all_functions m) g ≡ Some f) (es : List ExpressionInfo) →
       slice_get (all_infos info) g ≡ Some es →
       ((k : ℕ) → k < length (expression_labels f) → IsIdentifier (named k)) →
-      WrittenHaveForms explicit m info f es → length f.expressions ≤ 2 ^ 64 →
-      IsFunction (function_form explicit (module_names m) named m info g f es)
+      WrittenHaveForms (annotates_types flags) m info f es → length f.expressions ≤ 2 ^ 64 →
+      IsFunction (function_form flags (module_names m) named m info g f es)
   one_is named g f found es here named_are have few =
       let is = of_number m info accepted g f es found here in
       let sound = soundness_is m f es is.sound in
@@ -215,15 +217,15 @@ module _ (explicit : Bool) (m : Module) (info : ModuleInfo) (accepted : IsTrue (
       let demands = (and_parts (have_their_types m (Some f) known f.expressions) (are_operands_fit m.types known f.expressions) sound.0).1 in
       function_is m info g f found es is.callees is.there is.ranges sound.1 (IsWrittenIn m info f es)
       (written_are_closed m info f es) have.expressions (types_are_fit m info accepted)
-      (known_fits m info accepted g es here) demands explicit have.types few named named_are
+      (known_fits m info accepted g es here) demands flags have.types few named named_are
       (written_constants m info accepted) have.statements
 
-  module _ (have : AllWrittenHaveForms explicit m info) (few : IsTrue (handles_are_counted m))
+  module _ (have : AllWrittenHaveForms (annotates_types flags) m info) (few : IsTrue (handles_are_counted m))
       (named : LabelNames) (are : AreLabelNames m named) where
     -- one in a text of the whole module
     one_there : (g : ℕ) (f : ir_function.Function) (es : List ExpressionInfo) →
         slice_get (all_functions m) g ≡ Some f → slice_get (all_infos info) g ≡ Some es →
-        IsFunction (function_form explicit (module_names m) (named g) m info g f es)
+        IsFunction (function_form flags (module_names m) (named g) m info g f es)
     one_there g f es found known =
         one_is (named g) g f found es known (are g f found).identifiers
         (have g f es found known)
@@ -235,7 +237,7 @@ module _ (explicit : Bool) (m : Module) (info : ModuleInfo) (accepted : IsTrue (
         slice_get m.functions (g + i) ≡ Some f) →
         ((i : ℕ) (es : List ExpressionInfo) → slice_get ess i ≡ Some es →
         slice_get info.functions.items (g + i) ≡ Some es) →
-        Each IsFunction (functions_under named explicit (module_names m) m info g fs ess)
+        Each IsFunction (functions_under named flags (module_names m) m info g fs ess)
     functions_are g [] [] there known = tt
     functions_are g [] (es ∷ ess) there known = tt
     functions_are g (f ∷ fs) [] there known = tt
@@ -252,7 +254,7 @@ module _ (explicit : Bool) (m : Module) (info : ModuleInfo) (accepted : IsTrue (
         slice_get m.entry_points.items (j + i) ≡ Some p) →
         ((i : ℕ) (es : List ExpressionInfo) → slice_get ess i ≡ Some es →
         slice_get info.entry_points.items (j + i) ≡ Some es) →
-        Each IsEntryPoint (entry_points_under named explicit (module_names m) m info g ps ess)
+        Each IsEntryPoint (entry_points_under named flags (module_names m) m info g ps ess)
     entry_points_are declarations g j at [] [] there known = tt
     entry_points_are declarations g j at [] (es ∷ ess) there known = tt
     entry_points_are declarations g j at (p ∷ ps) [] there known = tt
@@ -285,29 +287,29 @@ enables_are needs (x ∷ xs) all = by (needs x) (enables_are needs xs all.1)
     by false more = more
 
 -- under whatever names labels may have
-pub is_program_under : (m : Module) (info : ModuleInfo) (explicit : Bool) (named : LabelNames) →
+pub is_program_under : (m : Module) (info : ModuleInfo) (flags : WriterFlags) (named : LabelNames) →
     AreLabelNames m named → IsTrue (is_accepted m info) → DeclarationsHaveForms m →
-    AllWrittenHaveForms explicit m info → IsTrue (handles_are_counted m) →
-    IsProgram (program_under named m info explicit)
-is_program_under m info explicit named are accepted declarations have few =
+    AllWrittenHaveForms (annotates_types flags) m info → IsTrue (handles_are_counted m) →
+    IsProgram (program_under named m info flags)
+is_program_under m info flags named are accepted declarations have few =
     let first : length m.functions ≡ length m.functions + 0 = omega arith in
     record {
-      enables = enables_are (is_needed m) extensions
-          (refl, (refl, (refl, (refl, (refl, (refl, (refl, (refl, (refl, (refl, (refl, tt)))))))))));
+      enables = enables_are (is_enabled (is_portable flags) m info) extensions
+          (refl, (refl, (refl, (refl, (refl, (refl, (refl, (refl, (refl, (refl, (refl, (refl, tt))))))))))));
       structs = structs_are m info accepted declarations;
       constants = constants_are m info accepted declarations;
       overrides = overrides_are m info accepted declarations;
       globals = variables_are m info accepted declarations;
-      functions = functions_are explicit m info accepted have few named are 0 m.functions
+      functions = functions_are flags m info accepted have few named are 0 m.functions
           info.functions.items (from_start m.functions) (from_start info.functions.items);
-      entry_points = entry_points_are explicit m info accepted have few named are declarations
+      entry_points = entry_points_are flags m info accepted have few named are declarations
           (length m.functions) 0 first m.entry_points.items info.entry_points.items
           (from_start m.entry_points.items) (from_start info.entry_points.items);
     }
 
-pub is_program : (m : Module) (info : ModuleInfo) (explicit : Bool) → IsTrue (is_accepted m info) →
-    DeclarationsHaveForms m → AllWrittenHaveForms explicit m info →
-    IsTrue (handles_are_counted m) → IsProgram (written_program m info explicit)
-is_program m info explicit accepted declarations have few =
-    is_program_under m info explicit (expression_name m) (expression_names_are m) accepted
+pub is_program : (m : Module) (info : ModuleInfo) (flags : WriterFlags) → IsTrue (is_accepted m info) →
+    DeclarationsHaveForms m → AllWrittenHaveForms (annotates_types flags) m info →
+    IsTrue (handles_are_counted m) → IsProgram (written_program m info flags)
+is_program m info flags accepted declarations have few =
+    is_program_under m info flags (expression_name m) (expression_names_are m) accepted
     declarations have few

@@ -24,7 +24,7 @@ use Rattle.module_meaning.specs.ExpressionShapes.{constant_tree, trees, written_
 use Rattle.naga_form.proofs.ConstantForms.{IsReadAs}
 use Rattle.naga_form.proofs.Images.{sampling_read, without_offset}
 use Rattle.naga_form.proofs.Operators.{AllReadLike}
-use Rattle.naga_form.specs.Expressions.{constant_form, value_forms}
+use Rattle.naga_form.specs.Expressions.{constant_form, value_forms, zero_is_whole}
 use Rattle.naga_form.specs.Images.{sampling_form}
 use Rattle.naga_ir.specs.Operands.{level_operands}
 use Rattle.shader_runs.specs.Form.{constant_forms}
@@ -339,7 +339,7 @@ module _ (m : Module) (n : Naming) (code : Source)
           (is_some array_index) (is_some o) in
           let c = option_and_then tree_of o in
           expression_read
-          (sampling_form op (zero_is_written (level_of level) unwritten)
+          (sampling_form op (zero_is_written (level_of level) unwritten) (zero_is_whole code image)
           (value_forms operand (image ∷ hs)) (map (constant_form code) (option_to_list o))) ≡
           Apply (run_word op)
           (runs.value_forms_then like
@@ -348,13 +348,14 @@ module _ (m : Module) (n : Naming) (code : Source)
           (constant_forms n.names.outer (trees (written_zero level unwritten ++ option_to_list c)))))
       by None out =
           sampling_read operand like n.names.outer gather level (is_some depth_ref) clamp
-          (is_some array_index) false of_depths unwritten w image hs reads [] None refl
+          (is_some array_index) false of_depths unwritten (zero_is_whole code image) w image hs
+          reads [] None refl
       by (Some x) out =
           let op =
           sample_operator of_depths gather (level_of level) (is_some depth_ref) clamp
           (is_some array_index) true in
           sampling_read operand like n.names.outer gather level (is_some depth_ref) clamp
-          (is_some array_index) true of_depths unwritten w image hs reads
+          (is_some array_index) true of_depths unwritten (zero_is_whole code image) w image hs reads
           (constant_form code x ∷ []) (Some out.0.0) (ap (λ e. trees_of_text.more e trees_of_text.no_more) out.0.2)
           ∙ ap
           (λ c. Apply (run_word op)

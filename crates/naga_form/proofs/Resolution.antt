@@ -50,6 +50,8 @@ use Rattle.naga_form.proofs.ScopeRules.{scopes_are_checked_under}
 use Rattle.naga_form.proofs.ModuleFits.{module_fits_under}
 use Rattle.naga_form.proofs.Runs.{reads_as_shapes_under}
 use Rattle.module_meaning.specs.Written.{AllWrittenHaveForms}
+use Rattle.naga_back.specs.declared.flags.WriterFlags.{WriterFlags}
+use Rattle.naga_back.specs.Flags.{annotates_types}
 
 -- the arguments and locals of a function in range are its own
 module _ (m : Module) (info : ModuleInfo) (callees : ℕ) (f : ir_function.Function) (ranges : function_in_range m callees f ≡ true) (es : List ExpressionInfo) where
@@ -107,45 +109,45 @@ module _ (m : Module) (info : ModuleInfo) (named : LabelNames)
       (function_naming (module_names m) (named g) m info g f es ∷ behind)
       (leaves_are_own m info is.callees f is.ranges es, all)
 
-bodies_resolve : (m : Module) (info : ModuleInfo) (explicit : Bool) (named : LabelNames) →
+bodies_resolve : (m : Module) (info : ModuleInfo) (flags : WriterFlags) (named : LabelNames) →
     AreLabelNames m named → IsTrue (is_accepted m info) → DeclarationsHaveForms m →
-    AllWrittenHaveForms explicit m info → ScopesHold m info →
-    BodiesResolve named m info (program_under named m info explicit)
-bodies_resolve m info explicit named are accepted declarations have scope =
+    AllWrittenHaveForms (annotates_types flags) m info → ScopesHold m info →
+    BodiesResolve named m info (program_under named m info flags)
+bodies_resolve m info flags named are accepted declarations have scope =
     let names = module_names m in
-    ap text_targets (reads_as_shapes_under m info explicit named accepted declarations have)
+    ap text_targets (reads_as_shapes_under m info flags named accepted declarations have)
     ∙ resolves_as_meant (module_shape m info) (outer_names names m) (namings_under named names m info)
-    (module_fits_under m info accepted explicit have named are
+    (module_fits_under m info accepted flags have named are
     ((scopes_are_checked_under m info accepted named).1 scope))
     (leaves_stand m info named accepted 0 (all_functions m) (all_infos info)
     (from_start (all_functions m)) [] tt)
 
-not_hidden : (m : Module) (info : ModuleInfo) (explicit : Bool) (named : LabelNames) →
+not_hidden : (m : Module) (info : ModuleInfo) (flags : WriterFlags) (named : LabelNames) →
     AreLabelNames m named → IsTrue (is_accepted m info) → DeclarationsHaveForms m →
-    AllWrittenHaveForms explicit m info →
-    IsTrue (types_are_not_hidden (program_under named m info explicit))
-not_hidden m info explicit named are accepted declarations have =
-    ap (λ t. list_all (hides_none m info explicit named) t.functions)
-    (reads_as_shapes_under m info explicit named accepted declarations have)
-    ∙ functions_hide_none m info explicit named are 0 (all_functions m) (all_infos info)
+    AllWrittenHaveForms (annotates_types flags) m info →
+    IsTrue (types_are_not_hidden (program_under named m info flags))
+not_hidden m info flags named are accepted declarations have =
+    ap (λ t. list_all (hides_none m info flags named) t.functions)
+    (reads_as_shapes_under m info flags named accepted declarations have)
+    ∙ functions_hide_none m info flags named are 0 (all_functions m) (all_infos info)
     (from_start (all_functions m)) [] refl
 
 -- under whatever names labels may have
-pub resolves_under : (m : Module) (info : ModuleInfo) (explicit : Bool) (named : LabelNames) →
+pub resolves_under : (m : Module) (info : ModuleInfo) (flags : WriterFlags) (named : LabelNames) →
     AreLabelNames m named → IsTrue (is_accepted m info) → DeclarationsHaveForms m →
-    AllWrittenHaveForms explicit m info → ScopesHold m info →
-    ResolvesUnder named m info (program_under named m info explicit)
-resolves_under m info explicit named are accepted declarations have scope = record {
-  bodies = bodies_resolve m info explicit named are accepted declarations have scope;
+    AllWrittenHaveForms (annotates_types flags) m info → ScopesHold m info →
+    ResolvesUnder named m info (program_under named m info flags)
+resolves_under m info flags named are accepted declarations have scope = record {
+  bodies = bodies_resolve m info flags named are accepted declarations have scope;
   initialisers =
-      initialisers_resolve m info explicit named accepted (others_have_forms m declarations);
-  items = items_resolve m info explicit named accepted;
-  not_hidden = not_hidden m info explicit named are accepted declarations have;
+      initialisers_resolve m info flags named accepted (others_have_forms m declarations);
+  items = items_resolve m info flags named accepted;
+  not_hidden = not_hidden m info flags named are accepted declarations have;
 }
 
-pub resolves : (m : Module) (info : ModuleInfo) (explicit : Bool) → IsTrue (is_accepted m info) →
-    DeclarationsHaveForms m → AllWrittenHaveForms explicit m info → ScopesHold m info →
-    ResolvesAs m info (written_program m info explicit)
-resolves m info explicit accepted declarations have scope =
-    resolves_under m info explicit (expression_name m) (expression_names_are m) accepted declarations
+pub resolves : (m : Module) (info : ModuleInfo) (flags : WriterFlags) → IsTrue (is_accepted m info) →
+    DeclarationsHaveForms m → AllWrittenHaveForms (annotates_types flags) m info → ScopesHold m info →
+    ResolvesAs m info (written_program m info flags)
+resolves m info flags accepted declarations have scope =
+    resolves_under m info flags (expression_name m) (expression_names_are m) accepted declarations
     have scope

@@ -2,7 +2,7 @@
 --
 -- Throughout, names are those of the module, find tells what each name stands for, count is how many
 -- variables there are, e is an entry point, v a variable, and first and second are attributes.
-use Rattle.std.proofs.Common.{◌≡◌, ℕ, ◌+◌, ◌<◌, Bool, true, List, [], ◌∷◌, ◌++◌, Option, Some, None}
+use Rattle.std.proofs.Common.{◌≡◌, ℕ, ◌+◌, ◌<◌, true, List, [], ◌∷◌, ◌++◌, Option, Some, None}
 use Rattle.std.proofs.Common.{refl, sym, ap, subst, ◌∙◌, arith, append-nil, length, map, slice_get}
 use Rattle.std.proofs.Common.{suc}
 use Rattle.std.specs.List.{filter_map}
@@ -27,6 +27,7 @@ use Rattle.wgsl_text.specs.Attributes.{Attribute, IncomingPayload, Mesh, Payload
 use Rattle.naga_form.specs.Attributes.{attribute_of, payload_attributes, size_attributes}
 use Rattle.naga_form.specs.Attributes.{stage_attributes}
 use Rattle.naga_form.specs.Declarations.{entry_points_under}
+use Rattle.naga_back.specs.declared.flags.WriterFlags.{WriterFlags}
 
 module _ (names : NameMap) (find : Lookup) (count : ℕ) (found : (v : ℕ) → v < count →
     find (global_name names v) ≡ Some (GlobalTarget v)) where
@@ -104,16 +105,16 @@ module _ (names : NameMap) (find : Lookup) (count : ℕ) (found : (v : ℕ) → 
   stage_named e within stage.Miss = incoming_named e.incoming_ray_payload within.2
 
   -- so it is of each entry point
-  pub stages_named : (explicit : Bool) (labels : LabelNames) (m : Module) (info : ModuleInfo) (number : ℕ)
+  pub stages_named : (flags : WriterFlags) (labels : LabelNames) (m : Module) (info : ModuleInfo) (number : ℕ)
       (ps : List EntryPoint) (ess : List (List ExpressionInfo)) → length ps ≡ length ess →
       ((j : ℕ) (e : EntryPoint) → slice_get ps j ≡ Some e → AreWithin e) →
       map (λ e. map find (filter_map variable_named e.stage))
-      (entry_points_under labels explicit names m info number ps ess)
+      (entry_points_under labels flags names m info number ps ess)
       ≡ map (map Some) (map (λ e. map GlobalTarget (stage_variables e e.stage)) ps)
-  stages_named explicit labels m info number [] ess size within = refl
-  stages_named explicit labels m info number (e ∷ ps) [] size within = absurd (omega (arith, size))
-  stages_named explicit labels m info number (e ∷ ps) (es ∷ ess) size within =
+  stages_named flags labels m info number [] ess size within = refl
+  stages_named flags labels m info number (e ∷ ps) [] size within = absurd (omega (arith, size))
+  stages_named flags labels m info number (e ∷ ps) (es ∷ ess) size within =
       let here = stage_named e (within 0 e refl) e.stage in
-      let rest = stages_named explicit labels m info (number + 1) ps ess (omega (arith, size))
+      let rest = stages_named flags labels m info (number + 1) ps ess (omega (arith, size))
       (λ j e at. within (suc j) e at) in
       λ i. here i ∷ rest i

@@ -60,6 +60,7 @@ use Rattle.naga_form.proofs.PlainForms.{values_are}
 use Rattle.naga_form.proofs.SimpleShapes.{roots_are, shape_roots}
 use Rattle.naga_form.proofs.Switches.{labels_are, labels_more, one_is_written}
 use Rattle.naga_form.proofs.WrittenHandles.{all_front, all_map, all_rest}
+use Rattle.naga_back.specs.declared.flags.WriterFlags.{WriterFlags}
 
 -- ---- lines
 -- a line for each word that may be called
@@ -95,14 +96,14 @@ name_given s well h y is j x at = by (nat_eq j h) at
     by false e = well j x e
 
 -- ---- what is in scope
-module _ (m : Module) (info : ModuleInfo) (g : ℕ) (f : ir_function.Function) (es : List ExpressionInfo)
+module _ (flags : WriterFlags) (m : Module) (info : ModuleInfo) (g : ℕ) (f : ir_function.Function) (es : List ExpressionInfo)
     (named : ℕ → List ℕ) (identifiers : (k : ℕ) → k < length (expression_labels f) →
     IsIdentifier (named k)) (few : length f.expressions ≤ 2 ^ 64) where
   abbrev own : Naming
   own = function_naming (module_names m) named m info g f es
 
   abbrev source : Source
-  source = function_source m info f es
+  source = function_source flags m info f es
 
   abbrev d : Declared
   d = source.declared

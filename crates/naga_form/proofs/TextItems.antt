@@ -3,7 +3,7 @@
 --
 -- Throughout, fs are functions from the number g on, ess says what is known of each, and named tells the
 -- names of the labels that front ends gave.
-use Rattle.std.proofs.Common.{[], ◌≡◌, ℕ, suc, ◌+◌, ◌++◌, ◌∙◌, Bool, List, ◌∷◌, add-one, ap, length}
+use Rattle.std.proofs.Common.{[], ◌≡◌, ℕ, suc, ◌+◌, ◌++◌, ◌∙◌, List, ◌∷◌, add-one, ap, length}
 use Rattle.std.proofs.Common.{map, refl, subst, sym}
 use Rattle.std.specs.Prelude.{IsTrue, reverse}
 use mathlib.Core.List.{reverse_aux}
@@ -36,8 +36,9 @@ use Rattle.naga_form.proofs.ModuleFits.{constants, functions_tell}
 use Rattle.naga_form.proofs.ReadDeclarations.{constants_named, constants_read, overrides_read}
 use Rattle.naga_form.proofs.ReadDeclarations.{variables_named, variables_read}
 use Rattle.naga_form.proofs.WrittenFunctions.{all_functions_under}
+use Rattle.naga_back.specs.declared.flags.WriterFlags.{WriterFlags}
 
-module _ (m : Module) (info : ModuleInfo) (explicit : Bool) (named : LabelNames) where
+module _ (m : Module) (info : ModuleInfo) (flags : WriterFlags) (named : LabelNames) where
   abbrev pub p : shapes.Module
   p = module_shape m info
 
@@ -45,28 +46,28 @@ module _ (m : Module) (info : ModuleInfo) (explicit : Bool) (named : LabelNames)
   n = outer_names (module_names m) m
 
   abbrev pub program : Program
-  program = program_under named m info explicit
+  program = program_under named m info flags
 
   -- the functions that are written, in their order
   abbrev pub forms : List Function
-  forms = functions_under named explicit (module_names m) m info 0 (all_functions m) (all_infos info)
+  forms = functions_under named flags (module_names m) m info 0 (all_functions m) (all_infos info)
 
   -- each behind those before it has its name
   forms_named : (g : ℕ) (fs : List ir_function.Function) (ess : List (List ExpressionInfo)) →
       (behind : List TextFunction) → length behind ≡ g → AreNamed n behind →
       AreNamed n
       (reverse_aux
-      (map function_read (functions_under named explicit (module_names m) m info g fs ess)) behind)
+      (map function_read (functions_under named flags (module_names m) m info g fs ess)) behind)
   forms_named g [] ess behind at are = are
   forms_named g (f ∷ fs) [] behind at are = are
   forms_named g (f ∷ fs) (es ∷ ess) behind at are =
-      let own = function_read (function_form explicit (module_names m) (named g) m info g f es) in
+      let own = function_read (function_form flags (module_names m) (named g) m info g f es) in
       forms_named (g + 1) fs ess (own ∷ behind) (ap suc at ∙ sym (add-one g))
       (ap n.function (sym at), are)
 
   -- and there are as many as the module has
   forms_counted : (g : ℕ) (fs : List ir_function.Function) (ess : List (List ExpressionInfo)) →
-      length (functions_under named explicit (module_names m) m info g fs ess)
+      length (functions_under named flags (module_names m) m info g fs ess)
       ≡ length (function_shapes m info fs ess)
   forms_counted g [] ess = refl
   forms_counted g (f ∷ fs) [] = refl
@@ -74,7 +75,7 @@ module _ (m : Module) (info : ModuleInfo) (explicit : Bool) (named : LabelNames)
 
   module _ (accepted : IsTrue (is_accepted m info)) where
     pub are_forms : functions_of program ≡ forms
-    are_forms = all_functions_under m info explicit named (functions_counted m info accepted)
+    are_forms = all_functions_under m info flags named (functions_counted m info accepted)
 
     pub items_fit : ItemsFit p n (program_read program).functions
     items_fit =

@@ -1,10 +1,10 @@
 -- The syntax tree that is written for a module under its names.
 --
--- Throughout, names are those of the module m, t the names that types are spelled with, named tells
--- the names of the labels that front ends gave, and each declaration goes by its first letter and
--- stands beside its handle: member, type of a struct, constant, override, global variable, entry
--- point.
-use Rattle.std.specs.Prelude.{ℕ, ◌+◌, Bool, List, [], ◌∷◌, length, map, Option, Some, None}
+-- Throughout, names are those of the module m, flags say how it is written, t are the names that
+-- types are spelled with, named tells the names of the labels that front ends gave, and each
+-- declaration goes by its first letter and stands beside its handle: member, type of a struct,
+-- constant, override, global variable, entry point.
+use Rattle.std.specs.Prelude.{ℕ, ◌+◌, List, [], ◌∷◌, length, map, Option, Some, None}
 use Rattle.std.specs.Prelude.{if◌then◌else◌}
 use Rattle.std.specs.List.{enumerate_from, filter_map}
 use Rattle.std.specs.Option.{is_some, option_map}
@@ -27,7 +27,7 @@ use Rattle.wgsl_text.specs.Declarations.{NamedConstant, Override, Global, Space,
 use Rattle.wgsl_text.specs.Declarations.{SpaceAlone, SpaceAndAccess}
 use Rattle.wgsl_text.specs.Functions.{EntryPoint}
 use Rattle.wgsl_words.specs.Words.{space_word, space_access_word}
-use Rattle.module_meaning.specs.Enables.{needed_enables}
+use Rattle.module_meaning.specs.Enables.{written_enables}
 use Rattle.module_meaning.specs.Layouts.{written_size}
 use Rattle.module_meaning.specs.Names.{module_names, name_in, constant_name, expression_name}
 use Rattle.module_meaning.specs.Names.{global_name, LabelNames, override_name}
@@ -38,6 +38,7 @@ use Rattle.naga_form.specs.Attributes.{stage_attributes}
 use Rattle.naga_form.specs.ConstantForms.{global_form}
 use Rattle.naga_form.specs.Functions.{function_form, functions_under}
 use Rattle.naga_form.specs.Types.{type_form}
+use Rattle.naga_back.specs.declared.flags.WriterFlags.{WriterFlags}
 
 -- ---- structs
 -- a member of the struct at this handle
@@ -101,55 +102,55 @@ variable_form names t m p =
 -- ---- entry points
 -- one of the functions, by its number and what is known of it, behind the attributes of its stage
 abbrev pub entry_point_under :
-    LabelNames → (explicit : Bool) → NameMap → Module → ModuleInfo → (number : ℕ) →
+    LabelNames → WriterFlags → NameMap → Module → ModuleInfo → (number : ℕ) →
     ir_entry_point.EntryPoint → List ExpressionInfo → EntryPoint
-entry_point_under named explicit names m info number p es =
+entry_point_under named flags names m info number p es =
     record {
       stage = stage_attributes names p p.stage;
-      function = function_form explicit names (named number) m info number p.function es;
+      function = function_form flags names (named number) m info number p.function es;
     }
 
 -- those from this number on
 abbrev pub entry_points_under :
-    LabelNames → (explicit : Bool) → NameMap → Module → ModuleInfo → (number : ℕ) →
+    LabelNames → WriterFlags → NameMap → Module → ModuleInfo → (number : ℕ) →
     List ir_entry_point.EntryPoint → List (List ExpressionInfo) → List EntryPoint
-entry_points_under named explicit names m info number (p ∷ ps) (es ∷ ess) =
-    entry_point_under named explicit names m info number p es
-    ∷ entry_points_under named explicit names m info (number + 1) ps ess
-entry_points_under named explicit names m info number _ _ = []
+entry_points_under named flags names m info number (p ∷ ps) (es ∷ ess) =
+    entry_point_under named flags names m info number p es
+    ∷ entry_points_under named flags names m info (number + 1) ps ess
+entry_points_under named flags names m info number _ _ = []
 
 -- so they are in a text of the whole module
 abbrev pub entry_point_form :
-    (explicit : Bool) → NameMap → Module → ModuleInfo → (number : ℕ) → ir_entry_point.EntryPoint →
+    WriterFlags → NameMap → Module → ModuleInfo → (number : ℕ) → ir_entry_point.EntryPoint →
     List ExpressionInfo → EntryPoint
-entry_point_form explicit names m info number p es =
-    entry_point_under (expression_name m) explicit names m info number p es
+entry_point_form flags names m info number p es =
+    entry_point_under (expression_name m) flags names m info number p es
 
 abbrev pub entry_points_form :
-    (explicit : Bool) → NameMap → Module → ModuleInfo → (number : ℕ) →
+    WriterFlags → NameMap → Module → ModuleInfo → (number : ℕ) →
     List ir_entry_point.EntryPoint → List (List ExpressionInfo) → List EntryPoint
-entry_points_form explicit names m info number ps ess =
-    entry_points_under (expression_name m) explicit names m info number ps ess
+entry_points_form flags names m info number ps ess =
+    entry_points_under (expression_name m) flags names m info number ps ess
 
 -- ---- modules
--- the syntax tree for a module where labels have these names, by what is known of it, with the
--- types of its `let`s told or not
-abbrev pub program_under : LabelNames → Module → ModuleInfo → (explicit : Bool) → Program
-program_under named m info explicit =
+-- the syntax tree for a module where labels have these names, by what is known of it, and by the
+-- flags
+abbrev pub program_under : LabelNames → Module → ModuleInfo → WriterFlags → Program
+program_under named m info flags =
     let names = module_names m in
     let t : TypeNames = type_names m in
     record {
-      enables = needed_enables m;
+      enables = written_enables m info flags;
       structs = filter_map (struct_form names t m) (enumerate_from 0 m.types);
       constants = filter_map (constant_form names t m) (enumerate_from 0 m.constants);
       overrides = map (override_form names t m) (enumerate_from 0 m.overrides);
       globals = map (variable_form names t m) (enumerate_from 0 m.global_variables);
-      functions = functions_under named explicit names m info 0 m.functions info.functions.items;
+      functions = functions_under named flags names m info 0 m.functions info.functions.items;
       entry_points =
-          entry_points_under named explicit names m info (length m.functions)
+          entry_points_under named flags names m info (length m.functions)
           m.entry_points.items info.entry_points.items;
     }
 
 -- and the one that is written, a text of the whole module
-abbrev pub written_program : Module → ModuleInfo → (explicit : Bool) → Program
-written_program m info explicit = program_under (expression_name m) m info explicit
+abbrev pub written_program : Module → ModuleInfo → WriterFlags → Program
+written_program m info flags = program_under (expression_name m) m info flags

@@ -6,7 +6,9 @@
 -- expression, op an operator, and t are the names that types are spelled with.
 use Rattle.std.specs.Prelude.{ℕ, List, [], ◌∷◌, Option, Bool, true, false, suc, None, Some}
 use Rattle.std.specs.Prelude.{slice_get, zero}
-use Rattle.std.specs.Prelude.{length, map, codes}
+use Rattle.std.specs.Prelude.{length, map, codes, ◌&&◌}
+use Rattle.naga_back.specs.Flags.{is_portable}
+use Rattle.naga_back.specs.declared.flags.WriterFlags.{WriterFlags}
 use Rattle.std.specs.Option.{option_map, option_map_or, option_and_then, is_some, option_to_list}
 use Rattle.naga_ir.specs.declared.expression.Expression as ir
 use Rattle.naga_ir.specs.declared.expression.Expression.TheVariants as expression
@@ -24,7 +26,7 @@ use Rattle.shader_runs.specs.Scope.{Availability, Bound, Handles, Naming}
 use Rattle.shader_runs.specs.Value.{Selector, MemberNamed, ElementAt}
 use Rattle.module_meaning.specs.Conversions.{conversion_target, keeps_bits}
 use Rattle.module_meaning.specs.ExpressionOperators.{ExpressionContext, applied_operator}
-use Rattle.module_meaning.specs.ExpressionOperators.{constructor, level_of}
+use Rattle.module_meaning.specs.ExpressionOperators.{constructor, is_depth_image, level_of}
 use Rattle.module_meaning.specs.ExpressionOperators.{load_operator, scalar_behind, type_known}
 use Rattle.module_meaning.specs.ExpressionShapes.{Declared, part_selector, swizzle_letters}
 use Rattle.module_meaning.specs.OperatorTable.{Operator, WithoutForm, PartAt, is_zero_by_name}
@@ -135,24 +137,26 @@ abbrev pub selected_part : Selector → Expression → Expression
 selected_part (MemberNamed word) base = Member base word
 selected_part (ElementAt index) base = IndexAt base index
 
--- a function's expressions, their context, the names that types are spelled with, and the
--- constants and variables of the module
+-- a function's expressions, their context, the names that types are spelled with, the constants
+-- and variables of the module, and whether the text is for standard compilers
 pub record Source : Type 0 where
   pub expressions : List ir.Expression
   pub declared : Declared
   pub type_names : TypeNames
   -- the form of a constant
   pub constant : ℕ → Expression
+  pub portable : Bool
 
 -- those of a function of a module, with what is known of them
 abbrev pub function_source :
-    Module → ModuleInfo → ir_function.Function → List ExpressionInfo → Source
-function_source m info f es =
+    WriterFlags → Module → ModuleInfo → ir_function.Function → List ExpressionInfo → Source
+function_source flags m info f es =
     record {
       expressions = f.expressions;
       declared = declared m info (types_known es);
       type_names = type_names m;
       constant = written_constant_form m (type_names m);
+      portable = is_portable flags;
     }
 
 -- The operands of a sampling that are written by their handles: all but the offset.
@@ -171,13 +175,19 @@ constant_form source h =
     written_out source.declared.context source.type_names source.constant source.expressions h
 
 -- a sampling by an operator, with this offset
-abbrev pub sampled_plain : Source → (ℕ → PlainForm) → (at_zero : Bool) → List ℕ →
+abbrev pub sampled_plain : Source → (ℕ → PlainForm) → (at_zero whole : Bool) → List ℕ →
     (offset : Option ℕ) → Option Operator → PlainForm
-sampled_plain source operand at_zero hs offset (Some op) =
+sampled_plain source operand at_zero whole hs offset (Some op) =
     ValueForm
-    (sampling_form op at_zero (value_forms operand hs)
+    (sampling_form op at_zero whole (value_forms operand hs)
     (map (constant_form source) (option_to_list offset)))
-sampled_plain source operand at_zero hs offset None = no_form
+sampled_plain source operand at_zero whole hs offset None = no_form
+
+-- Standard compilers ask for a whole number as the level of an image of depths.
+abbrev pub zero_is_whole : Source → (image : ℕ) → Bool
+zero_is_whole source image =
+    source.portable &&
+    option_map_or is_depth_image (type_known source.declared.context image) false
 
 -- a variable of the module: a value where it is held, else a reference
 abbrev pub variable_plain : (is_handle : Bool) → Expression → PlainForm
@@ -219,8 +229,9 @@ own_plain n source operand
     let e = expression.ImageSample
     image sampler gather coordinate array_index offset level depth_ref clamp in
     let by_name = is_zero_by_name (is_some gather) (is_some depth_ref) clamp in
-    sampled_plain source operand (zero_is_written (level_of level) by_name) (sampling_operands e)
-    offset (applied_operator source.declared.context e)
+    sampled_plain source operand (zero_is_written (level_of level) by_name)
+    (zero_is_whole source image) (sampling_operands e) offset
+    (applied_operator source.declared.context e)
 own_plain n source operand e =
     let a = source.declared.context in
     applied_plain no_form (operator_type a source.type_names e) operand (expression_operands e)

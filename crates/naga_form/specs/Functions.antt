@@ -1,9 +1,9 @@
 -- The function that is written for a function of a module, under the module's names.
 --
--- Throughout, m is a module, info what is known of it, f a function with the number g, es what is
--- known of its expressions, t are the names that types are spelled with, and named tells the names
--- of the labels that front ends gave.
-use Rattle.std.specs.Prelude.{ℕ, Bool, List, [], ◌∷◌, Option, None, Some, ◌+◌}
+-- Throughout, m is a module, info what is known of it, flags say how it is written, f is a function
+-- with the number g, es what is known of its expressions, t are the names that types are spelled
+-- with, and named tells the names of the labels that front ends gave.
+use Rattle.std.specs.Prelude.{ℕ, List, [], ◌∷◌, Option, None, Some, ◌+◌}
 use Rattle.std.specs.Option.{option_map}
 use Rattle.naga_ir.specs.declared.module.Function as ir_function
 use Rattle.naga_ir.specs.declared.module.FunctionArgument.{FunctionArgument}
@@ -22,6 +22,8 @@ use Rattle.shader_runs.specs.Scope.{Naming, at_start}
 use Rattle.module_meaning.specs.Namings.{function_naming}
 use Rattle.naga_form.specs.Expressions.{Source, function_source, value_form}
 use Rattle.naga_form.specs.Statements.{lines_form}
+use Rattle.naga_back.specs.declared.flags.WriterFlags.{WriterFlags}
+use Rattle.naga_back.specs.Flags.{annotates_types}
 
 -- the locals from this one on, with their first values
 abbrev pub locals_form :
@@ -54,32 +56,34 @@ result_form t (Some r) = ResultOf (passing_attributes r.binding) (type_form t r.
 
 -- a function, with what is known of its expressions
 abbrev pub function_form :
-    (explicit : Bool) → NameMap → (named : ℕ → List ℕ) → Module → ModuleInfo → ℕ →
+    WriterFlags → NameMap → (named : ℕ → List ℕ) → Module → ModuleInfo → ℕ →
     ir_function.Function → List ExpressionInfo → Function
-function_form explicit names named m info g f es =
+function_form flags names named m info g f es =
     let n : Naming = function_naming names named m info g f es in
-    let source : Source = function_source m info f es in
+    let source : Source = function_source flags m info f es in
     let t : TypeNames = names_of m.types names in
     record {
       name = function_name m names g;
       parameters = parameters_form names m g 0 f.arguments.items;
       result = result_form t f.result;
       locals = locals_form n t source 0 f.local_variables;
-      body = lines_form n (annotated_type explicit m t es) source 0 f.body (at_start n.function);
+      body =
+          lines_form n (annotated_type (annotates_types flags) m t es) source 0 f.body
+          (at_start n.function);
     }
 
 -- the functions from this number on, each with what is known of its expressions
 abbrev pub functions_under :
-    LabelNames → (explicit : Bool) → NameMap → Module → ModuleInfo → ℕ →
+    LabelNames → WriterFlags → NameMap → Module → ModuleInfo → ℕ →
     List ir_function.Function → List (List ExpressionInfo) → List Function
-functions_under named explicit names m info g (f ∷ fs) (es ∷ ess) =
-    function_form explicit names (named g) m info g f es
-    ∷ functions_under named explicit names m info (g + 1) fs ess
-functions_under named explicit names m info g _ _ = []
+functions_under named flags names m info g (f ∷ fs) (es ∷ ess) =
+    function_form flags names (named g) m info g f es
+    ∷ functions_under named flags names m info (g + 1) fs ess
+functions_under named flags names m info g _ _ = []
 
 -- so they are in a text of the whole module
 abbrev pub functions_form :
-    (explicit : Bool) → NameMap → Module → ModuleInfo → ℕ → List ir_function.Function →
+    WriterFlags → NameMap → Module → ModuleInfo → ℕ → List ir_function.Function →
     List (List ExpressionInfo) → List Function
-functions_form explicit names m info g fs ess =
-    functions_under (expression_name m) explicit names m info g fs ess
+functions_form flags names m info g fs ess =
+    functions_under (expression_name m) flags names m info g fs ess

@@ -1,5 +1,5 @@
--- How an image is sampled: a word that is called with the operands, behind them the level `0.0`
--- where it is written, and last an offset.
+-- How an image is sampled: a word that is called with the operands, behind them level zero where it
+-- is written, as a whole number or not, and last an offset.
 --
 -- Throughout, op is an operator, and es are the forms of operands.
 use Rattle.std.specs.Prelude.{ℕ, Bool, true, false, List, [], ◌∷◌, ◌++◌, codes, Option, Some, None}
@@ -38,14 +38,14 @@ abbrev pub operands_then : List Expression → Arguments → Arguments
 operands_then [] more = more
 operands_then (e ∷ es) more = Argument e (operands_then es more)
 
-abbrev pub zero_then : Bool → Arguments → Arguments
-zero_then true more = ZeroArgument more
-zero_then false more = more
+abbrev pub zero_then : Bool → (whole : Bool) → Arguments → Arguments
+zero_then true whole more = ZeroArgument whole more
+zero_then false whole more = more
 
 -- the tree of an operator that samples, over operands and, as a constant, an offset if there is one
-abbrev pub sampling_form : Operator → (at_zero : Bool) → List Expression →
+abbrev pub sampling_form : Operator → (at_zero whole : Bool) → List Expression →
     (offset : List Expression) → Expression
-sampling_form op at_zero es offset =
+sampling_form op at_zero whole es offset =
     Call (Named (sampling_word op))
     (component_then (gathered_component op)
-    (operands_then es (zero_then at_zero (operands offset))))
+    (operands_then es (zero_then at_zero whole (operands offset))))

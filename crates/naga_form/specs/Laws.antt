@@ -1,7 +1,7 @@
 -- What is promised of the form of a module: a word for each law.
 --
--- Throughout, m is a module, t a type's tree, r a type of an expression, and n are the names that
--- types are spelled with.
+-- Throughout, m is a module, flags say how it is written, t is a type's tree, r a type of an
+-- expression, and n are the names that types are spelled with.
 use Rattle.std.specs.Prelude.{◌≡◌, ◌↔◌, ℕ, ◌++◌, ◌∷◌, List, Some, None, IsTrue, true, false, Bool}
 use Rattle.std.specs.Prelude.{length}
 use Rattle.std.specs.List.{list_all}
@@ -47,7 +47,7 @@ use Rattle.module_meaning.specs.Written.{WrittenHaveFormsAt, WrittenHaveFormsBef
 use Rattle.module_meaning.specs.InfoSizes.{type_is_fit, resolution_is_fit}
 use Rattle.module_meaning.specs.Interface.{global_expression_value}
 use Rattle.module_meaning.specs.Layouts.{KeepsLayouts, TellsLayouts}
-use Rattle.module_meaning.specs.Literals.{literal_value}
+use Rattle.module_meaning.specs.Literals.{literal_value, with_bits}
 use Rattle.module_meaning.specs.Meanings.{OperatorsAreConsistent, HasTypedMeaning, HasTypedWorld}
 use Rattle.module_meaning.specs.Meanings.{IsNeverStuck, NoRunIsStuck}
 use Rattle.module_meaning.specs.ExpressionLabels.{name_of_label}
@@ -70,24 +70,27 @@ use Rattle.naga_form.specs.GlobalValues.{HasValueOf}
 use Rattle.naga_form.specs.Readable.{AreAlike, AreNamed, ResolutionIsWithin, handle_names}
 use Rattle.naga_form.specs.Readable.{is_readable}
 use Rattle.naga_form.specs.TypeTrees.{inner_tree, resolution_tree, type_tree}
+use Rattle.naga_back.specs.declared.flags.WriterFlags.{WriterFlags}
+use Rattle.naga_back.specs.Flags.{annotates_types}
 
 -- of an accepted module of which all that it declares has a form, and all that is written of its
--- functions, and of what is written for it with the types of its `let`s told or not, under whatever
--- names of the labels that front ends gave
+-- functions, and of what is written for it with whatever flags, under whatever names of the labels
+-- that front ends gave
 abbrev pub OfAccepted :
-    (LabelNames → Module → ModuleInfo → (explicit : Bool) → Program → Type 0) → Type 0
+    (LabelNames → Module → ModuleInfo → WriterFlags → Program → Type 0) → Type 0
 OfAccepted Holds =
-    (m : Module) (info : ModuleInfo) (explicit : Bool) (named : LabelNames) →
-    IsTrue (is_accepted m info) → DeclarationsHaveForms m → AllWrittenHaveForms explicit m info →
-    Holds named m info explicit (program_under named m info explicit)
+    (m : Module) (info : ModuleInfo) (flags : WriterFlags) (named : LabelNames) →
+    IsTrue (is_accepted m info) → DeclarationsHaveForms m →
+    AllWrittenHaveForms (annotates_types flags) m info →
+    Holds named m info flags (program_under named m info flags)
 
 -- the same where the rules of scope hold and the names of labels are such as they may have
 abbrev pub OfAcceptedInScope : (LabelNames → Module → ModuleInfo → Program → Type 0) → Type 0
 OfAcceptedInScope Holds =
-    (m : Module) (info : ModuleInfo) (explicit : Bool) (named : LabelNames) →
+    (m : Module) (info : ModuleInfo) (flags : WriterFlags) (named : LabelNames) →
     AreLabelNames m named → IsTrue (is_accepted m info) → DeclarationsHaveForms m →
-    AllWrittenHaveForms explicit m info → ScopesHold m info →
-    Holds named m info (program_under named m info explicit)
+    AllWrittenHaveForms (annotates_types flags) m info → ScopesHold m info →
+    Holds named m info (program_under named m info flags)
 
 -- the names that labels have in a text of the whole module are such as they may have
 abbrev pub NamesAreLabelNames : Type 0
@@ -112,22 +115,22 @@ NamesOfEachAreLabelNames =
 -- the program is one of the grammar, so that its text has one reading
 abbrev pub IsAProgram : Type 0
 IsAProgram =
-    (m : Module) (info : ModuleInfo) (explicit : Bool) (named : LabelNames) →
+    (m : Module) (info : ModuleInfo) (flags : WriterFlags) (named : LabelNames) →
     AreLabelNames m named → IsTrue (is_accepted m info) → DeclarationsHaveForms m →
-    AllWrittenHaveForms explicit m info → IsTrue (handles_are_counted m) →
-    IsProgram (program_under named m info explicit)
+    AllWrittenHaveForms (annotates_types flags) m info → IsTrue (handles_are_counted m) →
+    IsProgram (program_under named m info flags)
 
 -- it declares what the module declares
 abbrev pub HasTheInterface : Type 0
-HasTheInterface = OfAccepted (λ named m info explicit. HasInterfaceOf m info)
+HasTheInterface = OfAccepted (λ named m info flags. HasInterfaceOf m info flags)
 
 -- in memory each of its structs stands as in the module, if its members' offsets are to be kept
 abbrev pub KeepsTheLayouts : Type 0
-KeepsTheLayouts = OfAccepted (λ named m info explicit. KeepsLayouts m)
+KeepsTheLayouts = OfAccepted (λ named m info flags. KeepsLayouts m)
 
 -- and what users are told of it is how it stands there
 abbrev pub TellsTheLayouts : Type 0
-TellsTheLayouts = OfAccepted (λ named m info explicit. TellsLayouts m)
+TellsTheLayouts = OfAccepted (λ named m info flags. TellsLayouts m)
 
 -- Each initialiser of the module that has a form has a value, under all values of overrides of
 -- their types and every typed meaning of operators, so that the interface tells one.
@@ -145,10 +148,10 @@ InitialisersHaveValues =
 -- constants with names have forms. Nothing is asked of variables and functions.
 abbrev pub GlobalsHaveTheirValues : Type 0
 GlobalsHaveTheirValues =
-    (m : Module) (info : ModuleInfo) (explicit : Bool) (named : LabelNames) →
+    (m : Module) (info : ModuleInfo) (flags : WriterFlags) (named : LabelNames) →
     IsTrue (is_accepted m info) →
     (handle : ℕ) → IsTrue (global_is_written m handle) →
-    HasValueOf m info handle (program_under named m info explicit)
+    HasValueOf m info handle (program_under named m info flags)
     (global_form m (type_names m) handle)
 
 -- each of its identifiers and words stands for what it was written for
@@ -158,24 +161,25 @@ ResolvesAsMeant = OfAcceptedInScope ResolvesUnder
 -- its `let`s are those of the emitted handles that are bound and of the results of statements, each
 -- under its handle's name, and each tells its handle's type where types are to be told
 abbrev pub BindsAsCounted : Type 0
-BindsAsCounted = OfAccepted BindsUnder
+BindsAsCounted = OfAccepted (λ named m info flags program.
+    BindsUnder named m info (annotates_types flags) program)
 
 -- what is written of a function, of which what is written has a form, is read as its shape is
 -- written, whatever the module declares, whatever type is known of each of its expressions and of
 -- the module's, and under whatever names front ends gave
 abbrev pub FunctionsAreRead : Type 0
 FunctionsAreRead =
-    (explicit : Bool) (named : ℕ → List ℕ) (m : Module) (info : ModuleInfo) (g : ℕ) (f : Function) →
-    (es : List ExpressionInfo) →
+    (flags : WriterFlags) (named : ℕ → List ℕ) (m : Module) (info : ModuleInfo) (g : ℕ) →
+    (f : Function) (es : List ExpressionInfo) →
     length m.global_expressions ≡ length info.const_expression_types.items →
-    WrittenHaveForms explicit m info f es →
+    WrittenHaveForms (annotates_types flags) m info f es →
     length f.expressions ≡ length es →
-    function_read (function_form explicit (module_names m) named m info g f es)
+    function_read (function_form flags (module_names m) named m info g f es)
     ≡ form_function (function_naming (module_names m) named m info g f es)
 
 -- what the program does is what the program of shapes says that is written for the module
 abbrev pub IsReadAsItsShapes : Type 0
-IsReadAsItsShapes = OfAccepted (λ named m info explicit program.
+IsReadAsItsShapes = OfAccepted (λ named m info flags program.
     program_read program
     ≡ form_module (module_shape m info) (outer_names (module_names m) m)
     (namings_under named (module_names m) m info))
@@ -189,34 +193,36 @@ RunsAsTheModule = OfAcceptedInScope (λ named. RunsAs)
 -- where all that is written of it has forms, whatever stands in the others.
 abbrev pub OneBinds : Type 0
 OneBinds =
-    (m : Module) (info : ModuleInfo) (explicit : Bool) (named : LabelNames) →
-    IsTrue (is_accepted m info) → (number : ℕ) → WrittenHaveFormsAt explicit m info number →
-    BindsAt named m info explicit (program_under named m info explicit) number
+    (m : Module) (info : ModuleInfo) (flags : WriterFlags) (named : LabelNames) →
+    IsTrue (is_accepted m info) → (number : ℕ) →
+    WrittenHaveFormsAt (annotates_types flags) m info number →
+    BindsAt named m info (annotates_types flags) (program_under named m info flags) number
 
 -- what holds of one function, whatever stands in the others
-abbrev pub OfOne : (LabelNames → (explicit : Bool) → Module → ModuleInfo → ℕ → Type 0) → Type 0
+abbrev pub OfOne : (LabelNames → WriterFlags → Module → ModuleInfo → ℕ → Type 0) → Type 0
 OfOne Holds =
-    (m : Module) (info : ModuleInfo) (explicit : Bool) (named : LabelNames) →
+    (m : Module) (info : ModuleInfo) (flags : WriterFlags) (named : LabelNames) →
     IsTrue (is_accepted m info) → AreLabelNames m named →
-    (number : ℕ) → Holds named explicit m info number
+    (number : ℕ) → Holds named flags m info number
 
 -- Its identifiers and words stand for what they were written for, where all that is written of it
 -- has forms and the rules of scope hold in it, whatever the module declares. So do those of the
 -- module's items, but that initialisers are asked for their forms: `ResolvesAt` says which.
 abbrev pub OneResolves : Type 0
-OneResolves = OfOne (λ named explicit m info number.
-    WrittenHaveFormsAt explicit m info number → ScopeHoldsIn m info number →
-    ResolvesAt named m info (program_under named m info explicit) number)
+OneResolves = OfOne (λ named flags m info number.
+    WrittenHaveFormsAt (annotates_types flags) m info number → ScopeHoldsIn m info number →
+    ResolvesAt named m info (program_under named m info flags) number)
 
 -- It does what the module does, where this is asked of it and of those that it may call, and the
 -- types of variables and the initialisers of constants with names have forms. Of those that it may
 -- call the types that `let`s tell may have none.
 abbrev pub OneRuns : Type 0
-OneRuns = OfOne (λ named explicit m info number.
+OneRuns = OfOne (λ named flags m info number.
     let callees = callee_count m (function_type m number) in
-    ItemsHaveForms m → WrittenHaveFormsAt explicit m info number → ScopeHoldsIn m info number →
+    ItemsHaveForms m →
+    WrittenHaveFormsAt (annotates_types flags) m info number → ScopeHoldsIn m info number →
     WrittenHaveFormsBefore false m info callees → ScopesHoldBefore m info callees →
-    RunsAt m info (program_under named m info explicit) number)
+    RunsAt m info (program_under named m info flags) number)
 
 -- the check of scope decides the rules
 abbrev pub ScopesAreChecked : Type 0
@@ -294,8 +300,11 @@ AlikeAreDistinguished =
     IsTrue (resolution_fits (length m.overrides) (length m.types) b) →
     (type_of_values m a ≡ type_of_values m b) ↔ IsTrue (are_alike m.types a b)
 
+-- two literals have one value exactly where they are one, with the bits that a numeral denotes in
+-- its place
 abbrev pub LiteralsAreDistinguished : Type 0
-LiteralsAreDistinguished = (a b : Literal) → literal_value a ≡ literal_value b → a ≡ b
+LiteralsAreDistinguished =
+    (a b : Literal) → (literal_value a ≡ literal_value b) ↔ (with_bits a ≡ with_bits b)
 
 -- what the runs call two operators is one word only where `one_word` sends them to one
 abbrev pub WordsAreDistinguished : Type 0

@@ -166,7 +166,8 @@ pub fn tells_types_apart()
     ensures unspelled { UnspelledAreDistinguished }
 {}
 
-/// Different literals have different values.
+/// Two literals have one value exactly where they are one, with the bits that a numeral denotes in
+/// its place.
 pub fn tells_literals_apart()
     ensures { LiteralsAreDistinguished }
 {}

@@ -15,6 +15,9 @@ abbrev pub literal_scalar : Literal → Scalar
 literal_scalar (literal.F64 bits) = scalar_of kind.Float 8
 literal_scalar (literal.F32 bits) = scalar_of kind.Float 4
 literal_scalar (literal.F16 bits) = scalar_of kind.Float 2
+literal_scalar (literal.DecimalF64 numeral) = scalar_of kind.Float 8
+literal_scalar (literal.DecimalF32 numeral) = scalar_of kind.Float 4
+literal_scalar (literal.DecimalF16 numeral) = scalar_of kind.Float 2
 literal_scalar (literal.U16 value) = scalar_of kind.Uint 2
 literal_scalar (literal.I16 value) = scalar_of kind.Sint 2
 literal_scalar (literal.U32 value) = scalar_of kind.Uint 4

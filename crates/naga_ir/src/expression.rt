@@ -9,8 +9,10 @@ use crate::operators::{
     UnaryOperator,
 };
 use crate::types::{CooperativeRole, CooperativeSize, Scalar, ScalarKind, Type_, VectorSize};
+use float_numerals::Decimal;
 
-/// A number or a truth value that is written out. Floating-point numbers are held as their bits.
+/// A number or a truth value that is written out. Floating-point numbers are held as their bits, or
+/// as the decimal numerals by which a text tells them.
 #[derive(Debug, Clone, Copy, PartialEq, Eq, Hash)]
 pub enum Literal {
     /// The bits of an `f64`.
@@ -19,6 +21,13 @@ pub enum Literal {
     F32(u32),
     /// The bits of an `f16`.
     F16(u16),
+    /// The numeral of an `f64`: `0.5lf`. It has the value of the nearest one; of two that are as
+    /// near, of the one whose last binary digit is 0.
+    DecimalF64(Decimal),
+    /// The same of an `f32`: `0.5f`.
+    DecimalF32(Decimal),
+    /// The same of an `f16`: `0.5h`.
+    DecimalF16(Decimal),
     /// A `u16`: `u16(5)`.
     U16(u16),
     /// An `i16`: `i16(-5)`.
@@ -50,6 +59,9 @@ impl Literal {
             Literal::F64(_) => Scalar::F64,
             Literal::F32(_) => Scalar::F32,
             Literal::F16(_) => Scalar::F16,
+            Literal::DecimalF64(_) => Scalar::F64,
+            Literal::DecimalF32(_) => Scalar::F32,
+            Literal::DecimalF16(_) => Scalar::F16,
             Literal::U16(_) => Scalar::U16,
             Literal::I16(_) => Scalar::I16,
             Literal::U32(_) => Scalar::U32,

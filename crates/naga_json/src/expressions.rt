@@ -5,6 +5,7 @@ use crate::shape::{
     FromJson, Variants, expect_members, item_of, items_of, member, mistyped, read_variant, unit,
     word,
 };
+use float_numerals::Decimal;
 use naga_ir::{CooperativeData, Expression, ImageQuery, Literal, SampleLevel, SwizzleComponent};
 use ryu::Buffer;
 use serde_json::Value;
@@ -571,6 +572,9 @@ pub(crate) enum LiteralName {
     F64,
     F32,
     F16,
+    DecimalF64,
+    DecimalF32,
+    DecimalF16,
     U16,
     I16,
     U32,
@@ -587,6 +591,9 @@ const LITERAL_NAMES: &[(&str, LiteralName)] = &[
     ("F64", LiteralName::F64),
     ("F32", LiteralName::F32),
     ("F16", LiteralName::F16),
+    ("DecimalF64", LiteralName::DecimalF64),
+    ("DecimalF32", LiteralName::DecimalF32),
+    ("DecimalF16", LiteralName::DecimalF16),
     ("U16", LiteralName::U16),
     ("I16", LiteralName::I16),
     ("U32", LiteralName::U32),
@@ -620,6 +627,15 @@ impl Variants for Literal {
             LiteralName::F64 => Ok(Literal::F64(double_bits(alloc, content)?)),
             LiteralName::F32 => Ok(Literal::F32(single_bits(alloc, content)?)),
             LiteralName::F16 => Ok(Literal::F16(half_bits(alloc, content)?)),
+            LiteralName::DecimalF64 => Ok(Literal::DecimalF64(FromJson::from_json(
+                alloc, content,
+            )?)),
+            LiteralName::DecimalF32 => Ok(Literal::DecimalF32(FromJson::from_json(
+                alloc, content,
+            )?)),
+            LiteralName::DecimalF16 => Ok(Literal::DecimalF16(FromJson::from_json(
+                alloc, content,
+            )?)),
             LiteralName::U16 => Ok(Literal::U16(FromJson::from_json(alloc, content)?)),
             LiteralName::I16 => Ok(Literal::I16(FromJson::from_json(alloc, content)?)),
             LiteralName::U32 => Ok(Literal::U32(FromJson::from_json(alloc, content)?)),
@@ -632,6 +648,17 @@ impl Variants for Literal {
             )?)),
             LiteralName::AbstractFloat => Ok(Literal::AbstractFloat(double_bits(alloc, content)?)),
         }
+    }
+}
+
+impl FromJson for Decimal {
+    fn from_json(alloc: Global, value: &Value) -> Result<Decimal, ReadError> {
+        expect_members(alloc, value, &["negative", "digits", "exponent"])?;
+        Ok(Decimal {
+            negative: member(alloc, value, "negative")?,
+            digits: member(alloc, value, "digits")?,
+            exponent: member(alloc, value, "exponent")?,
+        })
     }
 }
 

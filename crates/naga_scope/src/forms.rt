@@ -234,6 +234,9 @@ pub(crate) fn literal_has_form(literal: Literal) -> bool
         | Literal::U32(_)
         | Literal::I64(_)
         | Literal::U64(_) => true,
+        Literal::DecimalF64(numeral)
+        | Literal::DecimalF32(numeral)
+        | Literal::DecimalF16(numeral) => numeral.is_in_range(),
         Literal::F16(_)
         | Literal::F32(_)
         | Literal::F64(_)

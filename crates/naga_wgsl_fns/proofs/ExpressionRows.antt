@@ -13,7 +13,7 @@ use Rattle.std.proofs.Common.{map}
 use Rattle.module_meaning.specs.ExpressionOperators.{is_depth_image, level_of, sample_operator}
 use Rattle.module_meaning.specs.ExpressionOperators.{type_known}
 use Rattle.naga_form.proofs.Images.{without_offset}
-use Rattle.naga_form.specs.Expressions.{constant_form, sampling_operands}
+use Rattle.naga_form.specs.Expressions.{constant_form, sampling_operands, zero_is_whole}
 use Rattle.naga_form.specs.Images.{sampling_form}
 use Rattle.naga_ir.specs.Operands.{level_operands}
 use Rattle.naga_ir.specs.Operands.{expression_operands}
@@ -153,7 +153,7 @@ module _ (n : Naming) (code : Source) (before : OperandsStandBefore code.express
       let unwritten = is_some gather || (is_some depth_ref || clamp) in
       ap
       (λ es. ValueForm
-      (sampling_form op (zero_is_written (level_of level) unwritten) es
+      (sampling_form op (zero_is_written (level_of level) unwritten) (zero_is_whole code image) es
       (map (constant_form code) (option_to_list offset))))
       (operands_same a b h (sampling_operands e)
       (all_below h (sampling_operands e)

@@ -27,7 +27,7 @@ use Rattle.module_meaning.specs.Resolution.{BodyResolves}
 use Rattle.module_meaning.specs.Written.{AllWrittenHaveForms}
 use Rattle.naga_form.proofs.ExpressionNames.{names_of_each_are}
 use Rattle.naga_form.specs.Declarations.{program_under}
-use Rattle.naga_wgsl_fns.specs.FunctionText.{annotates_types}
+use Rattle.naga_back.specs.Flags.{annotates_types}
 use Rattle.naga_wgsl_fns.specs.Items.{AreNamesOfText, FunctionWriting, IsMeantUnder, IsWritableFunction}
 use Rattle.naga_wgsl_fns.specs.Items.{named_behind}
 
@@ -101,16 +101,16 @@ module _ (other : Module) (more : ModuleInfo) (o : Override) (first : Function)
       (answer : Unit {0}) (namer : Names) (content now : List ℕ) (before after : ℕ)
       (writing : FunctionWriting m info flags earlier (item.Function 0) (Ok answer) namer content now
       before after) (named : LabelNames) (agree : AreNamesOfText m earlier 0 named) where
-    meant : IsMeantUnder named (annotates_types flags) m info (item.Function 0) content now
+    meant : IsMeantUnder named flags m info (item.Function 0) content now
     meant = (writing.meaning later begins).under named agree
 
     bindings : BindsAt named m info (annotates_types flags)
-        (program_under named m info (annotates_types flags)) 0
+        (program_under named m info flags) 0
     bindings = meant.bindings
 
-    words : BodyResolves named m info (program_under named m info (annotates_types flags)) 0
+    words : BodyResolves named m info (program_under named m info flags) 0
     words = meant.resolution.body
 
-    runs : RunsAt m info (program_under named m info (annotates_types flags)) 0
+    runs : RunsAt m info (program_under named m info flags) 0
     runs =
         meant.runs items (λ g lt. absurd (omega (arith, lt))) (λ g lt. absurd (omega (arith, lt)))

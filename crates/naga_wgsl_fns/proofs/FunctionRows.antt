@@ -52,7 +52,8 @@ use Rattle.wgsl_text.specs.Reading.{expression_layout, type_layout}
 use Rattle.wgsl_text.specs.Text.{text}
 use Rattle.naga_wgsl_fns.specs.declared.functions.FunctionText.{FunctionText}
 use Rattle.naga_wgsl_fns.specs.FunctionText.{handles_in, named_in, number}
-use Rattle.naga_wgsl_fns.specs.FunctionText.{CanWrite, source, naming, annotates_types}
+use Rattle.naga_back.specs.Flags.{annotates_types}
+use Rattle.naga_wgsl_fns.specs.FunctionText.{CanWrite, source, naming}
 use Rattle.naga_wgsl_fns.specs.FunctionText.{let_annotation}
 use Rattle.naga_wgsl_fns.specs.FunctionText.{type_names_of}
 use Rattle.naga_wgsl_fns.specs.Names.{name_of_argument, name_of_function, name_of_local}

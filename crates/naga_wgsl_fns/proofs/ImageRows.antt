@@ -16,7 +16,7 @@ use Rattle.naga_form.proofs.Operators.{query_is_called}
 use Rattle.naga_form.specs.ConstantForms.{constant_form_over, constant_form_within, no_constant_form}
 use Rattle.naga_form.specs.ConstantForms.{built_form}
 use Rattle.naga_form.specs.Expressions.{as_value, constant_form, own_if, own_plain}
-use Rattle.naga_form.specs.Expressions.{value_forms}
+use Rattle.naga_form.specs.Expressions.{value_forms, zero_is_whole}
 use Rattle.naga_form.specs.Images.{component_number, component_then, gathered_component}
 use Rattle.naga_form.specs.Images.{operands_then, sampling_form, sampling_word, zero_then}
 use Rattle.naga_form.specs.Operators.{applied_form, notation, Called}
@@ -37,7 +37,7 @@ use Rattle.naga_wgsl_fns.specs.Expressions.{own_text, value_text}
 use Rattle.naga_wgsl_fns.specs.FunctionText.{CanWrite, IsInText, context, expressions, naming, source}
 use Rattle.naga_wgsl_fns.specs.FunctionText.{type_names_of}
 use Rattle.naga_wgsl_fns.specs.Images.{component_text, depths_at, furthers_text, head_text}
-use Rattle.naga_wgsl_fns.specs.Images.{level_text, offset_text}
+use Rattle.naga_wgsl_fns.specs.Images.{level_text, offset_text, zero_text}
 use Rattle.naga_wgsl_fns.specs.declared.functions.FunctionText.{FunctionText}
 use Rattle.shader_runs.specs.Premises.{AllBelow}
 use Rattle.wgsl_text.proofs.Expressions.{argument_text, call_text, next_argument_text}
@@ -165,17 +165,23 @@ furthers_then f table (h ∷ hs) ks args =
     (append_assoc (next_operand_text f table false h) (furthers_text f table hs)
     (text (more_arguments_pieces (operands_then (value_forms (form_at f table) ks) args)))))
 
-level_then : (l : SampleLevel) (by_name : Bool) (args : Arguments) →
-    text (more_arguments_pieces (zero_then (zero_is_written (level_of l) by_name) args)) ≡
-    joined_texts (level_text l by_name) (text (more_arguments_pieces args))
+zero_row : (written whole : Bool) (args : Arguments) →
+    text (more_arguments_pieces (zero_then written whole args)) ≡
+    zero_text written whole ++ text (more_arguments_pieces args)
+unfolding digits
+zero_row true false args = refl
+zero_row true true args = ap (λ v. codes ", " ++ v) (plain_text 0 (more_arguments_pieces args))
+zero_row false whole args = refl
+
+level_then : (f : FunctionText) (image : ℕ) (l : SampleLevel) (by_name : Bool)
+    (args : Arguments) →
+    text
+    (more_arguments_pieces
+    (zero_then (zero_is_written (level_of l) by_name) (zero_is_whole (source f) image) args)) ≡
+    joined_texts (level_text f image l by_name) (text (more_arguments_pieces args))
 unfolding joined_texts
-level_then l by_name args = by (zero_is_written (level_of l) by_name)
-  where
-    by : (b : Bool) →
-        text (more_arguments_pieces (zero_then b args)) ≡
-        (if b then codes ", 0.0" else []) ++ text (more_arguments_pieces args)
-    by true = refl
-    by false = refl
+level_then f image l by_name args =
+    zero_row (zero_is_written (level_of l) by_name) (zero_is_whole (source f) image) args
 
 offset_then : (f : FunctionText) (offset : Option ℕ) →
     text
@@ -294,7 +300,7 @@ pub sampling_row : (f : FunctionText) (table : List Availability) (handle : ℕ)
     (joined_texts (furthers_text f table (option_to_list array_index))
     (joined_texts (furthers_text f table (option_to_list depth_ref))
     (joined_texts (furthers_text f table (level_operands l))
-    (joined_texts (level_text l (is_some gather || (is_some depth_ref || clamp)))
+    (joined_texts (level_text f image l (is_some gather || (is_some depth_ref || clamp)))
     (joined_texts (offset_text f offset) (codes ")")))))))))
 unfolding own_text value_text
 sampling_row f table handle image sampler gather coordinate array_index offset l depth_ref clamp at =
@@ -303,7 +309,8 @@ sampling_row f table handle image sampler gather coordinate array_index offset l
     let d = option_to_list depth_ref in
     let in_word = is_some gather || (is_some depth_ref || clamp) in
     let offsets = arguments_of (map (constant_form (source f)) (option_to_list offset)) in
-    let last = zero_then (zero_is_written (level_of l) in_word) offsets in
+    let whole = zero_is_whole (source f) image in
+    let last = zero_then (zero_is_written (level_of l) in_word) whole offsets in
     let behind = a ++ (d ++ (level_operands l ++ [])) in
     let word = is_some depth_ref in
     let op =
@@ -312,7 +319,7 @@ sampling_row f table handle image sampler gather coordinate array_index offset l
     ap (λ o. expression_layout (as_value (own_if (naming f) (source f) form o))) at
     ∙ (ap
     (λ hs. expression_layout
-    (sampling_form op (zero_is_written (level_of l) in_word)
+    (sampling_form op (zero_is_written (level_of l) in_word) whole
     (value_forms form (image ∷ sampler ∷ coordinate ∷ hs))
     (map (constant_form (source f)) (option_to_list offset))))
     (append_assoc (a ++ d) (level_operands l) [] ∙ append_assoc a d (level_operands l ++ []))
@@ -332,8 +339,8 @@ sampling_row f table handle image sampler gather coordinate array_index offset l
     ∙ ap (joined_texts (furthers_text f table d))
     (furthers_then f table (level_operands l) [] last
     ∙ ap (joined_texts (furthers_text f table (level_operands l)))
-    (level_then l in_word offsets
-    ∙ ap (joined_texts (level_text l in_word)) (offset_then f offset)))))))))
+    (level_then f image l in_word offsets
+    ∙ ap (joined_texts (level_text f image l in_word)) (offset_then f offset)))))))))
 
 -- the same from what is written, where whether something is compared, and the text of the level, are
 -- said in another way
@@ -344,7 +351,7 @@ pub sampling_whole : (f : FunctionText) (table : List Availability) (handle : �
     Some
     (expression.ImageSample image sampler gather coordinate array_index offset l depth_ref clamp) →
     (compares : Bool) → compares ≡ is_some depth_ref → (w : List ℕ) →
-    w ≡ level_text l (is_some gather || (compares || clamp)) →
+    w ≡ level_text f image l (is_some gather || (compares || clamp)) →
     joined_texts (head_text f image gather l compares clamp)
     (joined_texts (value_text f table image)
     (joined_texts (next_operand_text f table false sampler)
@@ -366,7 +373,7 @@ sampling_whole f table handle image sampler gather coordinate array_index offset
     (joined_texts (furthers_text f table (option_to_list depth_ref))
     (joined_texts (furthers_text f table (level_operands l))
     (joined_texts w (joined_texts (offset_text f offset) (codes ")"))))))))))
-    is (level_is ∙ ap (λ b. level_text l (is_some gather || (b || clamp))) is)
+    is (level_is ∙ ap (λ b. level_text f image l (is_some gather || (b || clamp))) is)
     ∙ sym
     (sampling_row f table handle image sampler gather coordinate array_index offset l depth_ref clamp
     at)

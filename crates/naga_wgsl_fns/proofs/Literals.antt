@@ -1,10 +1,19 @@
 -- The texts of integers, from what is written of them in turn.
 use Rattle.std.proofs.Common.{◌≡◌, ◌++◌, ℕ, ℤ, pos, negsuc, false, codes, decimal, refl, ap, ◌==◌}
-use Rattle.std.proofs.Common.{ne_eqb}
-use Rattle.std.specs.Fmt.{digits, signed_decimal}
+use Rattle.std.proofs.Common.{ne_eqb, append_assoc, sym, ◌∙◌, Bool, true, List, [], ◌∷◌, zero, suc}
+use Rattle.std.specs.Fmt.{digits, sign_text, signed_decimal}
 use Rattle.std.proofs.lemmas.List.{append-nil}
 use Rattle.naga_words.specs.Output.{joined_texts}
+use Rattle.float_numerals.specs.declared.decimal.Decimal.{Decimal}
+use Rattle.float_numerals.specs.Texts as numeral_texts
+use Rattle.float_numerals.specs.Texts.{double_exponent, double_fraction, double_whole}
+use Rattle.float_numerals.specs.Texts.{fraction_digits, whole_digits}
+use Rattle.naga_form.specs.Literals.{power_form}
+use Rattle.wgsl_text.specs.Text.{fraction_text, power_text, precision_text, text}
+use Rattle.wgsl_text.specs.Token as token
+use Rattle.wgsl_text.specs.Token.{Double, Half, Precision, Single, TokenPiece}
 use Rattle.naga_wgsl_fns.specs.Literals.{i32_text, i64_text, i16_text, u16_text}
+use Rattle.naga_wgsl_fns.specs.Literals.{f16_text, f32_text, f64_text}
 
 pub least_integer_row : i32_text (negsuc 2147483647) ≡ codes "i32(-2147483648)"
 unfolding i32_text digits
@@ -39,3 +48,63 @@ pub unsigned_short_row : (n : ℕ) →
     u16_text n ≡ joined_texts (codes "u16(") (decimal n ++ codes ")")
 unfolding u16_text joined_texts
 unsigned_short_row n = ap (λ w. codes "u16(" ++ (w ++ codes ")")) (append-nil (decimal n))
+
+-- ---- numerals
+-- the text of the token, by its sign and its digits
+token_row : (negative : Bool) (whole fraction : List ℕ) (precision : Precision) →
+    text (TokenPiece (token.Decimal negative whole fraction precision) ∷ []) ≡
+    sign_text negative ++ (whole ++ (fraction_text fraction ++ precision_text precision))
+token_row false whole fraction precision =
+    append-nil (whole ++ (fraction_text fraction ++ precision_text precision))
+token_row true whole fraction precision =
+    ap (λ v. 45 ∷ v) (append-nil (whole ++ (fraction_text fraction ++ precision_text precision)))
+
+-- the grammar's texts of a fraction and of a power are those of a numeral
+fraction_same : (ds : List ℕ) → numeral_texts.fraction_text ds ≡ fraction_text ds
+fraction_same [] = refl
+fraction_same (d ∷ ds) = refl
+
+power_same : (e : ℤ) → numeral_texts.exponent_text e ≡ power_text (power_form e)
+power_same (pos zero) = refl
+power_same (pos (suc n)) = refl
+power_same (negsuc n) = refl
+
+plain_row : (d : Decimal) (precision : Precision) →
+    numeral_texts.numeral_text d ++ precision_text precision ≡
+    text (TokenPiece (token.Decimal d.negative (whole_digits d) (fraction_digits d) precision) ∷ [])
+plain_row d precision =
+    let sign = sign_text d.negative in
+    let whole = whole_digits d in
+    let fraction = fraction_digits d in
+    let letters = precision_text precision in
+    append_assoc sign (whole ++ numeral_texts.fraction_text fraction) letters
+    ∙ ap (λ v. sign ++ v)
+    (append_assoc whole (numeral_texts.fraction_text fraction) letters
+    ∙ ap (λ v. whole ++ (v ++ letters)) (fraction_same fraction))
+    ∙ sym (token_row d.negative whole fraction precision)
+
+pub single_row : (d : Decimal) → numeral_texts.single_text d ≡ f32_text d
+unfolding f32_text
+single_row d = plain_row d Single
+
+pub half_row : (d : Decimal) → numeral_texts.half_text d ≡ f16_text d
+unfolding f16_text
+half_row d = plain_row d Half
+
+pub double_row : (d : Decimal) → numeral_texts.double_text d ≡ f64_text d
+unfolding f64_text
+double_row d =
+    let sign = sign_text d.negative in
+    let whole = double_whole d in
+    let fraction = double_fraction d in
+    let power = double_exponent d in
+    let pointed = numeral_texts.fraction_text fraction in
+    let raised = numeral_texts.exponent_text power in
+    append_assoc sign (whole ++ (pointed ++ raised)) (codes "lf")
+    ∙ ap (λ v. sign ++ v)
+    (append_assoc whole (pointed ++ raised) (codes "lf")
+    ∙ ap (λ v. whole ++ v)
+    (append_assoc pointed raised (codes "lf")
+    ∙ ap (λ v. v ++ (raised ++ codes "lf")) (fraction_same fraction)
+    ∙ ap (λ v. fraction_text fraction ++ (v ++ codes "lf")) (power_same power)))
+    ∙ sym (token_row d.negative whole fraction (Double (power_form power)))

@@ -40,55 +40,55 @@ use Rattle.naga_form.proofs.WrittenFunctions.{form_at}
 use Rattle.naga_back.specs.declared.context.FunctionType.{FunctionType}
 use Rattle.naga_back.specs.declared.context.FunctionType.TheVariants as item
 use Rattle.naga_back.specs.declared.flags.WriterFlags.{WriterFlags}
-use Rattle.naga_wgsl_fns.specs.FunctionText.{annotates_types}
+use Rattle.naga_back.specs.Flags.{annotates_types}
 use Rattle.naga_wgsl_fns.specs.Items.{AnswersShowAllOfItems, AnswersShowFunctions, AnswersShowItems}
 use Rattle.naga_wgsl_fns.specs.Items.{HasNoSpecialTypes, IsMeant, IsMeantUnder, StandsIn}
 use Rattle.naga_wgsl_fns.specs.Items.{named_behind, names_behind}
 use Rattle.naga_wgsl_fns.specs.Refusals.{IsWritableAt}
 use Rattle.naga_wgsl_fns.proofs.SpelledTypes.{written_is_spellable}
 
-module _ (named : LabelNames) (explicit : Bool) (names : NameMap) (m : Module) (info : ModuleInfo) where
+module _ (named : LabelNames) (flags : WriterFlags) (names : NameMap) (m : Module) (info : ModuleInfo) where
   -- one of the entry points
   point_at : (g : ℕ) (ps : List ir_entry_point.EntryPoint) (ess : List (List ExpressionInfo)) (i : ℕ)
       (p : ir_entry_point.EntryPoint) (es : List ExpressionInfo) → slice_get ps i ≡ Some p →
       slice_get ess i ≡ Some es →
-      slice_get (entry_points_under named explicit names m info g ps ess) i ≡
-      Some (entry_point_under named explicit names m info (g + i) p es)
+      slice_get (entry_points_under named flags names m info g ps ess) i ≡
+      Some (entry_point_under named flags names m info (g + i) p es)
   point_at g [] ess i p es at known = absurd cc
   point_at g (x ∷ ps) [] i p es at known = absurd cc
   point_at g (x ∷ ps) (ks ∷ ess) zero p es at known =
       let here : g ≡ g + 0 = omega arith in
-      λ j. Some (entry_point_under named explicit names m info (here j) (same_Some x p at j) (same_Some ks es known j))
+      λ j. Some (entry_point_under named flags names m info (here j) (same_Some x p at j) (same_Some ks es known j))
   point_at g (x ∷ ps) (ks ∷ ess) (suc i) p es at known =
       let next : (g + 1) + i ≡ g + suc i = omega arith in
       point_at (g + 1) ps ess i p es at known
-      ∙ ap (λ h. Some (entry_point_under named explicit names m info h p es)) next
+      ∙ ap (λ h. Some (entry_point_under named flags names m info h p es)) next
 
-module _ (named : LabelNames) (explicit : Bool) (m : Module) (info : ModuleInfo) where
+module _ (named : LabelNames) (flags : WriterFlags) (m : Module) (info : ModuleInfo) where
   pub function_in_program : (h : ℕ) (f : ir_function.Function) (es : List ExpressionInfo) →
       slice_get m.functions h ≡ Some f → slice_get info.functions.items h ≡ Some es →
-      slice_get (program_under named m info explicit).functions h ≡
-      Some (function_form explicit (module_names m) (named h) m info h f es)
+      slice_get (program_under named m info flags).functions h ≡
+      Some (function_form flags (module_names m) (named h) m info h f es)
   function_in_program h f es at known =
       let first : 0 + h ≡ h = omega arith in
-      form_at explicit named (module_names m) m info 0 m.functions info.functions.items h f es at known
-      ∙ ap (λ k. Some (function_form explicit (module_names m) (named k) m info k f es)) first
+      form_at flags named (module_names m) m info 0 m.functions info.functions.items h f es at known
+      ∙ ap (λ k. Some (function_form flags (module_names m) (named k) m info k f es)) first
 
   pub point_in_program : (j : ℕ) (p : ir_entry_point.EntryPoint) (es : List ExpressionInfo) →
       slice_get m.entry_points.items j ≡ Some p → slice_get info.entry_points.items j ≡ Some es →
-      slice_get (program_under named m info explicit).entry_points j ≡
-      Some (entry_point_under named explicit (module_names m) m info (length m.functions + j) p es)
+      slice_get (program_under named m info flags).entry_points j ≡
+      Some (entry_point_under named flags (module_names m) m info (length m.functions + j) p es)
   point_in_program j p es at known =
-      point_at named explicit (module_names m) m info (length m.functions) m.entry_points.items
+      point_at named flags (module_names m) m info (length m.functions) m.entry_points.items
       info.entry_points.items j p es at known
 
 -- the same by numbers
-module _ (named : LabelNames) (explicit : Bool) (m : Module) (info : ModuleInfo)
+module _ (named : LabelNames) (flags : WriterFlags) (m : Module) (info : ModuleInfo)
     (accepted : IsTrue (is_accepted m info)) where
   pub own_function : (h : ℕ) → h < length m.functions → (f : ir_function.Function) →
       slice_get (all_functions m) h ≡ Some f →
-      slice_get (program_under named m info explicit).functions h ≡
-      Some (function_form explicit (module_names m) (named h) m info h f (known_of info h))
+      slice_get (program_under named m info flags).functions h ≡
+      Some (function_form flags (module_names m) (named h) m info h f (known_of info h))
   own_function h lt f at =
       let counted = functions_counted m info accepted in
       let own = element m.functions h lt in
@@ -96,12 +96,12 @@ module _ (named : LabelNames) (explicit : Bool) (m : Module) (info : ModuleInfo)
       let same : own.0 ≡ f = same_Some own.0 f (sym (function_among m h own.0 own.1) ∙ at) in
       let alike : known.0 ≡ known_of info h =
       sym (ap (λ o. unwrap_or o []) (info_among info h known.0 known.1)) in
-      function_in_program named explicit m info h own.0 known.0 own.1 known.1
-      ∙ (λ i. Some (function_form explicit (module_names m) (named h) m info h (same i) (alike i)))
+      function_in_program named flags m info h own.0 known.0 own.1 known.1
+      ∙ (λ i. Some (function_form flags (module_names m) (named h) m info h (same i) (alike i)))
 
   pub own_point : (j : ℕ) (p : ir_entry_point.EntryPoint) → slice_get m.entry_points.items j ≡ Some p →
-      slice_get (program_under named m info explicit).entry_points j ≡
-      Some (entry_point_under named explicit (module_names m) m info (length m.functions + j) p
+      slice_get (program_under named m info flags).entry_points j ≡
+      Some (entry_point_under named flags (module_names m) m info (length m.functions + j) p
       (known_of info (length m.functions + j)))
   own_point j p at =
       let counted = entry_points_counted m info accepted in
@@ -109,8 +109,8 @@ module _ (named : LabelNames) (explicit : Bool) (m : Module) (info : ModuleInfo)
       let known = element info.entry_points.items j (omega (arith, within, counted)) in
       let alike : known.0 ≡ known_of info (length m.functions + j) =
       sym (ap (λ o. unwrap_or o []) (entry_info_among m info accepted j known.0 known.1)) in
-      point_in_program named explicit m info j p known.0 at known.1
-      ∙ ap (λ es. Some (entry_point_under named explicit (module_names m) m info (length m.functions + j) p es))
+      point_in_program named flags m info j p known.0 at known.1
+      ∙ ap (λ es. Some (entry_point_under named flags (module_names m) m info (length m.functions + j) p es))
       alike
 
 -- what it may call stands before it, and is none of the entry points
@@ -124,22 +124,22 @@ all_callees m (item.Function handle) k before there = before
 all_callees m (item.EntryPoint index) k before there = there
 
 -- where labels have these names
-meant_under : (named : LabelNames) (explicit : Bool) (m : Module) (info : ModuleInfo) →
+meant_under : (named : LabelNames) (flags : WriterFlags) (m : Module) (info : ModuleInfo) →
     IsTrue (is_accepted m info) → AreLabelNames m named → (ty : FunctionType)
-    (earlier : List (List ℕ)) → IsWritableAt explicit m info earlier (function_number m ty) →
-    (content now : List ℕ) → StandsIn ty content now (program_under named m info explicit) →
-    IsMeantUnder named explicit m info ty content now
-meant_under named explicit m info accepted are ty earlier writable content now stands =
+    (earlier : List (List ℕ)) → IsWritableAt (annotates_types flags) m info earlier (function_number m ty) →
+    (content now : List ℕ) → StandsIn ty content now (program_under named m info flags) →
+    IsMeantUnder named flags m info ty content now
+meant_under named flags m info accepted are ty earlier writable content now stands =
     let number = function_number m ty in
     record {
       stands = stands;
-      bindings = binds_at m info explicit named accepted number writable.formed;
+      bindings = binds_at m info flags named accepted number writable.formed;
       resolution =
-          resolves_at m info explicit named accepted are number writable.formed writable.in_scope;
+          resolves_at m info flags named accepted are number writable.formed writable.in_scope;
       runs = λ items have scopes.
-          runs_at m info explicit named accepted are items number (callee_count m ty) (all_callees m ty)
+          runs_at m info flags named accepted are items number (callee_count m ty) (all_callees m ty)
           (callees_before m ty) writable.formed writable.in_scope have scopes;
-      interface = λ declarations have. has_interface_under m info explicit named accepted declarations have;
+      interface = λ declarations have. has_interface_under m info flags named accepted declarations have;
     }
 
 -- behind the labels of the items and any others
@@ -149,13 +149,13 @@ pub is_meant : (flags : WriterFlags) (m : Module) (info : ModuleInfo) → IsTrue
     (content now : List ℕ) →
     ((named : LabelNames) →
     named (function_number m ty) ≡ named_behind m earlier (function_number m ty) →
-    StandsIn ty content now (program_under named m info (annotates_types flags))) →
-    IsMeant (annotates_types flags) m info earlier ty content now
+    StandsIn ty content now (program_under named m info flags)) →
+    IsMeant flags m info earlier ty content now
 is_meant flags m info accepted ty earlier later is writable content now stands =
     let number = function_number m ty in
     record {
       under = λ named agree.
-          meant_under named (annotates_types flags) m info accepted agree.are ty earlier writable content
+          meant_under named flags m info accepted agree.are ty earlier writable content
           now (stands named agree.own);
       some = record {
         are = subst (λ e. AreLabelNames m (names_behind m e number)) (sym is)

@@ -183,6 +183,9 @@ no_literal_sink : (value : LiteralValue) (reason : SinkError) → NamesLiteral v
 no_literal_sink (literal.F64 bits) reason named = named
 no_literal_sink (literal.F32 bits) reason named = named
 no_literal_sink (literal.F16 bits) reason named = named
+no_literal_sink (literal.DecimalF64 numeral) reason named = named
+no_literal_sink (literal.DecimalF32 numeral) reason named = named
+no_literal_sink (literal.DecimalF16 numeral) reason named = named
 no_literal_sink (literal.AbstractInt value) reason named = named
 no_literal_sink (literal.AbstractFloat bits) reason named = named
 no_literal_sink _ reason named = named

@@ -66,14 +66,14 @@ module _ (m : Module) (handle : ℕ) where
     -- and that has the value
     has_the_value : (content now : List ℕ) → now ≡ content ++ global_text m handle →
         AppendsTheValue m handle content now
-    has_the_value content now appended known is explicit named text behind expression reads =
+    has_the_value content now appended known is flags named text behind expression reads =
         let same =
         append_cancel_left content text (global_text m handle) (sym behind ∙ appended) in
         let only =
         one_expression.only expression
         (subst (λ t. ReadsExpression (tokens t) expression) same reads) in
-        subst (HasValueOf m known handle (program_under named m known explicit)) (sym only)
-        (has_value_of m known is explicit named handle formed)
+        subst (HasValueOf m known handle (program_under named m known flags)) (sym only)
+        (has_value_of m known is flags named handle formed)
 
     pub global_writes : (r : Result Unit Error) (content now : List ℕ) (before after : ℕ) →
         OnOk r (now ≡ content ++ global_text m handle) →

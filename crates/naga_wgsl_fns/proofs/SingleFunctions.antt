@@ -46,7 +46,7 @@ use Rattle.wgsl_text.proofs.Text.{text-append}
 use Rattle.naga_wgsl_fns.specs.Attributes.{attributes_text}
 use Rattle.naga_wgsl_fns.specs.DeclarationRefusals.{NamesHead}
 use Rattle.naga_wgsl_fns.specs.Errors.{IsWant}
-use Rattle.naga_wgsl_fns.specs.FunctionText.{annotates_types}
+use Rattle.naga_back.specs.Flags.{annotates_types}
 use Rattle.naga_wgsl_fns.specs.Functions.{known_of, names_of, stage_before, text_of, text_under}
 use Rattle.naga_wgsl_fns.specs.Items.{AppendsOne, FunctionWriting, IsFunctionRefusal}
 use Rattle.naga_wgsl_fns.specs.Items.{HasNamedItemsOf, StandsIn, named_behind, text_behind}
@@ -114,7 +114,7 @@ module _ (m : Module) (info : ModuleInfo) (flags : WriterFlags) (earlier : List 
     (accepted : IsTrue (is_accepted m info)) where
   abbrev form_at : (number : ℕ) → ir_function.Function → Function
   form_at number f =
-      function_form (annotates_types flags) (module_names m) (named_behind m earlier number) m info number f
+      function_form flags (module_names m) (named_behind m earlier number) m info number f
       (known_of info number)
 
   text_at : (number : ℕ) (f : ir_function.Function) → slice_get (all_functions m) number ≡ Some f →
@@ -205,7 +205,7 @@ module _ (m : Module) (info : ModuleInfo) (flags : WriterFlags) (earlier : List 
       now ≡ content ++ text_behind m info flags earlier (function_number m ty) →
       (named : LabelNames) →
       named (function_number m ty) ≡ named_behind m earlier (function_number m ty) →
-      StandsIn ty content now (program_under named m info (annotates_types flags))
+      StandsIn ty content now (program_under named m info flags)
   stands_in (item.Function h) lt head is content now appended named agree = λ text behind function reads.
       let f = element m.functions h lt in
       let stands = function_among m h f.0 f.1 in
@@ -213,8 +213,8 @@ module _ (m : Module) (info : ModuleInfo) (flags : WriterFlags) (earlier : List 
       let only =
       (function_reading h is f.0 lt stands).only function
       (subst (λ t. ReadsFunction (tokens t) function) same reads) in
-      own_function named (annotates_types flags) m info accepted h lt f.0 stands
-      ∙ ap (λ own. Some (function_form (annotates_types flags) (module_names m) own m info h f.0 (known_of info h)))
+      own_function named flags m info accepted h lt f.0 stands
+      ∙ ap (λ own. Some (function_form flags (module_names m) own m info h f.0 (known_of info h)))
       agree
       ∙ ap Some (sym only)
   stands_in (item.EntryPoint j) lt head is content now appended named agree = λ text behind point reads.
@@ -224,10 +224,10 @@ module _ (m : Module) (info : ModuleInfo) (flags : WriterFlags) (earlier : List 
       let only =
       (point_reading j is head p.0 p.1).only point
       (subst (λ t. ReadsEntryPoint (tokens t) point) same reads) in
-      own_point named (annotates_types flags) m info accepted j p.0 p.1
+      own_point named flags m info accepted j p.0 p.1
       ∙ ap (λ own. Some (record {
         stage = stage_attributes (module_names m) p.0 p.0.stage;
-        function = function_form (annotates_types flags) (module_names m) own m info number
+        function = function_form flags (module_names m) own m info number
             p.0.function (known_of info number);
       })) agree
       ∙ ap Some (sym only)
@@ -325,10 +325,10 @@ module _ (m : Module) (info : ModuleInfo) (flags : WriterFlags) (earlier : List 
         let here = plan f known.0 stands known.1 in
         let same : known_of info g ≡ known.0 = ap (λ o. unwrap_or o []) known.1 in
         subst
-        (λ es. IsFunction (function_form explicit (module_names m) (named_behind m earlier g) m info
+        (λ es. IsFunction (function_form flags (module_names m) (named_behind m earlier g) m info
         g f es))
         (sym same)
-        (one_is explicit m info accepted (named_behind m earlier g) g f stands known.0
+        (one_is flags m info accepted (named_behind m earlier g) g f stands known.0
         known.1 (identifiers f stands) here.formed (leb-true (length f.expressions) (2 ^ 64) here.counted))
 
     -- the names of the plan are those behind the earlier labels

@@ -8,8 +8,8 @@ use Rattle.module_meaning.specs.Written.{IsWrittenIn, WrittenHaveForms, block_le
 use Rattle.module_meaning.specs.Written.{cases_lets, cases_roots, statement_lets, statement_roots}
 use Rattle.shader_runs.specs.Program.{binds}
 use Rattle.std.specs.List.{AllByRecursion, IsAmong}
-use Rattle.std.specs.Prelude.{◌≡◌, ℕ, ◌<◌, Bool, List, Option, Some, IsTrue, slice_get, bit_and}
-use Rattle.std.specs.Prelude.{◌==◌, length, [], ◌^◌, string_bytes}
+use Rattle.std.specs.Prelude.{◌≡◌, ℕ, ◌<◌, Bool, List, Option, Some, IsTrue, slice_get}
+use Rattle.std.specs.Prelude.{length, [], ◌^◌, string_bytes}
 use Rattle.std.specs.Option.{option_map_or}
 use Rattle.naga_scope.specs.declared.points.Availability.{Availability}
 use Rattle.naga_scope.specs.Availabilities.{handles_of}
@@ -31,7 +31,7 @@ use Rattle.naga_form.specs.Types.{annotated_type}
 use Rattle.module_meaning.specs.Types.{type_names}
 use Rattle.naga_words.specs.Contexts.{Names as TypeNames}
 use Rattle.wgsl_text.specs.Types.{TypeSpecifier}
-use Rattle.naga_back.specs.declared.flags.WriterFlags.{WriterFlags}
+use Rattle.naga_back.specs.Flags.{annotates_types}
 use Rattle.naga_wgsl_fns.specs.declared.functions.FunctionText.{FunctionText}
 
 -- the number of the function among those of its module
@@ -41,10 +41,6 @@ number f = function_number f.shader.now f.ty
 -- how many functions it may call
 abbrev pub callees : FunctionText → ℕ
 callees f = callee_count f.shader.now f.ty
-
--- each `let` tells its type
-abbrev pub annotates_types : WriterFlags → Bool
-annotates_types flags = bit_and flags.0 1 == 1
 
 -- the names that front ends gave in it, in the order of its text
 abbrev pub named_in : FunctionText → (number : ℕ) → List ℕ
@@ -67,7 +63,7 @@ expressions f = f.function.now.expressions
 
 -- the same with their context
 abbrev pub source : FunctionText → Source
-source f = function_source f.shader.now f.module_info.now f.function.now f.info.now
+source f = function_source f.flags f.shader.now f.module_info.now f.function.now f.info.now
 
 abbrev pub context : FunctionText → ExpressionContext
 context f = (source f).declared.context

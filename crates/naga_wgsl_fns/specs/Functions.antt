@@ -26,7 +26,7 @@ use Rattle.wgsl_text.specs.Text.{text}
 use Rattle.naga_back.specs.declared.flags.WriterFlags.{WriterFlags}
 use Rattle.naga_wgsl_fns.specs.declared.functions.FunctionText.{FunctionText}
 use Rattle.naga_wgsl_fns.specs.FunctionText.{named_in, handles_in, source, naming}
-use Rattle.naga_wgsl_fns.specs.FunctionText.{annotates_types, number, type_names_of}
+use Rattle.naga_wgsl_fns.specs.FunctionText.{number, type_names_of}
 use Rattle.module_meaning.specs.FunctionNumbers.{all_functions, all_infos}
 use Rattle.naga_wgsl_fns.specs.Attributes.{attributes_text}
 use Rattle.naga_wgsl_fns.specs.Names.{name_of_function}
@@ -53,7 +53,7 @@ abbrev pub text_of :
     Module → ModuleInfo → WriterFlags → (named : ℕ → List ℕ) → (number : ℕ) → ir.Function →
     List ExpressionInfo → List ℕ
 text_of m info flags named number f known =
-    let form = function_form (annotates_types flags) (module_names m) named m info number f known in
+    let form = function_form flags (module_names m) named m info number f known in
     stage_before m number ++ text (function_pieces form)
 
 -- the same of the module's function with this number; nothing, where there is none
@@ -72,7 +72,7 @@ abbrev pub form_of : FunctionText → Function
 form_of f =
     let m = f.shader.now in
     let info = f.module_info.now in
-    function_form (annotates_types f.flags) (module_names m) (named_in f) m info (number f)
+    function_form f.flags (module_names m) (named_in f) m info (number f)
     f.function.now
     f.info.now
 

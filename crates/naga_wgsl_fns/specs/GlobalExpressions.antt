@@ -1,7 +1,7 @@
 -- What is promised of a call that writes one of a module's own expressions.
 --
 -- Throughout, m is the module, and handle is that of the expression.
-use Rattle.std.specs.Prelude.{◌≡◌, ⊤, ℕ, ◌++◌, Bool, List, IfErr, IsFalse}
+use Rattle.std.specs.Prelude.{◌≡◌, ⊤, ℕ, ◌++◌, List, IfErr, IsFalse}
 use Rattle.std.specs.Prelude.{IsTrue, Ok, Err, OnErr, OnOk, Result}
 use Rattle.naga_ir.specs.declared.module.Module.{Module}
 use Rattle.naga_info.specs.declared.info.ModuleInfo.{ModuleInfo}
@@ -19,6 +19,7 @@ use Rattle.naga_wgsl_fns.specs.Errors.{IsSinkWant}
 use Rattle.naga_wgsl_fns.specs.Refusals.{NamesGlobal, TellsOfModule}
 use Rattle.naga_wgsl_fns.specs.declared.error.Error.{Error}
 use Rattle.naga_wgsl_fns.specs.declared.error.Error.TheVariants.{FmtError, Memory}
+use Rattle.naga_back.specs.declared.flags.WriterFlags.{WriterFlags}
 
 -- why it is refused, where the sink had failed so often before and has failed so often now
 abbrev pub IsGlobalRefusal : Module → (handle : ℕ) → (before now : ℕ) → Error → Type 0
@@ -40,10 +41,10 @@ RefusesGlobalOnlyFor (Err error) m handle before now = IsGlobalRefusal m handle 
 abbrev pub AppendsTheValue : Module → (handle : ℕ) → (content now : List ℕ) → Type 0
 AppendsTheValue m handle content now =
     (info : ModuleInfo) → IsTrue (is_accepted m info) →
-    (explicit : Bool) (named : LabelNames) →
+    (flags : WriterFlags) (named : LabelNames) →
     (text : List ℕ) → now ≡ content ++ text →
     (expression : Expression) → ReadsExpression (tokens text) expression →
-    HasValueOf m info handle (program_under named m info explicit) expression
+    HasValueOf m info handle (program_under named m info flags) expression
 
 -- A call was asked to write the expression behind the text that its sink held; it answered, and the
 -- sink holds another text now. The sink had failed so often before, and has failed so often now.

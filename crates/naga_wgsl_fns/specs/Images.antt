@@ -1,11 +1,11 @@
 -- The texts of samplings of images.
 use Rattle.std.specs.Prelude.{ℕ, Bool, true, false, List, [], ◌∷◌, ◌++◌, codes}
-use Rattle.std.specs.Prelude.{if◌then◌else◌, Option, Some, None}
+use Rattle.std.specs.Prelude.{Option, Some, None}
 use Rattle.std.specs.Option.{option_map_or}
 use Rattle.module_meaning.specs.ExpressionOperators.{is_depth_image, level_of, sample_operator}
 use Rattle.module_meaning.specs.ExpressionOperators.{type_known}
 use Rattle.module_meaning.specs.OperatorTable.{zero_is_written}
-use Rattle.naga_form.specs.Expressions.{constant_form}
+use Rattle.naga_form.specs.Expressions.{constant_form, zero_is_whole}
 use Rattle.naga_form.specs.Images.{sampling_word}
 use Rattle.naga_ir.specs.declared.expression.Expression as ir
 use Rattle.naga_ir.specs.declared.expression.Expression.TheVariants as expression
@@ -52,10 +52,15 @@ unfoldable pub furthers_text : FunctionText → (table : List Availability) → 
 furthers_text f table [] = []
 furthers_text f table (h ∷ hs) = next_operand_text f table false h ++ furthers_text f table hs
 
--- the level `0.0`, where it is written
-abbrev pub level_text : SampleLevel → (by_name : Bool) → List ℕ
-level_text level by_name =
-    if zero_is_written (level_of level) by_name then codes ", 0.0" else []
+-- level zero, where it is written, with a point or whole
+abbrev pub zero_text : (written whole : Bool) → List ℕ
+zero_text true false = codes ", 0.0"
+zero_text true true = codes ", 0"
+zero_text false whole = []
+
+abbrev pub level_text : FunctionText → (image : ℕ) → SampleLevel → (by_name : Bool) → List ℕ
+level_text f image level by_name =
+    zero_text (zero_is_written (level_of level) by_name) (zero_is_whole (source f) image)
 
 -- an offset, as a constant
 unfoldable pub offset_text : FunctionText → (offset : Option ℕ) → List ℕ

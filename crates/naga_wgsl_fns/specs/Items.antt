@@ -1,7 +1,8 @@
 -- What is promised of a call that writes one function of a module.
 --
 -- Throughout, m is the module, earlier are labels that were named before, ty says which of its
--- functions is meant and number is that of it, and explicit says whether `let`s tell types.
+-- functions is meant and number is that of it, flags say how it is written, and explicit says
+-- whether `let`s tell types.
 use Rattle.std.specs.Prelude.{◌≡◌, ⊤, ℕ, ◌<◌, ◌++◌, Bool, false, List, [], ◌⊎◌, Ok, Err, IfErr}
 use Rattle.std.specs.Prelude.{IsFalse, IsTrue, None, OnErr, OnOk, Result, Some, slice_get}
 use Rattle.std.specs.Option.{is_some}
@@ -39,7 +40,7 @@ use Rattle.naga_words.specs.Segments.{HasWritten}
 use Rattle.naga_words.specs.Sink.{IsBehind}
 use Rattle.naga_words.specs.Spelling.{type_segments}
 use Rattle.naga_wgsl_fns.specs.Errors.{IsSinkWant}
-use Rattle.naga_wgsl_fns.specs.FunctionText.{annotates_types}
+use Rattle.naga_back.specs.Flags.{annotates_types}
 use Rattle.naga_wgsl_fns.specs.Functions.{text_under}
 use Rattle.naga_wgsl_fns.specs.GlobalExpressions.{RefusesGlobalOnlyFor}
 use Rattle.naga_wgsl_fns.specs.DeclarationRefusals.{NamesHead}
@@ -130,16 +131,16 @@ StandsIn (item.EntryPoint index) content now program =
 -- What was appended stands in the program that is written for the module where labels have these
 -- names. But for the interface, nothing is asked of the functions that it can't call, which may
 -- have no text at all, and nothing of how what functions take and give is bound.
-pub record IsMeantUnder (named : LabelNames) (explicit : Bool) (m : Module) (info : ModuleInfo)
+pub record IsMeantUnder (named : LabelNames) (flags : WriterFlags) (m : Module) (info : ModuleInfo)
     (ty : FunctionType) (content now : List ℕ) : Type 0 where
-  pub stands : StandsIn ty content now (program_under named m info explicit)
+  pub stands : StandsIn ty content now (program_under named m info flags)
   -- The function has the module's `let`s. No item is asked for its form.
-  pub bindings : BindsAt named m info explicit (program_under named m info explicit)
+  pub bindings : BindsAt named m info (annotates_types flags) (program_under named m info flags)
       (function_number m ty)
   -- Each of its identifiers and words stands for what the module means, and so does each name
   -- outside of functions. Of items only initialisers are asked for forms, for what they themselves
   -- name: those of constants with names, and by themselves those of overrides and variables.
-  pub resolution : ResolvesAt named m info (program_under named m info explicit)
+  pub resolution : ResolvesAt named m info (program_under named m info flags)
       (function_number m ty)
   -- It does what the module does, where the types of all variables and the initialisers of all
   -- constants with names have forms, what is written of each function that it may call has forms,
@@ -149,18 +150,18 @@ pub record IsMeantUnder (named : LabelNames) (explicit : Bool) (m : Module) (inf
   pub runs : ItemsHaveForms m →
       WrittenHaveFormsBefore false m info (callee_count m ty) →
       ScopesHoldBefore m info (callee_count m ty) →
-      RunsAt m info (program_under named m info explicit) (function_number m ty)
+      RunsAt m info (program_under named m info flags) (function_number m ty)
   -- The interface of the program is the module's, where all that the module declares and each
   -- function has forms.
-  pub interface : DeclarationsHaveForms m → AllWrittenHaveForms explicit m info →
-      HasInterfaceOf m info (program_under named m info explicit)
+  pub interface : DeclarationsHaveForms m → AllWrittenHaveForms (annotates_types flags) m info →
+      HasInterfaceOf m info flags (program_under named m info flags)
 
 -- What was appended is meant so under all names of labels among which its own are. There are some:
 -- the names of a text of the whole module, with this function's own in their place.
-pub record IsMeant (explicit : Bool) (m : Module) (info : ModuleInfo) (earlier : List (List ℕ))
+pub record IsMeant (flags : WriterFlags) (m : Module) (info : ModuleInfo) (earlier : List (List ℕ))
     (ty : FunctionType) (content now : List ℕ) : Type 0 where
   pub under : (named : LabelNames) → AreNamesOfText m earlier (function_number m ty) named →
-      IsMeantUnder named explicit m info ty content now
+      IsMeantUnder named flags m info ty content now
   pub some : AreNamesOfText m earlier (function_number m ty)
       (names_behind m earlier (function_number m ty))
 
@@ -232,7 +233,7 @@ pub record FunctionWriting (m : Module) (info : ModuleInfo) (flags : WriterFlags
   -- stands in the functions that it can't call, in any program in which its labels have the names
   -- that they got here.
   pub meaning : OnOk answer ((later : List (List ℕ)) → earlier ≡ item_labels m ++ later →
-      IsMeant (annotates_types flags) m info earlier ty content now)
+      IsMeant flags m info earlier ty content now)
   pub failures_ok : OnOk answer (after ≡ before)
   -- A call that gives up leaves a beginning of it, and nothing where it tells of the module.
   pub text_err : OnErr answer

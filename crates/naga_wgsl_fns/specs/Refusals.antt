@@ -91,6 +91,9 @@ abbrev pub NamesLiteral : LiteralValue → Error → Type 0
 NamesLiteral (literal.F64 bits) error = FloatLiteral error
 NamesLiteral (literal.F32 bits) error = FloatLiteral error
 NamesLiteral (literal.F16 bits) error = FloatLiteral error
+NamesLiteral (literal.DecimalF64 numeral) error = FloatLiteral error
+NamesLiteral (literal.DecimalF32 numeral) error = FloatLiteral error
+NamesLiteral (literal.DecimalF16 numeral) error = FloatLiteral error
 NamesLiteral (literal.AbstractInt value) error = AbstractLiteral error
 NamesLiteral (literal.AbstractFloat bits) error = AbstractLiteral error
 NamesLiteral _ error = ⊥

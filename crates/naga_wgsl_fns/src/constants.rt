@@ -80,7 +80,7 @@ impl ModuleText<'_> {
             (global_text self.now.shader.now handle) }
     {
         match &self.shader.global_expressions[handle] {
-            Expression::Literal(literal) => write_literal(*literal, out),
+            Expression::Literal(literal) => write_literal(alloc, *literal, out),
             Expression::Constant(constant) => self.write_constant(alloc, *constant, out),
             Expression::Override(item) => self.write_override_name(*item, out),
             Expression::ZeroValue(ty) => self.write_made_global(alloc, *ty, handle, out),

@@ -71,7 +71,7 @@ impl FunctionText<'_> {
         ensures { Writes W.text W.failures out.old out.new (own_text self.now scope.now.table handle) }
     {
         match &self.function.expressions[handle] {
-            Expression::Literal(literal) => write_literal(*literal, out),
+            Expression::Literal(literal) => write_literal(alloc, *literal, out),
             Expression::Constant(constant) => self.write_constant(alloc, *constant, out),
             Expression::Override(item) => self.of_module().write_override_name(*item, out),
             Expression::ZeroValue(ty) => self.write_made(alloc, scope, handle, *ty, out),

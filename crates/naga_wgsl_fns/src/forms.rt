@@ -246,9 +246,12 @@ pub(crate) fn literal_without_form(alloc: Global, literal: &Literal) -> Error
     ensures { NamesLiteral literal.now result }
 {
     match literal {
-        Literal::F64(_) | Literal::F32(_) | Literal::F16(_) => {
-            unimplemented(alloc, "float literal")
-        }
+        Literal::F64(_)
+        | Literal::F32(_)
+        | Literal::F16(_)
+        | Literal::DecimalF64(_)
+        | Literal::DecimalF32(_)
+        | Literal::DecimalF16(_) => { unimplemented(alloc, "float literal") }
         Literal::AbstractInt(_) | Literal::AbstractFloat(_) => {
             custom(
                 alloc,

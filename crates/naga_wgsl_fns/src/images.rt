@@ -4,17 +4,20 @@ ghost use Rattle.std.specs.Prelude.{◌≡◌, ◌<◌, ◌||◌, Bool, IsTrue, 
 ghost use Rattle.std.specs.Option.{is_some, option_to_list};
 ghost use Rattle.module_meaning.specs.ExpressionOperators.{level_of, query_operator};
 ghost use Rattle.module_meaning.specs.ExpressionOperators.{sample_operator};
-ghost use Rattle.module_meaning.specs.OperatorTable.{Sample, run_word};
+ghost use Rattle.module_meaning.specs.OperatorTable.{Sample, run_word, zero_is_written};
 ghost use Rattle.module_meaning.specs.Sampling.{offset_is_written, sampling_is_written};
+ghost use Rattle.naga_form.specs.Expressions.{zero_is_whole};
 ghost use Rattle.naga_form.specs.Images.{sampling_word};
 ghost use Rattle.naga_ir.specs.Operands.{level_operands};
 ghost use Rattle.naga_words.specs.Output.{Writes};
 ghost use Rattle.naga_wgsl_fns.specs.Expressions.{own_text};
 ghost use Rattle.naga_wgsl_fns.specs.FunctionText.{AreInText, CanWrite, IsInText, expressions};
+ghost use Rattle.naga_wgsl_fns.specs.FunctionText.{source};
 ghost use Rattle.naga_wgsl_fns.specs.Images.{component_text, depths_at, furthers_text, head_text};
-ghost use Rattle.naga_wgsl_fns.specs.Images.{is_sampled, level_text, offset_text};
+ghost use Rattle.naga_wgsl_fns.specs.Images.{is_sampled, offset_text, zero_text};
 
 use crate::functions::FunctionText;
+use naga_back::is_portable;
 use naga_ir::{
     Expression, Handle, ImageClass, ImageQuery, SampleLevel, SwizzleComponent, TypeInner,
 };
@@ -23,8 +26,8 @@ use naga_words::{Output, TextSink};
 use std::alloc::Global;
 
 impl FunctionText<'_> {
-    /// A sampling: its word with the operands, behind them the level `0.0` where it is written, and
-    /// last the offset as a constant.
+    /// A sampling: its word with the operands, behind them level zero where it is written, and last
+    /// the offset as a constant.
     #[cycle(expression)]
     pub(crate) fn write_sampling<W: TextSink>(
         &self,
@@ -59,7 +62,7 @@ impl FunctionText<'_> {
                 self.write_further(alloc, scope, *array_index, out);
                 self.write_further(alloc, scope, *depth_ref, out);
                 self.write_level(alloc, scope, *level, out);
-                out.put(level_str(*level, by_name));
+                out.put(level_str(*level, by_name, self.zero_is_whole(*image)));
                 self.write_offset(alloc, *offset, out);
                 out.put(")");
             }
@@ -98,6 +101,16 @@ impl FunctionText<'_> {
             TypeInner::Image { class, .. } => matches!(class, ImageClass::Depth { .. }),
             _ => false,
         }
+    }
+
+    /// Whether level zero of this image is written as a whole number, which standard compilers ask for
+    /// where it is one of depths.
+    fn zero_is_whole(&self, image: Handle<Expression>) -> bool
+        requires can { CanWrite self.now }
+        requires image { IsInText self.now image }
+        ensures { result ≡ zero_is_whole (source self.now) image }
+    {
+        is_portable(self.flags) && self.has_depths(image)
     }
 
     /// A further operand, if there is one.
@@ -242,13 +255,19 @@ fn is_zero_by_name(gather: Option<SwizzleComponent>, compares: bool, clamped: bo
 }
 
 /// Level zero as a number, where no other word tells it.
-fn level_str(level: SampleLevel, by_name: bool) -> &'static str
-    ensures { result.now ≡ level_text level by_name }
+fn level_str(level: SampleLevel, by_name: bool, is_whole: bool) -> &'static str
+    ensures { result.now ≡ zero_text (zero_is_written (level_of level) by_name) is_whole }
 {
     match level {
-        SampleLevel::Zero => { if by_name { "" } else { ", 0.0" } }
+        SampleLevel::Zero => { if by_name { "" } else { zero_str(is_whole) } }
         _ => "",
     }
+}
+
+fn zero_str(is_whole: bool) -> &'static str
+    ensures { result.now ≡ zero_text true is_whole }
+{
+    if is_whole { ", 0" } else { ", 0.0" }
 }
 
 /// What asks an image for its size or for one of its counts.

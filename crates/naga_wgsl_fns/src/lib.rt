@@ -49,5 +49,4 @@ pub use items::write_function;
 pub use literal::write_literal;
 pub use plans::plan_of;
 pub use sinks::put;
-pub use types::annotates_types;
 pub use undeclared::names_undeclared;

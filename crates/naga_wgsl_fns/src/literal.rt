@@ -4,18 +4,21 @@ ghost use Rattle.std.specs.Prelude.{◌++◌, IsTrue};
 ghost use Rattle.module_meaning.specs.ExpressionForms.{is_written_literal};
 ghost use Rattle.naga_words.specs.Output.{Writes};
 ghost use Rattle.naga_wgsl_fns.specs.Literals.{i32_text, literal_text, i64_text, i16_text};
-ghost use Rattle.naga_wgsl_fns.specs.Literals.{u16_text};
+ghost use Rattle.naga_wgsl_fns.specs.Literals.{f16_text, f32_text, f64_text, u16_text};
 
+use float_numerals::{Decimal, push_double, push_half, push_single};
 use itoa::{Buffer, Integer};
 use naga_ir::Literal;
 use naga_words::{Output, TextSink};
+use std::alloc::Global;
 
 /// Writes a literal as one expression: `5i`, `-5i`, `5u`, `5li`, `5lu`, `true`, and those of 16 bits
 /// as `i16(-5)` and `u16(5)`. The least `i32` and
 /// the least `i64` have no literal in WGSL, whose `-` stands outside, and are written
-/// `i32(-2147483648)` and `i64(-9223372036854775807 - 1)`.
-#[tactic(auto, unfolding(crate::specs::Literals::literal_text, crate::specs::Literals::i32_text, crate::specs::Literals::i64_text, crate::specs::Literals::i16_text, crate::specs::Literals::u16_text))]
-pub fn write_literal<W: TextSink>(literal: Literal, out: &mut Output<'_, W>)
+/// `i32(-2147483648)` and `i64(-9223372036854775807 - 1)`. Numerals are written as `0.5f`, `120h`,
+/// `1.0lf` and `1e16lf`.
+#[tactic(auto, unfolding(crate::specs::Literals::literal_text, crate::specs::Literals::i32_text, crate::specs::Literals::i64_text, crate::specs::Literals::i16_text, crate::specs::Literals::u16_text, crate::specs::Literals::f64_text, crate::specs::Literals::f32_text, crate::specs::Literals::f16_text))]
+pub fn write_literal<W: TextSink>(alloc: Global, literal: Literal, out: &mut Output<'_, W>)
     requires { IsTrue (is_written_literal literal) }
     ensures { Writes W.text W.failures out.old out.new (literal_text literal) }
 {
@@ -27,7 +30,43 @@ pub fn write_literal<W: TextSink>(literal: Literal, out: &mut Output<'_, W>)
         Literal::U32(value) => write_number(value, "u", out),
         Literal::I64(value) => write_i64(value, out),
         Literal::U64(value) => write_number(value, "lu", out),
+        Literal::DecimalF64(numeral) => write_double(alloc, numeral, out),
+        Literal::DecimalF32(numeral) => write_single(alloc, numeral, out),
+        Literal::DecimalF16(numeral) => write_half(alloc, numeral, out),
         _ => unreachable!(),
+    }
+}
+
+#[tactic(auto, using(crate::proofs::Literals::double_row))]
+fn write_double<W: TextSink>(alloc: Global, numeral: Decimal, out: &mut Output<'_, W>)
+    ensures { Writes W.text W.failures out.old out.new (f64_text numeral) }
+{
+    let mut text = String::new(alloc);
+    match push_double(numeral, &mut text) {
+        Ok(()) => out.put(text.as_str()),
+        Err(error) => out.remember(error),
+    }
+}
+
+#[tactic(auto, using(crate::proofs::Literals::single_row))]
+fn write_single<W: TextSink>(alloc: Global, numeral: Decimal, out: &mut Output<'_, W>)
+    ensures { Writes W.text W.failures out.old out.new (f32_text numeral) }
+{
+    let mut text = String::new(alloc);
+    match push_single(numeral, &mut text) {
+        Ok(()) => out.put(text.as_str()),
+        Err(error) => out.remember(error),
+    }
+}
+
+#[tactic(auto, using(crate::proofs::Literals::half_row))]
+fn write_half<W: TextSink>(alloc: Global, numeral: Decimal, out: &mut Output<'_, W>)
+    ensures { Writes W.text W.failures out.old out.new (f16_text numeral) }
+{
+    let mut text = String::new(alloc);
+    match push_half(numeral, &mut text) {
+        Ok(()) => out.put(text.as_str()),
+        Err(error) => out.remember(error),
     }
 }
 

@@ -13,14 +13,13 @@ ghost use Rattle.naga_scope.specs.ExpressionNames.{HasBegunLabels, HasOtherUses,
 ghost use Rattle.naga_scope.specs.Marks.{GlobalsStandInOrder};
 ghost use Rattle.naga_scope.specs.Plans.{IsPlanOf};
 ghost use Rattle.naga_scope.specs.Tables.{AreTablesOf};
-ghost use Rattle.naga_wgsl_fns.specs.FunctionText.{annotates_types};
+ghost use Rattle.naga_back.specs.Flags.{annotates_types};
 ghost use Rattle.naga_wgsl_fns.specs.Refusals.{IsOfPlan, IsPlanRefusal, NamesItemsOf};
 ghost use Rattle.naga_wgsl_fns.specs.Refusals.{TellsPlanError};
 
 use crate::error::{Error, custom, names_error};
 use crate::forms::{statement_without_form, type_without_form, without_form};
-use crate::types::annotates_types;
-use naga_back::{FunctionType, WriterFlags};
+use naga_back::{FunctionType, WriterFlags, annotates_types};
 use naga_info::{FunctionInfo, ModuleInfo, TypeResolution};
 use naga_ir::{Function, Module};
 use naga_names::NameKey;

@@ -1,17 +1,17 @@
 //! Types, spelled under the names of the module's items.
 
-ghost use Rattle.std.specs.Prelude.{◌≡◌, ◌<◌, IsTrue, length};
+ghost use Rattle.std.specs.Prelude.{◌<◌, IsTrue, length};
 ghost use Rattle.module_meaning.specs.AlikeTypes.{is_spelled};
 ghost use Rattle.module_meaning.specs.Ranges.{resolution_fits};
 ghost use Rattle.naga_info.specs.declared.info.TypeResolution.TheVariants as resolution;
 ghost use Rattle.naga_words.specs.Output.{Writes};
-ghost use Rattle.naga_wgsl_fns.specs.FunctionText.{CanWrite, IsLet, annotates_types};
+ghost use Rattle.naga_back.specs.Flags.{annotates_types};
+ghost use Rattle.naga_wgsl_fns.specs.FunctionText.{CanWrite, IsLet};
 ghost use Rattle.naga_wgsl_fns.specs.Types.{annotation_text, resolution_text, let_annotation_text};
 ghost use Rattle.naga_wgsl_fns.specs.Types.{type_text};
 
 use crate::functions::FunctionText;
-use bitflags::Flags;
-use naga_back::WriterFlags;
+use naga_back::annotates_types;
 use naga_info::TypeResolution;
 use naga_ir::{Expression, Handle, Type_};
 use naga_words::types::write_resolution_in;
@@ -107,11 +107,4 @@ impl FunctionText<'_> {
             self.write_let_type(alloc, handle, out);
         }
     }
-}
-
-/// Whether each `let` tells its type.
-pub fn annotates_types(flags: WriterFlags) -> bool
-    ensures { result ≡ annotates_types flags }
-{
-    flags.contains(WriterFlags::EXPLICIT_TYPES)
 }

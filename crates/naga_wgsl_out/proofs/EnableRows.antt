@@ -68,7 +68,8 @@ pub enables_row : (e : Enables) → enables_text (words_among (words_found e)) �
     (joined_texts (line_text e.primitive_index (codes "primitive_index"))
     (joined_texts (line_text e.cooperative_matrix (codes "wgpu_cooperative_matrix"))
     (joined_texts (line_text e.ray_tracing_pipeline (codes "wgpu_ray_tracing_pipeline"))
-    (joined_texts (line_text e.per_vertex (codes "wgpu_per_vertex")) (end_text (is_any e))))))))))))
+    (joined_texts (line_text e.per_vertex (codes "wgpu_per_vertex"))
+    (joined_texts (line_text e.subgroups (codes "subgroups")) (end_text (is_any e)))))))))))))
 unfolding lines_text
 enables_row e =
     ap (λ t. text (enables_pieces (words_among (words_found e))) ++ t)

@@ -34,7 +34,7 @@ use Rattle.naga_wgsl_fns.specs.Errors.{IsWant}
 use Rattle.naga_wgsl_fns.specs.declared.error.Error.{Error}
 use Rattle.naga_wgsl_fns.specs.declared.error.Error.TheVariants.{FmtError, Custom, Memory}
 use Rattle.naga_back.specs.declared.flags.WriterFlags.{WriterFlags}
-use Rattle.naga_wgsl_fns.specs.FunctionText.{annotates_types}
+use Rattle.naga_back.specs.Flags.{annotates_types}
 use Rattle.naga_wgsl_out.specs.Writing.{HasPlan, MetNoPlan, WritesFunctions, WroteFunctions}
 use Rattle.naga_wgsl_out.specs.Writing.{WroteFunctionsBefore, front_text, lines_before, module_lines}
 use Rattle.naga_wgsl_out.specs.Writing.{written_text}
@@ -58,10 +58,11 @@ refused_behind_nothing (Ok x) content piece = tt
 refused_behind_nothing (Err e) content piece = behind_nothing content piece
 
 -- a refusal
-pub refused : (explicit : Bool) (m : Module) (info : ModuleInfo) (error : Error)
-    (content now : List ℕ) (before after : ℕ) → IsRefusal explicit m info before after error →
-    FaithfulWriting explicit m info (Err error) content now before after
-refused explicit m info error content now before after is = record { refusals = is; reading = tt; interface = tt; runs = tt }
+pub refused : (flags : WriterFlags) (m : Module) (info : ModuleInfo) (error : Error)
+    (content now : List ℕ) (before after : ℕ) →
+    IsRefusal (annotates_types flags) m info before after error →
+    FaithfulWriting flags m info (Err error) content now before after
+refused flags m info error content now before after is = record { refusals = is; reading = tt; interface = tt; runs = tt }
 
 -- names that can't be told are a reason
 pub for_names : (explicit : Bool) (m : Module) (info : ModuleInfo) (error : Error) (before after : ℕ) → IsNamesRefusal m error → IsRefusal explicit m info before after error
@@ -112,15 +113,15 @@ module _ (m : Module) (info : ModuleInfo) (flags : WriterFlags)
   AllPlanned = (i : ℕ) → i < length (all_functions m) → HasPlan explicit m info i
 
   abbrev program : Program
-  program = written_program m info explicit
+  program = written_program m info flags
 
   -- what stands in front of its functions
   abbrev front : List ℕ
-  front = front_text m
+  front = front_text m info flags
 
   one : AllPlanned → HasOneReading Reads (written_text m info flags) program
   one planned =
-      program_has_one_reading program (is_program m info explicit accepted
+      program_has_one_reading program (is_program m info flags accepted
       declarations (all_planned_formed explicit m info planned) (all_planned_counted explicit m info accepted planned))
 
   each : AllPlanned → (content now : List ℕ) → now ≡ content ++ written_text m info flags →
@@ -133,7 +134,7 @@ module _ (m : Module) (info : ModuleInfo) (flags : WriterFlags)
   -- the answer of the call that wrote the functions
   pub record Concludes (r : Result Unit Error) (content now : List ℕ) (before after : ℕ) : Type 0
     where
-      pub is_faithful : FaithfulWriting explicit m info r content now before after
+      pub is_faithful : FaithfulWriting flags m info r content now before after
       pub resolved : OnOk r (EachReading content now (ResolvesAs m info))
       pub binds : OnOk r (EachReading content now (BindsAs m info explicit))
       pub layouts : OnOk r (EachReading content now (KeepsLayouts m))
@@ -162,7 +163,7 @@ module _ (m : Module) (info : ModuleInfo) (flags : WriterFlags)
     stopped : (e : Error) → StoppedWithin content before (front ++ module_lines m info flags) now after e →
         Concludes (Err e) content now before after
     stopped e s = record {
-      is_faithful = refused explicit m info e content now before after
+      is_faithful = refused flags m info e content now before after
           (for_want explicit m info e before after s.reason);
       resolved = tt;
       binds = tt;
@@ -196,7 +197,7 @@ module _ (m : Module) (info : ModuleInfo) (flags : WriterFlags)
           let rules = all_planned_hold explicit m info planned in
           let have = all_planned_formed explicit m info planned in
           let reading = each planned content now appended in
-          let told = has_interface m info explicit accepted declarations have in
+          let told = has_interface m info flags accepted declarations have in
           record {
             is_faithful = record {
               refusals = record {
@@ -212,13 +213,13 @@ module _ (m : Module) (info : ModuleInfo) (flags : WriterFlags)
                 program = program;
                 reading = one planned;
               };
-              interface = reading (HasInterfaceOf m info) told;
+              interface = reading (HasInterfaceOf m info flags) told;
               runs = reading (RunsAs m info)
-                  (runs_as m info explicit accepted declarations have rules);
+                  (runs_as m info flags accepted declarations have rules);
             };
             resolved = reading (ResolvesAs m info)
-                (resolves m info explicit accepted declarations have rules);
-            binds = reading (BindsAs m info explicit) (binds_as m info explicit accepted declarations have);
+                (resolves m info flags accepted declarations have rules);
+            binds = reading (BindsAs m info explicit) (binds_as m info flags accepted declarations have);
             layouts = reading (KeepsLayouts m) told.layouts;
             text_ok = appended;
             text_err = tt;
@@ -231,7 +232,7 @@ module _ (m : Module) (info : ModuleInfo) (flags : WriterFlags)
       met_no_plan : (e : Error) → MetNoPlan m info flags middle among now after e →
           Concludes (Err e) content now before after
       met_no_plan e s = record {
-        is_faithful = refused explicit m info e content now before after
+        is_faithful = refused flags m info e content now before after
             (fault_refuses explicit m info s.before.handle before after e s.tells s.fault);
         resolved = tt;
         binds = tt;

@@ -92,6 +92,9 @@ module _ (error : Error) (tells : TellsOfModule error) where
   of_literal (literal.F64 bits) named = of_float named
   of_literal (literal.F32 bits) named = of_float named
   of_literal (literal.F16 bits) named = of_float named
+  of_literal (literal.DecimalF64 numeral) named = of_float named
+  of_literal (literal.DecimalF32 numeral) named = of_float named
+  of_literal (literal.DecimalF16 numeral) named = of_float named
   of_literal (literal.AbstractInt value) named = of_abstract named
   of_literal (literal.AbstractFloat bits) named = of_abstract named
   of_literal _ named = absurd named

@@ -23,6 +23,7 @@ either_assoc a b c = λ i. record {
   cooperative_matrix = or_assoc a.cooperative_matrix b.cooperative_matrix c.cooperative_matrix i;
   ray_tracing_pipeline = or_assoc a.ray_tracing_pipeline b.ray_tracing_pipeline c.ray_tracing_pipeline i;
   per_vertex = or_assoc a.per_vertex b.per_vertex c.per_vertex i;
+  subgroups = or_assoc a.subgroups b.subgroups c.subgroups i;
 }
 
 -- what some of these items need
@@ -70,6 +71,7 @@ found_all test found whole left none holds =
       cooperative_matrix = or-false found.cooperative_matrix i;
       ray_tracing_pipeline = or-false found.ray_tracing_pipeline i;
       per_vertex = or-false found.per_vertex i;
+      subgroups = or-false found.subgroups i;
     }
 
 -- ---- arenas, whose items come with their handles

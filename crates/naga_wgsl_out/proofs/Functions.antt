@@ -38,12 +38,12 @@ use Rattle.wgsl_text.specs.Text.{text}
 use Rattle.naga_names.specs.Naming.{Names}
 use Rattle.naga_scope.specs.ExpressionNames.{NamesLabels}
 use Rattle.naga_scope.specs.Plans.{IsPlanOf, Planned}
-use Rattle.module_meaning.specs.Enables.{needed_enables}
+use Rattle.module_meaning.specs.Enables.{written_enables}
 use Rattle.module_meaning.specs.Names.{expression_name, labels_before, labels_named_in}
 use Rattle.module_meaning.specs.Names.{module_names, wgsl_names}
 use Rattle.naga_wgsl_fns.specs.Appends.{Appends, StoppedWithin, Wrote}
 use Rattle.naga_wgsl_fns.specs.Attributes.{attributes_text}
-use Rattle.naga_wgsl_fns.specs.FunctionText.{annotates_types}
+use Rattle.naga_back.specs.Flags.{annotates_types}
 use Rattle.naga_wgsl_fns.specs.Functions.{known_of, text_of, text_of_function}
 use Rattle.naga_wgsl_fns.specs.Stages.{stage_text}
 use Rattle.naga_wgsl_fns.specs.declared.error.Error.{Error}
@@ -83,7 +83,7 @@ module _ (m : Module) (info : ModuleInfo) (flags : WriterFlags)
   -- a function by its number, of whose expressions this is known
   abbrev own_text : ℕ → Function → List ExpressionInfo → List ℕ
   own_text g f es =
-      text (function_pieces (function_form (annotates_types flags) (module_names m) (expression_name m g) m info g f es))
+      text (function_pieces (function_form flags (module_names m) (expression_name m g) m info g f es))
 
   lines_are : (g : ℕ) (f : Function) (ty : FunctionType) (stage : Option EntryPoint) →
       function_type m g ≡ ty → entry_point_numbered m g ≡ stage →
@@ -109,7 +109,7 @@ module _ (m : Module) (info : ModuleInfo) (flags : WriterFlags)
       g + length fs ≤ length m.functions → length fs ≡ length ess →
       ((i : ℕ) (es : List ExpressionInfo) → slice_get ess i ≡ Some es → known_of info (g + i) ≡ es) →
       text (functions_pieces
-      (functions_form (annotates_types flags) (module_names m) m info g fs ess)) ≡
+      (functions_form flags (module_names m) m info g fs ess)) ≡
       lines_of m info flags (enumerate_from g fs)
   functions_text g [] [] within size known = refl
   functions_text g [] (es ∷ ess) within size known = refl
@@ -117,9 +117,9 @@ module _ (m : Module) (info : ModuleInfo) (flags : WriterFlags)
   functions_text g (f ∷ fs) (es ∷ ess) within size known =
       let here : g + 0 ≡ g = omega arith in
       let same : known_of info g ≡ es = ap (known_of info) (sym here) ∙ known 0 es refl in
-      let behind = functions_pieces (functions_form (annotates_types flags) (module_names m) m info (g + 1) fs ess) in
+      let behind = functions_pieces (functions_form flags (module_names m) m info (g + 1) fs ess) in
       let more = lines_of m info flags (enumerate_from (g + 1) fs) in
-      text-append (function_pieces (function_form (annotates_types flags) (module_names m) (expression_name m g) m info g f es)) (LineEnd ∷ behind)
+      text-append (function_pieces (function_form flags (module_names m) (expression_name m g) m info g f es)) (LineEnd ∷ behind)
       ∙ (ap (λ rest. own_text g f es ++ (10 ∷ rest)) (functions_text (g + 1) fs ess (omega (arith, within)) (ap pred size) (later g ess es known))
       ∙ (ap (λ ks. own_text g f ks ++ (10 ∷ more)) (sym same)
       ∙ (sym (append_assoc (own_text g f (known_of info g)) (codes "\n") more)
@@ -133,12 +133,12 @@ module _ (m : Module) (info : ModuleInfo) (flags : WriterFlags)
           subst (λ h. known_of info h ≡ ks) moved (known (suc i) ks at)
 
   point_text : (g : ℕ) (p : EntryPoint) (es : List ExpressionInfo) →
-      text (entry_point_pieces (entry_point_form (annotates_types flags) (module_names m) m info g p es)) ≡
+      text (entry_point_pieces (entry_point_form flags (module_names m) m info g p es)) ≡
       stage_text m p ++ own_text g p.function es
   unfolding stage_text attributes_text
   point_text g p es =
       let stage = attributes_pieces (stage_attributes (module_names m) p p.stage) in
-      let own = function_pieces (function_form (annotates_types flags) (module_names m) (expression_name m g) m info g p.function es) in
+      let own = function_pieces (function_form flags (module_names m) (expression_name m g) m info g p.function es) in
       text-append stage (LineEnd ∷ own) ∙ sym (append_assoc (text stage) (codes "\n") (text own))
 
   -- the line of one, by whether another comes behind it
@@ -146,7 +146,7 @@ module _ (m : Module) (info : ModuleInfo) (flags : WriterFlags)
       slice_get m.entry_points.items (j + 0) ≡ Some p →
       known_of info (length m.functions + (j + 0)) ≡ es →
       nat_lt (j + 1) (length m.entry_points.items) ≡ more →
-      text (entry_point_pieces (entry_point_form (annotates_types flags) (module_names m) m info (length m.functions + j) p es))
+      text (entry_point_pieces (entry_point_form flags (module_names m) m info (length m.functions + j) p es))
       ++ (if more then codes "\n" else []) ≡ line_of m info flags (length m.functions + j, p.function)
   point_line j p es more there known is =
       let g : ℕ = length m.functions + j in
@@ -163,7 +163,7 @@ module _ (m : Module) (info : ModuleInfo) (flags : WriterFlags)
       ((i : ℕ) (p : EntryPoint) → slice_get ps i ≡ Some p → slice_get m.entry_points.items (j + i) ≡ Some p) →
       ((i : ℕ) (es : List ExpressionInfo) → slice_get ess i ≡ Some es → known_of info (length m.functions + (j + i)) ≡ es) →
       text (entry_points_pieces
-      (entry_points_form (annotates_types flags) (module_names m) m info (length m.functions + j) ps ess)) ≡
+      (entry_points_form flags (module_names m) m info (length m.functions + j) ps ess)) ≡
       lines_of m info flags (enumerate_from (length m.functions + j) (entry_functions ps))
   points_text j [] [] size counted there known = refl
   points_text j [] (es ∷ ess) size counted there known = absurd (cc)
@@ -172,7 +172,7 @@ module _ (m : Module) (info : ModuleInfo) (flags : WriterFlags)
   points_text j (p ∷ q ∷ ps) (es ∷ []) size counted there known = absurd (cc)
   points_text j (p ∷ []) (es ∷ []) size counted there known =
       let last : length m.entry_points.items ≤ j + 1 = omega (arith, counted) in
-      let point = entry_point_pieces (entry_point_form (annotates_types flags) (module_names m) m info (length m.functions + j) p es) in
+      let point = entry_point_pieces (entry_point_form flags (module_names m) m info (length m.functions + j) p es) in
       text-append point []
       ∙ ap (λ t. t ++ [])
       (sym (append-nil (text point))
@@ -182,8 +182,8 @@ module _ (m : Module) (info : ModuleInfo) (flags : WriterFlags)
       let more : j + 1 < length m.entry_points.items = omega (arith, counted) in
       let all : (j + 1) + length (q ∷ ps) ≡ length m.entry_points.items = omega (arith, counted) in
       let next : length m.functions + (j + 1) ≡ (length m.functions + j) + 1 = omega arith in
-      let point = entry_point_pieces (entry_point_form (annotates_types flags) (module_names m) m info (length m.functions + j) p es) in
-      let behind : ℕ → List Piece = λ h. entry_points_pieces (entry_points_form (annotates_types flags) (module_names m) m info h (q ∷ ps) (ks ∷ ess)) in
+      let point = entry_point_pieces (entry_point_form flags (module_names m) m info (length m.functions + j) p es) in
+      let behind : ℕ → List Piece = λ h. entry_points_pieces (entry_points_form flags (module_names m) m info h (q ∷ ps) (ks ∷ ess)) in
       let rest : text (behind ((length m.functions + j) + 1)) ≡ lines_of m info flags (enumerate_from ((length m.functions + j) + 1) (entry_functions (q ∷ ps))) =
       subst
       (λ h. text (behind h) ≡ lines_of m info flags (enumerate_from h (entry_functions (q ∷ ps)))) next
@@ -198,31 +198,31 @@ module _ (m : Module) (info : ModuleInfo) (flags : WriterFlags)
 
 -- what stands in front of the functions, and what stands behind
 front_then : (m : Module) (info : ModuleInfo) (flags : WriterFlags) (rest : List ℕ) →
-    front_text m ++ rest ≡
-    enables_text (needed_enables m) ++
-    (declarations_of (written_program m info (annotates_types flags)) ++ rest)
+    front_text m info flags ++ rest ≡
+    enables_text (written_enables m info flags) ++
+    (declarations_of (written_program m info flags) ++ rest)
 unfolding declarations_text
-front_then m info flags rest = append_assoc (enables_text (needed_enables m)) (declarations_text m) rest
+front_then m info flags rest = append_assoc (enables_text (written_enables m info flags)) (declarations_text m) rest
 
 -- a module's text is what stands in front of its functions, these and its entry points
 pub written_lines : (m : Module) (info : ModuleInfo) (flags : WriterFlags) → IsTrue (is_accepted m info) →
-    front_text m ++ module_lines m info flags ≡ written_text m info flags
+    front_text m info flags ++ module_lines m info flags ≡ written_text m info flags
 written_lines m info flags accepted =
     let first = enumerate_from 0 m.functions in
     let points = entry_functions m.entry_points.items in
-    ap (λ t. front_text m ++ t)
+    ap (λ t. front_text m info flags ++ t)
     (ap (lines_of m info flags) (numbered_on 0 m.functions points)
     ∙ (flat_map-append (line_of m info flags) first (enumerate_from (0 + length m.functions) points)
     ∙ sym (λ i. functions_are i ++ points_are i)))
     ∙ (front_then m info flags (text (functions_pieces functions) ++ text (entry_points_pieces entry_points))
-    ∙ sym (layout_row (written_program m info (annotates_types flags))))
+    ∙ sym (layout_row (written_program m info flags)))
   where
     functions : List FunctionTree
-    functions = functions_form (annotates_types flags) (module_names m) m info 0 m.functions info.functions.items
+    functions = functions_form flags (module_names m) m info 0 m.functions info.functions.items
 
     entry_points : List EntryPointTree
     entry_points =
-        entry_points_form (annotates_types flags) (module_names m) m info (length m.functions)
+        entry_points_form flags (module_names m) m info (length m.functions)
         m.entry_points.items info.entry_points.items
 
     functions_are : text (functions_pieces functions) ≡ lines_of m info flags (enumerate_from 0 m.functions)
@@ -239,7 +239,7 @@ written_lines m info flags accepted =
         let none : length m.functions + 0 ≡ length m.functions = omega arith in
         let all : 0 + length m.entry_points.items ≡ length m.entry_points.items = omega arith in
         let from : length m.functions + 0 ≡ 0 + length m.functions = omega arith in
-        ap (λ g. text (entry_points_pieces (entry_points_form (annotates_types flags) (module_names m) m info g m.entry_points.items info.entry_points.items))) (sym none)
+        ap (λ g. text (entry_points_pieces (entry_points_form flags (module_names m) m info g m.entry_points.items info.entry_points.items))) (sym none)
         ∙ (points_text m info flags accepted 0 m.entry_points.items info.entry_points.items
         (entry_points_counted m info accepted) all
         (λ i p at. let same : i ≡ 0 + i = omega arith in ap (slice_get m.entry_points.items) (sym same) ∙ at)

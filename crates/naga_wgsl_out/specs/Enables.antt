@@ -9,6 +9,7 @@ use Rattle.module_meaning.specs.Enables.{Extension, f16, int16, dual_source_blen
 use Rattle.module_meaning.specs.Enables.{clip_distances}
 use Rattle.module_meaning.specs.Enables.{mesh_shader, binding_array, draw_index, primitive_index}
 use Rattle.module_meaning.specs.Enables.{cooperative_matrix, ray_tracing_pipeline, per_vertex}
+use Rattle.module_meaning.specs.Enables.{subgroups}
 
 -- those that pass a test
 abbrev pub enables_of : (Extension → Bool) → Enables
@@ -25,6 +26,7 @@ enables_of test =
       cooperative_matrix = test cooperative_matrix;
       ray_tracing_pipeline = test ray_tracing_pipeline;
       per_vertex = test per_vertex;
+      subgroups = test subgroups;
     }
 
 -- those among the ones or the others
@@ -42,7 +44,12 @@ either a b =
       cooperative_matrix = a.cooperative_matrix || b.cooperative_matrix;
       ray_tracing_pipeline = a.ray_tracing_pipeline || b.ray_tracing_pipeline;
       per_vertex = a.per_vertex || b.per_vertex;
+      subgroups = a.subgroups || b.subgroups;
     }
+
+-- those of them that each text enables
+abbrev pub in_each_text : Enables → Enables
+in_each_text e = record e { subgroups = false }
 
 -- each with its word
 abbrev pub words_found : Enables → List (Bool × List ℕ)
@@ -54,7 +61,7 @@ words_found e =
     (e.primitive_index, codes "primitive_index") ∷
     (e.cooperative_matrix, codes "wgpu_cooperative_matrix") ∷
     (e.ray_tracing_pipeline, codes "wgpu_ray_tracing_pipeline") ∷
-    (e.per_vertex, codes "wgpu_per_vertex") ∷ []
+    (e.per_vertex, codes "wgpu_per_vertex") ∷ (e.subgroups, codes "subgroups") ∷ []
 
 -- the words of those that were found
 abbrev pub words_among : List (Bool × List ℕ) → List (List ℕ)

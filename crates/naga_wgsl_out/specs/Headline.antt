@@ -1,7 +1,7 @@
 -- Faithful writing: what is promised of each call that writes an accepted module.
 --
--- Throughout, m is the module, and explicit says whether `let`s tell types.
-use Rattle.std.specs.Prelude.{◌≡◌, ℕ, Bool, List, [], ◌++◌, string_bytes, Result, Ok, Err, OnOk}
+-- Throughout, m is the module, and flags say how it is written.
+use Rattle.std.specs.Prelude.{◌≡◌, ℕ, List, [], ◌++◌, string_bytes, Result, Ok, Err, OnOk}
 use Rattle.std.specs.declared.string.String.{String}
 use Rattle.naga_ir.specs.declared.module.Module.{Module}
 use Rattle.naga_info.specs.declared.info.ModuleInfo.{ModuleInfo}
@@ -11,6 +11,8 @@ use Rattle.wgsl_text.specs.Declarations.{Program}
 use Rattle.module_meaning.specs.Faithful.{HasInterfaceOf, RunsAs}
 use Rattle.naga_wgsl_fns.specs.declared.error.Error.{Error}
 use Rattle.naga_wgsl_out.specs.ModuleRefusals.{RefusesOnlyFor}
+use Rattle.naga_back.specs.declared.flags.WriterFlags.{WriterFlags}
+use Rattle.naga_back.specs.Flags.{annotates_types}
 
 -- a text stands behind what the sink held, and it is read as one program and as no other
 pub record AppendsOneReading (content now : List ℕ) : Type 0 where
@@ -28,15 +30,15 @@ EachReading content now Q =
 -- A call was asked to write the module, of which this is known, behind the text that its sink held;
 -- it answered, and the sink holds another text now. The sink had failed so often before, and has
 -- failed so often now.
-pub record FaithfulWriting (explicit : Bool) (m : Module) (info : ModuleInfo)
+pub record FaithfulWriting (flags : WriterFlags) (m : Module) (info : ModuleInfo)
     (answer : Result Unit Error) (content now : List ℕ) (before after : ℕ) : Type 0 where
   -- It refuses only for a listed construct that stands in the module, a full counter or key, memory
   -- or the sink; and where it does not, none stands there.
-  pub refusals : RefusesOnlyFor answer explicit m info before after
+  pub refusals : RefusesOnlyFor answer (annotates_types flags) m info before after
   -- Otherwise it appends a text with exactly one reading,
   pub reading : OnOk answer (AppendsOneReading content now)
   -- a program with the module's interface,
-  pub interface : OnOk answer (EachReading content now (HasInterfaceOf m info))
+  pub interface : OnOk answer (EachReading content now (HasInterfaceOf m info flags))
   -- that in every world, under every typed meaning of operators and every bound on loop turns makes
   -- the module's events, operands and result.
   pub runs : OnOk answer (EachReading content now (RunsAs m info))

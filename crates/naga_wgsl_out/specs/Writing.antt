@@ -10,13 +10,13 @@ use Rattle.naga_ir.specs.declared.module.Module.{Module}
 use Rattle.naga_info.specs.declared.info.ModuleInfo.{ModuleInfo}
 use Rattle.naga_scope.specs.Plans.{AreExpressionNames, IsPlanOf, Planned}
 use Rattle.naga_form.specs.Declarations.{written_program}
-use Rattle.module_meaning.specs.Enables.{needed_enables}
+use Rattle.module_meaning.specs.Enables.{written_enables}
 use Rattle.module_meaning.specs.FunctionNumbers.{all_functions, function_type}
 use Rattle.module_meaning.specs.Names.{expression_name, labels_before}
 use Rattle.naga_names.specs.Naming.{Names}
 use Rattle.wgsl_text.specs.Reading.{layout}
 use Rattle.naga_wgsl_fns.specs.Appends.{StoppedWithin, Wrote}
-use Rattle.naga_wgsl_fns.specs.FunctionText.{annotates_types}
+use Rattle.naga_back.specs.Flags.{annotates_types}
 use Rattle.naga_wgsl_fns.specs.Functions.{known_of, text_of, text_of_function}
 use Rattle.naga_wgsl_fns.specs.declared.error.Error.{Error}
 use Rattle.naga_wgsl_fns.specs.Refusals.{ExpressionNamesAreFullIn, IsFault, IsWritableAt}
@@ -37,7 +37,7 @@ pub record Writing (W : Type 0) : Type 0 where
 -- something has none, nothing says what stands here in its place: a call that refuses the module
 -- leaves no more than a beginning of this text, in front of the first function that it refuses.
 abbrev pub written_text : Module → ModuleInfo → WriterFlags → List ℕ
-written_text m info flags = layout (written_program m info (annotates_types flags))
+written_text m info flags = layout (written_program m info flags)
 
 -- a call that answers `Ok` appends the text of the module
 abbrev pub AppendsItsText : Module → ModuleInfo → WriterFlags → Result Unit Error →
@@ -60,8 +60,9 @@ TextsAreEqual =
     appended ≡ other_appended
 
 -- what stands in front of the functions: what the text enables, and the other declarations
-abbrev pub front_text : Module → List ℕ
-front_text m = enables_text (needed_enables m) ++ declarations_text m
+abbrev pub front_text : Module → ModuleInfo → WriterFlags → List ℕ
+front_text m info flags =
+    enables_text (written_enables m info flags) ++ declarations_text m
 
 -- an empty line stands behind each function that others may call, and between two entry points
 abbrev pub line_behind : Module → FunctionType → List ℕ

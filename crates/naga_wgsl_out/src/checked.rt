@@ -7,7 +7,7 @@ ghost use Rattle.module_meaning.specs.Bindings.{BindsAs};
 ghost use Rattle.module_meaning.specs.Layouts.{KeepsLayouts};
 ghost use Rattle.module_meaning.specs.Resolution.{ResolvesAs};
 ghost use Rattle.naga_acceptance.specs.Faults.{Fails};
-ghost use Rattle.naga_wgsl_fns.specs.FunctionText.{annotates_types};
+ghost use Rattle.naga_back.specs.Flags.{annotates_types};
 ghost use Rattle.naga_wgsl_out.specs.Checked.{IsCounted, fault_of, written_of};
 ghost use Rattle.naga_wgsl_out.specs.Headline.{EachReading, FaithfulWriting, answer_of, text_of};
 ghost use Rattle.naga_wgsl_out.specs.Writing.{written_text};
@@ -59,7 +59,7 @@ pub fn write_checked(
     ensures counted { IfSome (written_of result)
         (λ _. IsCounted «module».now info.old info.new) }
     ensures faithful { IfSome (written_of result) (λ r.
-        FaithfulWriting (annotates_types flags) «module».now info.new (answer_of r) [] (text_of r) 0 0) }
+        FaithfulWriting flags «module».now info.new (answer_of r) [] (text_of r) 0 0) }
     ensures resolution { IfSome (written_of result) (λ r. OnOk (answer_of r)
         (EachReading [] (text_of r) (ResolvesAs «module».now info.new))) }
     ensures bindings { IfSome (written_of result) (λ r. OnOk (answer_of r)

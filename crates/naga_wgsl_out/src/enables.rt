@@ -1,18 +1,23 @@
 //! The extensions that a text enables: those that the module needs, found in one pass over its types,
-//! its variables and its entry points, without memory.
+//! its variables and its entry points, and those that standard compilers ask for, without memory.
 
 ghost use Rattle.std.specs.Prelude.{◌≡◌, false, true};
 ghost use Rattle.std.specs.List.{list_any};
 ghost use Rattle.std.specs.Option.{option_map_or};
-ghost use Rattle.module_meaning.specs.Enables.{entry_point_needs, is_needed, needed_enables};
-ghost use Rattle.module_meaning.specs.Enables.{type_needs};
+ghost use Rattle.module_meaning.specs.Enables.{entry_point_needs, is_enabled, is_needed};
+ghost use Rattle.module_meaning.specs.Enables.{type_needs, written_enables};
+ghost use Rattle.naga_back.specs.Flags.{is_portable};
 ghost use Rattle.naga_ir.specs.declared.binding.Binding.TheVariants as binding;
 ghost use Rattle.naga_ir.specs.declared.types.TypeInner.TheVariants as inner;
 ghost use Rattle.naga_wgsl_fns.specs.Appends.{Appends};
-ghost use Rattle.naga_wgsl_out.specs.Enables.{either, enables_of, enables_text, end_text, is_any};
-ghost use Rattle.naga_wgsl_out.specs.Enables.{line_text, words_among, words_found};
+ghost use Rattle.naga_wgsl_out.specs.Enables.{either, enables_of, enables_text, end_text};
+ghost use Rattle.naga_wgsl_out.specs.Enables.{in_each_text, is_any, line_text, words_among};
+ghost use Rattle.naga_wgsl_out.specs.Enables.{words_found};
 ghost use Rattle.naga_words.specs.Output.{Writes};
 
+use module_meaning::extensions::{names_subgroups, spells_halves};
+use naga_back::{WriterFlags, is_portable};
+use naga_info::ModuleInfo;
 use naga_ir::{
     AddressSpace, Arena, Binding, BuiltIn, EntryPoint, FunctionArgument, FunctionResult,
     GlobalVariable, Interpolation, Module, Scalar, ScalarKind, ShaderStage, StructMember, Type_,
@@ -22,16 +27,35 @@ use naga_wgsl_fns::Error;
 use naga_wgsl_fns::error::error_of_want;
 use naga_words::{Output, TextSink};
 
-/// Writes a line for each extension that the module needs, and an empty line behind the last.
-pub fn write_enables<W: TextSink>(module: &Module, out: &mut W) -> Result<(), Error>
+/// Writes a line for each extension that a text of the module enables, written with these flags, and
+/// an empty line behind the last.
+pub fn write_enables<W: TextSink>(
+    module: &Module,
+    info: &ModuleInfo,
+    flags: WriterFlags,
+    out: &mut W,
+) -> Result<(), Error>
     ensures { Appends result (W.text out.old) (W.failures out.old)
-        (enables_text (needed_enables «module».now)) (W.text out.new) (W.failures out.new) }
+        (enables_text (written_enables «module».now info.now flags)) (W.text out.new)
+        (W.failures out.new) }
 {
     let mut written = Output::new(out);
-    Enables::of(module).write(&mut written);
+    enabled(module, info, flags).write(&mut written);
     match written.outcome() {
         Ok(()) => Ok(()),
         Err(want) => Err(error_of_want(want)),
+    }
+}
+
+/// The extensions that a text of the module enables.
+fn enabled(module: &Module, info: &ModuleInfo, flags: WriterFlags) -> Enables
+    ensures { result ≡ enables_of (is_enabled (is_portable flags) «module».now info.now) }
+{
+    let needed = Enables::of(module);
+    if is_portable(flags) {
+        needed.or(Enables::asked(module, info))
+    } else {
+        needed.in_each_text()
     }
 }
 
@@ -49,6 +73,7 @@ struct Enables {
     cooperative_matrix: bool,
     ray_tracing_pipeline: bool,
     per_vertex: bool,
+    subgroups: bool,
 }
 
 impl Enables {
@@ -58,6 +83,27 @@ impl Enables {
     {
         let points = of_entry_points(&module.entry_points);
         of_types(&module.types).or(of_variables(&module.global_variables).or(points))
+    }
+
+    /// Those that standard compilers ask for, beside those that the module needs.
+    fn asked(module: &Module, info: &ModuleInfo) -> Self
+        ensures { result ≡ enables_of (λ x. x.is_asked_for «module».now info.now) }
+    {
+        Enables {
+            f16: spells_halves(module, info),
+            subgroups: names_subgroups(module),
+            ..Enables::none()
+        }
+    }
+
+    /// Those of them that each text enables, and not only one for standard compilers.
+    fn in_each_text(self) -> Self
+        ensures { result ≡ in_each_text self }
+    {
+        Enables {
+            subgroups: false,
+            ..self
+        }
     }
 
     /// None of them.
@@ -76,6 +122,7 @@ impl Enables {
             cooperative_matrix: false,
             ray_tracing_pipeline: false,
             per_vertex: false,
+            subgroups: false,
         }
     }
 
@@ -95,6 +142,7 @@ impl Enables {
             cooperative_matrix: self.cooperative_matrix | other.cooperative_matrix,
             ray_tracing_pipeline: self.ray_tracing_pipeline | other.ray_tracing_pipeline,
             per_vertex: self.per_vertex | other.per_vertex,
+            subgroups: self.subgroups | other.subgroups,
         }
     }
 
@@ -114,6 +162,7 @@ impl Enables {
         write_line(self.cooperative_matrix, "wgpu_cooperative_matrix", out);
         write_line(self.ray_tracing_pipeline, "wgpu_ray_tracing_pipeline", out);
         write_line(self.per_vertex, "wgpu_per_vertex", out);
+        write_line(self.subgroups, "subgroups", out);
         write_end(self.is_any(), out);
     }
 
@@ -132,6 +181,7 @@ impl Enables {
             | self.cooperative_matrix
             | self.ray_tracing_pipeline
             | self.per_vertex
+            | self.subgroups
     }
 }
 
@@ -317,6 +367,13 @@ fn of_builtin(value: BuiltIn) -> Enables
         },
         BuiltIn::PrimitiveIndex => Enables {
             primitive_index: true,
+            ..Enables::none()
+        },
+        BuiltIn::NumSubgroups
+        | BuiltIn::SubgroupId
+        | BuiltIn::SubgroupSize
+        | BuiltIn::SubgroupInvocationId => Enables {
+            subgroups: true,
             ..Enables::none()
         },
         BuiltIn::MeshTaskSize

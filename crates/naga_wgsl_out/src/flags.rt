@@ -1,14 +1,15 @@
 //! The sets of flags by name, for a program that has no other use for sets of flags.
 
 ghost use Rattle.std.specs.Prelude.{◌≡◌, false, true};
-ghost use Rattle.naga_wgsl_fns.specs.FunctionText.{annotates_types};
+ghost use Rattle.naga_back.specs.Flags.{annotates_types, is_portable};
 
 use bitflags::Flags;
 use naga_back::WriterFlags;
 
-/// No flags: a `let` tells no type.
+/// No flags: a `let` tells no type, and the text has what naga's has.
 pub fn no_flags() -> WriterFlags
-    ensures { annotates_types result ≡ false }
+    ensures types { annotates_types result ≡ false }
+    ensures portable { is_portable result ≡ false }
 {
     WriterFlags::empty()
 }

@@ -26,6 +26,7 @@ mod variables;
 pub mod wgsl;
 mod writer;
 
+pub use float_numerals as numerals;
 pub use naga_ir as ir;
 pub use naga_names::{keyword_set, keywords, namer};
 pub use naga_words::predeclared;

@@ -15,7 +15,7 @@ ghost use Rattle.module_meaning.specs.Bindings.{BindsAs};
 ghost use Rattle.naga_scope.specs.Plans.{AreExpressionNames, IsPlanOf};
 ghost use Rattle.naga_scope.specs.Tables.{AreTablesOf};
 ghost use Rattle.naga_wgsl_fns.specs.Appends.{Appends};
-ghost use Rattle.naga_wgsl_fns.specs.FunctionText.{annotates_types};
+ghost use Rattle.naga_back.specs.Flags.{annotates_types};
 ghost use Rattle.naga_wgsl_out.specs.Headline.{EachReading, FaithfulWriting, answer_of, text_of};
 ghost use Rattle.naga_wgsl_fns.specs.Items.{HasNamedItemsOf};
 ghost use Rattle.naga_wgsl_fns.specs.ModuleText.{CanWriteOf};
@@ -93,6 +93,7 @@ impl<W: TextSink> Writer<W> {
     /// named, under an identifier made of that label; an operation on an image; a `Load`, a
     /// derivative or the load of a cooperative matrix that is used; any other operator, but no part
     /// at an index, that is used twice or more. `EXPLICIT_TYPES` has each `let` tell its type.
+    /// `PORTABLE` has the text have what standard compilers ask for, as `enable subgroups;`.
     ///
     /// Where a struct's members are to keep their offsets, as `docs/REFUSALS.md` says, a member is
     /// given a size, as `@size(16) `, if by WGSL's rules alone the next one would begin before its
@@ -118,7 +119,7 @@ impl<W: TextSink> Writer<W> {
     /// ```
     pub fn write(&mut self, module: &Module, info: &ModuleInfo) -> Result<(), Error>
         requires accepted { IsTrue (is_accepted «module».now info.now) }
-        ensures faithful { FaithfulWriting (annotates_types self.old.flags) «module».now info.now
+        ensures faithful { FaithfulWriting self.old.flags «module».now info.now
             result
             (W.text self.old.sink) (W.text self.new.sink)
             (W.failures self.old.sink) (W.failures self.new.sink) }
@@ -146,7 +147,7 @@ impl<W: TextSink> Writer<W> {
         // What stands in front of the function that is refused.
         ensures written_before { IfErr result (λ e. TellsOfFunction «module».now e →
             WroteFunctionsBefore «module».now info.now self.old.flags
-            (W.text self.old.sink ++ front_text «module».now)
+            (W.text self.old.sink ++ front_text «module».now info.now self.old.flags)
             (W.text self.new.sink)) }
         ensures unfailed { IfErr result (λ e. TellsOfModule e →
             W.failures self.new.sink ≡ W.failures self.old.sink) }
@@ -157,7 +158,15 @@ impl<W: TextSink> Writer<W> {
             return Err(declaration_without_form(self.alloc, module, &tables, declaration));
         }
         let (names, mut namer) = names_of(self.alloc, module)?;
-        write_front(self.alloc, module, &tables, &names, &mut self.out)?;
+        write_front(
+            self.alloc,
+            module,
+            info,
+            &tables,
+            &names,
+            self.flags,
+            &mut self.out,
+        )?;
         write_functions(
             self.alloc,
             module,
@@ -175,18 +184,20 @@ impl<W: TextSink> Writer<W> {
 fn write_front<W: TextSink>(
     alloc: Global,
     module: &Module,
+    info: &ModuleInfo,
     tables: &ModuleTables,
     names: &HashMap<NameKey, String>,
+    flags: WriterFlags,
     out: &mut W,
 ) -> Result<(), Error>
     requires can { CanWriteOf «module».now }
     requires tables { AreTablesOf «module».now tables.now }
     requires declared { DeclarationsHaveForms «module».now }
     requires names { HasAllNames «module».now (names_in names.now) }
-    ensures { Appends result (W.text out.old) (W.failures out.old) (front_text «module».now)
-        (W.text out.new) (W.failures out.new) }
+    ensures { Appends result (W.text out.old) (W.failures out.old)
+        (front_text «module».now info.now flags) (W.text out.new) (W.failures out.new) }
 {
-    write_enables(module, out)?;
+    write_enables(module, info, flags, out)?;
     write_declarations(alloc, module, tables, names, out)
 }
 
@@ -372,7 +383,7 @@ pub fn write_string(
     flags: WriterFlags,
 ) -> Result<String, Error>
     requires accepted { IsTrue (is_accepted «module».now info.now) }
-    ensures faithful { FaithfulWriting (annotates_types flags) «module».now info.now
+    ensures faithful { FaithfulWriting flags «module».now info.now
         (answer_of result)
         [] (text_of result) 0 0 }
     ensures resolution { OnOk (answer_of result) (EachReading [] (text_of result)

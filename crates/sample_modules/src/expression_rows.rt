@@ -2,6 +2,7 @@
 
 use crate::rows::end_with;
 use crate::structs::add_struct;
+use float_numerals::Decimal;
 use naga_builder::{FunctionBuilder, ModuleBuilder};
 use naga_info::TypeResolution;
 use naga_ir::{
@@ -99,7 +100,20 @@ pub fn build_double(alloc: Global, shader: &mut ModuleBuilder) -> Result<(), All
     end_with(shader, function, last)
 }
 
-/// Returns a float literal, for which no text is written.
+/// Returns a float that is told by a numeral.
+pub fn build_numeral(alloc: Global, shader: &mut ModuleBuilder) -> Result<(), AllocError> {
+    let f32_type = shader.scalar(Scalar::F32)?;
+    let mut function = FunctionBuilder::new(alloc, "w")?;
+    function.returns(f32_type);
+    let half = function.literal(Literal::DecimalF32(Decimal {
+        negative: false,
+        digits: 5,
+        exponent: -1,
+    }))?;
+    end_with(shader, function, half)
+}
+
+/// Returns a float literal that is held as its bits, for which no text is written.
 pub fn build_float(alloc: Global, shader: &mut ModuleBuilder) -> Result<(), AllocError> {
     let f32_type = shader.scalar(Scalar::F32)?;
     let mut function = FunctionBuilder::new(alloc, "w")?;

@@ -5,8 +5,8 @@ use crate::declaration_rows::{
     build_override, build_struct, build_vertex,
 };
 use crate::expression_rows::{
-    build_double, build_float, build_idle, build_modf, build_negate, build_pointer, build_sample,
-    build_select,
+    build_double, build_float, build_idle, build_modf, build_negate, build_numeral, build_pointer,
+    build_sample, build_select,
 };
 use crate::layout_rows::{
     build_gap, build_misplaced, build_natural, build_stretched, build_stride,
@@ -55,6 +55,8 @@ pub enum Row {
     Negate,
     /// A function whose one expression has a text that doubles twelve times.
     Double,
+    /// A function that returns a float that is told by a numeral.
+    Numeral,
     /// A function that returns a float literal, which is refused.
     Float,
     /// A function with a float literal that nothing mentions.
@@ -140,6 +142,7 @@ impl Row {
             "select" => Some(Row::Select),
             "negate" => Some(Row::Negate),
             "double" => Some(Row::Double),
+            "numeral" => Some(Row::Numeral),
             "float" => Some(Row::Float),
             "idle" => Some(Row::Idle),
             "sample" => Some(Row::Sampled),
@@ -194,6 +197,7 @@ impl Row {
             Row::Select => build_select(alloc, shader),
             Row::Negate => build_negate(alloc, shader),
             Row::Double => build_double(alloc, shader),
+            Row::Numeral => build_numeral(alloc, shader),
             Row::Float => build_float(alloc, shader),
             Row::Idle => build_idle(alloc, shader),
             Row::Sampled => build_sample(alloc, shader),

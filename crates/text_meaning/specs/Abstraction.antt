@@ -58,12 +58,12 @@ abbrev mutual
   expression_read (Address e) = AddressOf (expression_read e)
   expression_read (Dereference e) = Deref (expression_read e)
 
-  -- the level `0.0` is a number
+  -- level zero is the number `0.0`, whole or not
   pub arguments_read : tree_expressions.Arguments → Trees
   arguments_read NoArguments = no_more
   arguments_read (Argument e rest) = more (expression_read e) (arguments_read rest)
   arguments_read (NumberArgument n rest) = arguments_read rest
-  arguments_read (ZeroArgument rest) =
+  arguments_read (ZeroArgument whole rest) =
       more (LiteralOf (Opaque (codes "f32") 0)) (arguments_read rest)
 
 abbrev pub label_read : tree.Label → Label

@@ -17,7 +17,7 @@ HERE = Path(__file__).resolve().parent
 CRATE = HERE.parent
 
 EXPECTATION = re.compile(
-    r"(gives nothing|gives with types|gives)|(refused with types|refused|not accepted): (.+)"
+    r"(gives nothing|gives with types|gives portable|gives)|(refused with types|refused|not accepted): (.+)"
 )
 ONLY_WITH_TYPES = re.compile(r"\[(: [^\[\]]+)\]")
 # A line of attributes alone, in front of an entry point or a variable that is bound.
@@ -77,7 +77,7 @@ def without_comments(lines):
             text = None
         if text is None and (not line.text or line.text.startswith("# ") or line.text == "#"):
             continue
-        if text is None and line.text in ("gives", "gives with types"):
+        if text is None and line.text in ("gives", "gives with types", "gives portable"):
             text = line
         kept.append(line)
     return kept
@@ -123,20 +123,23 @@ class Expected:
     def __init__(self):
         self.texts = [None, None]
         self.refusals = [None, None]
+        self.portable = None
         self.only = None
 
     def add(self, case, head, match, lines):
         """Adds what a line says, with the text below it."""
         gives, word, rest = match.groups()
         typed = (gives or word).endswith("with types")
-        if gives in ("gives", "gives with types"):
+        if gives in ("gives", "gives with types", "gives portable"):
             told = block_text(lines)
             if not told:
                 raise case.error("no text: write `gives nothing`", head)
         else:
             has_nothing_below(case, lines)
             told = rest or ""
-        if word == "not accepted":
+        if gives == "gives portable":
+            self.portable = self.first_time(case, head, self.portable, told)
+        elif word == "not accepted":
             self.only = self.first_time(case, head, self.only, f"{word}: {rest}\n")
         elif word:
             self.refusals[typed] = self.first_time(case, head, self.refusals[typed], told)
@@ -152,13 +155,17 @@ class Expected:
     def check(self, case):
         """The case tells one thing at least, and no two that exclude each other."""
         plain, typed = zip(self.texts, self.refusals)
-        of_texts = any(told is not None for told in (*plain, *typed))
+        of_texts = any(told is not None for told in (*plain, *typed, self.portable))
         if self.only is None and not of_texts:
             raise case.error("nothing is expected")
         if self.only is not None and of_texts:
             raise case.error("a module that is not accepted has no text and no refusal")
         if plain == (None, None) and typed != (None, None):
             raise case.error("with types alone: what is written without them is not told")
+        if self.portable is not None and self.refusals != [None, None]:
+            raise case.error("a module that is not written has no portable text")
+        if self.portable is not None and self.texts[0] is None:
+            raise case.error("portable alone: what is written otherwise is not told")
 
     def answers(self, has_entry_points):
         """What the program prints without the types of `let`s and with them."""
@@ -168,14 +175,24 @@ class Expected:
         def told(text, refusal):
             if refusal is not None:
                 return f"{text}refused: {refusal}\n"
-            # no empty line stands behind the last entry point
-            return text.removesuffix("\n") if has_entry_points else text
+            return ended(text, has_entry_points)
 
         plain = self.texts[0] or ""
         first = told(ONLY_WITH_TYPES.sub("", plain), self.refusals[0])
         if self.texts[1] is None and self.refusals[1] is None:
             return [first, told(ONLY_WITH_TYPES.sub(r"\1", plain), self.refusals[0])]
         return [first, told(self.texts[1] or "", self.refusals[1])]
+
+    def portable_answers(self, has_entry_points):
+        """The same in texts for standard compilers, if the case tells of them."""
+        if self.portable is None:
+            return None
+        return [ended(ONLY_WITH_TYPES.sub(types, self.portable), has_entry_points) for types in ("", r"\1")]
+
+
+def ended(text, has_entry_points):
+    """No empty line stands behind the last entry point."""
+    return text.removesuffix("\n") if has_entry_points else text
 
 
 def with_definitions(case):
@@ -343,11 +360,19 @@ class Joined:
         if expected.only is None:
             self.accepted_kinds |= kinds
         told = {"name": case.name, **told}
+        if expected.portable is not None:
+            told["portable"] = True
         self.input.append(json.dumps(told, ensure_ascii=False, separators=(",", ":")) + "\n")
         plain, typed = expected.answers(bool(told["module"].get("entry_points")))
         self.output.append(f"== {case.name}\n{plain}")
         if typed != plain:
             self.output.append(f"== {case.name}, with types\n{typed}")
+        portable = expected.portable_answers(bool(told["module"].get("entry_points")))
+        if portable is not None:
+            plain, typed = portable
+            self.output.append(f"== {case.name}, portable\n{plain}")
+            if typed != plain:
+                self.output.append(f"== {case.name}, portable with types\n{typed}")
 
 
 def main(words):

@@ -72,6 +72,10 @@ REFUSED = [
      "2: with types alone: what is written without them is not told"),
     (FUNCTION + "  refused with types: why\n",
      "2: with types alone: what is written without them is not told"),
+    (FUNCTION + "  gives portable\n    a\n",
+     "2: portable alone: what is written otherwise is not told"),
+    (FUNCTION + "  refused: why\n  gives portable\n    a\n",
+     "2: a module that is not written has no portable text"),
     (FUNCTION + "  gives with type\n    a\n", "5: `gives` begins no line of a module"),
     (FUNCTION + "  not accepted\n", "5: `not` begins no line of a module"),
     # edits

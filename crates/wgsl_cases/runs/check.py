@@ -1,5 +1,5 @@
 #!/usr/bin/env python3
-"""Runs each module of the cases that is written, and its texts of both settings, as plain programs under one meaning
+"""Runs each module of the cases that is written, and its texts of all settings, as plain programs under one meaning
 of whole numbers, and compares events, endings and results. Texts that a wrong writer would give must be told apart.
 
 It tells in one line how many functions were run; where something differs it tells what, and its status is 1.
@@ -53,7 +53,7 @@ def main():
     wrong, functions, texts = faults(), 0, 0
     modules, answers = cases()
     for name, told in modules.items():
-        for case in (name, f"{name}, with types"):
+        for case in (name, f"{name}, with types", f"{name}, portable", f"{name}, portable with types"):
             text = answers.get(case)
             if text is None or re.search("^(not accepted|refused): ", text, re.MULTILINE):
                 continue

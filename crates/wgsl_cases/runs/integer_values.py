@@ -16,6 +16,7 @@ An image, a sampler and the like are `opaque`. `unknown` is the type of what no 
 
 import operator
 import zlib
+from fractions import Fraction
 
 INTEGERS = {f"{sign}{bits}": (sign == "i", bits) for sign in "iu" for bits in (16, 32, 64)}
 # arrays up to this length are told part by part
@@ -64,6 +65,11 @@ def held(ty):
 
 
 # ---- values
+def exact(negative, digits, exponent):
+    """The number of a literal of a float, without any rounding; zero has a sign."""
+    return ("-" if negative else "") + str(Fraction(digits) * Fraction(10) ** exponent)
+
+
 def made(ty, *seed):
     """A value of this type that the seed decides. Small numbers are frequent, so that labels are met."""
     parts = parts_of(ty)

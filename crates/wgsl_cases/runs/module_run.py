@@ -5,7 +5,7 @@ constants, and is evaluated where it is used. A load, a derivative or the load o
 and that has no name is not made.
 """
 
-from integer_values import NoMeaning, is_over, made, part, step_into
+from integer_values import NoMeaning, exact, is_over, made, part, step_into
 from integer_world import TURNS, Ended
 from module_forms import EVENTS, act_word, flags, operands_in, space_of, tagged
 
@@ -176,6 +176,9 @@ def item(module, world, kind, number):
 def literal(kind, what):
     if kind == "AbstractInt":
         return "abstract", what
+    if kind.startswith("Decimal"):
+        number = what.get("negative", False), what["digits"], what["exponent"]
+        return kind.removeprefix("Decimal").lower(), exact(*number)
     return kind.lower(), what if isinstance(what, int) else made(kind.lower(), repr(what))[1]
 
 

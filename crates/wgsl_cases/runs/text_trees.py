@@ -12,11 +12,13 @@ A type is a word with what stands in its angle brackets.
 
 import re
 
-from integer_values import wrapped
+from integer_values import exact, wrapped
 
 TOKEN = re.compile(
-    r"[A-Za-z_][A-Za-z0-9_]*|-?[0-9]+(?:\.[0-9]+)?(?:li|lu|i|u)?|&&|\|\||<<|<=|==|!=|[-{}()\[\]<>,;:.=+*/%&|^!~@]")
+    r"[A-Za-z_][A-Za-z0-9_]*|-?[0-9]+(?:\.[0-9]+)?(?:h|f|(?:e-?[0-9]+)?lf|li|lu|i|u)?|&&|\|\||<<|<=|==|!=|[-{}()\[\]<>,;:.=+*/%&|^!~@]")
 SUFFIXES = {"i": "i32", "u": "u32", "li": "i64", "lu": "u64", "": "abstract"}
+FLOAT = re.compile(r"(-?)([0-9]+)(?:\.([0-9]+))?(?:e(-?[0-9]+))?(h|f|lf)")
+FLOATS = {"h": "f16", "f": "f32", "lf": "f64"}
 SIGNS = ("+", "-", "*", "/", "%", "==", "!=", "<", "<=", ">", "&", "^", "|", "&&", "||", "<<")
 # the words behind which `<` begins a list
 GENERATORS = re.compile(
@@ -317,10 +319,20 @@ class Reader:
             return self.lookup(word)
         self.is_outside(word)
         self.take("(")
-        return "call", (word, *generics), *self.listed(")", self.expression)
+        operands = self.listed(")", self.expression)
+        if word == "textureSampleLevel":
+            # level zero of an image of depths is whole in a text for standard compilers
+            operands = [("literal", ("abstract float", "0.0")) if e == ("literal", ("abstract", 0)) else e
+                        for e in operands]
+        return "call", (word, *generics), *operands
 
 
 def number(token):
+    told = FLOAT.fullmatch(token)
+    if told:
+        sign, whole, fraction, power, suffix = told.groups()
+        fraction = fraction or ""
+        return FLOATS[suffix], exact(sign == "-", int(whole + fraction), int(power or 0) - len(fraction))
     digits, point, suffix = re.fullmatch(r"(-?[0-9]+)(\.[0-9]+)?(\w*)", token).groups()
     if point:
         return "abstract float", token

@@ -25,43 +25,73 @@ fn answer_case<W: Write>(alloc: Global, case: &Value, out: &mut W) -> io::Result
         return writeln!(out, "no name");
     };
     match known_of(alloc, case) {
-        Ok(mut known) => answer_known(alloc, name, &mut known, is_counted(case), out),
+        Ok(mut known) => answer_known(alloc, name, &mut known, case, out),
         Err(error) => writeln!(out, "== {name}\nnot read: {error}"),
     }
 }
 
-/// Whether the case tells how often each expression is used.
-fn is_counted(case: &Value) -> bool {
-    case.get("counted").and_then(Value::as_bool) == Some(true)
+/// Whether a member of the case is `true`.
+fn is_told(case: &Value, member: &str) -> bool {
+    case.get(member).and_then(Value::as_bool) == Some(true)
 }
 
 fn answer_known<W: Write>(
     alloc: Global,
     name: &str,
     known: &mut Known,
-    is_counted: bool,
+    case: &Value,
     out: &mut W,
 ) -> io::Result<()> {
     if let Some(fault) = unaccepted(&known.module, &known.info) {
         return writeln!(out, "== {name}\nnot accepted: {fault}");
     }
-    if !is_counted {
+    if !is_told(case, "counted") {
         count(&mut known.info, &known.module);
     }
-    print_texts(alloc, name, known, out)
+    print_texts(
+        alloc,
+        name,
+        "",
+        ", with types",
+        known,
+        WriterFlags::empty(),
+        out,
+    )?;
+    if is_told(case, "portable") {
+        let typed_head = ", portable with types";
+        return print_texts(
+            alloc,
+            name,
+            ", portable",
+            typed_head,
+            known,
+            WriterFlags::PORTABLE,
+            out,
+        );
+    }
+    Ok(())
 }
 
-/// Prints what the writer makes of the module with either setting, once where both are the same.
-fn print_texts<W: Write>(alloc: Global, name: &str, known: &Known, out: &mut W) -> io::Result<()>
+/// Prints what the writer makes of the module with these flags, and where each `let` tells its type
+/// besides, once where both are the same.
+fn print_texts<W: Write>(
+    alloc: Global,
+    name: &str,
+    head: &str,
+    typed_head: &str,
+    known: &Known,
+    flags: WriterFlags,
+    out: &mut W,
+) -> io::Result<()>
     requires { IsTrue (is_accepted known.now.module known.now.info) }
 {
-    let plain = text_of(alloc, known, WriterFlags::empty())?;
-    write!(out, "== {name}\n{plain}")?;
-    let typed = text_of(alloc, known, WriterFlags::EXPLICIT_TYPES)?;
+    let plain = text_of(alloc, known, flags)?;
+    write!(out, "== {name}{head}\n{plain}")?;
+    let typed = text_of(alloc, known, flags.union(WriterFlags::EXPLICIT_TYPES))?;
     if typed.as_str() == plain.as_str() {
         return Ok(());
     }
-    write!(out, "== {name}, with types\n{typed}")
+    write!(out, "== {name}{typed_head}\n{typed}")
 }
 
 /// What the writer makes of the module: what it wrote, and behind it the refusal if there is one.

@@ -372,6 +372,16 @@ const LOSSES: &[(&str, &str, &str)] = &[
         "module.global_expressions[0].Literal.F32: unknown member `sign`",
     ),
     (
+        r#"{"global_expressions": [{"Literal": {"DecimalF32": {"digits": 5}}}]}"#,
+        "{}",
+        "module.global_expressions[0].Literal.DecimalF32.exponent: missing",
+    ),
+    (
+        r#"{"global_expressions": [{"Literal": {"DecimalF32": {"digits": -5, "exponent": 0}}}]}"#,
+        "{}",
+        "module.global_expressions[0].Literal.DecimalF32.digits: number out of range",
+    ),
+    (
         r#"{"special_types": {"ray_flags": 0}}"#,
         "{}",
         "module.special_types: unknown member `ray_flags`",
@@ -410,6 +420,16 @@ const READINGS: &[(&str, &str, &str)] = &[
         r#"{"global_expressions": [{"Literal": {"F32": -7.038531e-26}}]}"#,
         "{}",
         "Literal(F32(2511225853))",
+    ),
+    (
+        r#"{"global_expressions": [{"Literal": {"DecimalF32": {"digits": 5, "exponent": -1}}}]}"#,
+        "{}",
+        "Literal(DecimalF32(Decimal { negative: false, digits: 5, exponent: -1 }))",
+    ),
+    (
+        r#"{"global_expressions": [{"Literal": {"DecimalF64": {"negative": true, "digits": 18446744073709551615, "exponent": -9223372036854775808}}}]}"#,
+        "{}",
+        "Literal(DecimalF64(Decimal { negative: true, digits: 18446744073709551615, exponent: -9223372036854775808 }))",
     ),
     (
         r#"{"global_expressions": [{"Literal": {"F32": {"bits": 2139095040}}}]}"#,

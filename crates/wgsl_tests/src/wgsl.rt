@@ -40,6 +40,7 @@ fn a_module_is_written(rt: HostRuntime) {
     written.expect(&rt, "a text");
     reads(&rt, writer.finish().as_str(), STORE_WITH_TYPES);
     assert_eq!(rt; WriterFlags::EXPLICIT_TYPES.bits(), 1);
+    assert_eq!(rt; WriterFlags::PORTABLE.bits(), 2);
 }
 
 const NAMED: &str = "fn e(x: i32) -> i32 {\n    let x_1 = (x + x);\n    return x_1;\n}\n";

@@ -126,24 +126,27 @@ gather_is w n e es gathers low all =
       and_from (stands_in gather_words w) (nat_lt n 4 && are_expressions (operands es)) gathers (and_from (nat_lt n 4) (are_expressions (operands es)) (lt-ltb n 4 low) (operands_alone es)),
     )
 
-with_level_are : (first more : List Expression) → Each IsExpression first → Each IsExpression more → IsArguments (operands_with_level first more)
-with_level_are [] more all last = operands_are more last
-with_level_are (e ∷ first) more all last = (all.0, with_level_are first more all.1 last)
+with_level_are : (whole : Bool) (first more : List Expression) → Each IsExpression first →
+    Each IsExpression more → IsArguments (operands_with_level whole first more)
+with_level_are whole [] more all last = operands_are more last
+with_level_are whole (e ∷ first) more all last =
+    (all.0, with_level_are whole first more all.1 last)
 
-has_level : (first more : List Expression) → have_a_zero (operands_with_level first more) ≡ true
-has_level [] more = operands_alone more
-has_level (e ∷ first) more = has_level first more
+has_level : (whole : Bool) (first more : List Expression) →
+    have_a_zero (operands_with_level whole first more) ≡ true
+has_level whole [] more = operands_alone more
+has_level whole (e ∷ first) more = has_level whole first more
 
-level_is : (w : List ℕ) (e : Expression) (es more : List Expression) →
+level_is : (whole : Bool) (w : List ℕ) (e : Expression) (es more : List Expression) →
     stands_in level_words w ≡ true → Each IsExpression (e ∷ es) → Each IsExpression more →
-    IsExpression (Call (Named w) (operands_with_level (e ∷ es) more))
-level_is w e es more levels all last = (
+    IsExpression (Call (Named w) (operands_with_level whole (e ∷ es) more))
+level_is whole w e es more levels all last = (
   table_word level_words w levels_free levels,
-  with_level_are (e ∷ es) more all last,
-  or_right (are_expressions (operands_with_level es more))
-      (stands_in level_words w && have_a_zero (operands_with_level es more))
-      (and_from (stands_in level_words w) (have_a_zero (operands_with_level es more)) levels
-      (has_level es more)),
+  with_level_are whole (e ∷ es) more all last,
+  or_right (are_expressions (operands_with_level whole es more))
+      (stands_in level_words w && have_a_zero (operands_with_level whole es more))
+      (and_from (stands_in level_words w) (have_a_zero (operands_with_level whole es more)) levels
+      (has_level whole es more)),
 )
 
 -- a word that takes a type

@@ -280,6 +280,11 @@ operator_rows = record {
   unsigned_long = record { form = search rules; text = refl };
   signed_short = record { form = search rules; text = refl };
   unsigned_short = record { form = search rules; text = refl };
+  single = record { form = search rules; text = refl };
+  half = record { form = search rules; text = refl };
+  double = record { form = search rules; text = refl };
+  great_double = record { form = search rules; text = refl };
+  small_double = record { form = search rules; text = refl };
   least_integer = record { form = search rules; text = refl };
   least_long = record { form = search rules; text = refl };
   inlined_constant = record { form = search rules; text = refl };
@@ -342,6 +347,7 @@ access_rows = record {
   sample_of_array = record { form = search rules; text = refl };
   sample_at_level = record { form = search rules; text = refl };
   sample_at_zero = record { form = search rules; text = refl };
+  sample_at_whole_zero = record { form = search rules; text = refl };
   sample_with_bias = record { form = search rules; text = refl };
   sample_with_gradient = record { form = search rules; text = refl };
   sample_clamped = record { form = search rules; text = refl };

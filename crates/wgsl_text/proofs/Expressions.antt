@@ -1,6 +1,7 @@
 -- Expressions: the machine reads back what their pieces write, and no token of these runs into the
 -- next; and the text of each row.
 use Rattle.std.proofs.Common.{◌≡◌, ℕ, Bool, true, false, List, [], ◌∷◌, ◌++◌, refl, sym, ap, ◌∙◌}
+use Rattle.std.proofs.Common.{◌&&◌, ◌||◌, arith, nat_lt}
 use Rattle.wgsl_text.specs.Expressions.{BinaryOperator, Less, GreaterEqual, ShiftRight}
 use Rattle.wgsl_text.specs.Expressions.{UnaryOperator, Negate, LogicalNot, BitwiseNot, Expression}
 use Rattle.wgsl_text.specs.Expressions.{Constant, Name, Binary, Unary, Call, Member, Index, IndexAt}
@@ -8,7 +9,9 @@ use Rattle.wgsl_text.specs.Expressions.{AddressOf, Dereference, Arguments, NoArg
 use Rattle.wgsl_text.specs.Expressions.{NumberArgument, ZeroArgument, binary_pieces, unary_mark}
 use Rattle.wgsl_text.specs.Expressions.{base_pieces, expression_pieces, arguments_pieces}
 use Rattle.wgsl_text.specs.Expressions.{more_arguments_pieces, call_templates, IsCallee, IsSome}
-use Rattle.wgsl_text.specs.Expressions.{IsExpression, IsArguments}
+use Rattle.wgsl_text.specs.Expressions.{IsExpression, IsArguments, are_expressions, have_a_zero}
+use Rattle.wgsl_text.specs.Expressions.{may_take}
+use Rattle.wgsl_text.specs.Literals.{IsPlainNumber}
 use Rattle.wgsl_text.specs.Token.{OpenParen, CloseBracket, LessThan, NoSuffix, Number, Piece, Blank}
 use Rattle.wgsl_text.specs.Token.{mark}
 use Rattle.wgsl_text.specs.Types.{TypeSpecifier, Named, Template, TemplateArguments, has_gaps}
@@ -29,9 +32,9 @@ use Rattle.wgsl_text.proofs.Words.{passes}
 use Rattle.wgsl_text.proofs.Machine.{Stack, InParens, InRight, InUnary, InArguments, InCallee}
 use Rattle.wgsl_text.proofs.Machine.{State, Want, Got, GotNumberArgument, AfterArgument}
 use Rattle.wgsl_text.proofs.Machine.{unwind_arguments}
-use Rattle.std.specs.Prelude.{codes, IsTrue, cond}
+use Rattle.std.specs.Prelude.{⊤, codes, IsTrue, cond}
 use Rattle.std.proofs.lemmas.Bool.{false≢true}
-use Rattle.wgsl_text.specs.Tables.{type_taking_words}
+use Rattle.wgsl_text.specs.Tables.{gather_words, level_words, type_taking_words}
 use Rattle.std.specs.Fmt.{decimal}
 use Rattle.wgsl_text.specs.Text.{mark_text, text}
 use Rattle.std.proofs.lemmas.List.{append-nil}
@@ -63,11 +66,76 @@ argument_done NoArguments a = record { to = a.to }
 argument_done _ a = record { to = a.to }
 
 number_done : (more : Arguments) → IsSome more →
-    {n : ℕ} {t : TypeSpecifier} {done : Arguments} {s : Stack} {s' : State} →
-    Runs (more_arguments_pieces more) (AfterArgument t (NumberArgument n done) s) s' →
-    Runs (more_arguments_pieces more) (GotNumberArgument t done false n s) s'
+    {n : ℕ} {t : TypeSpecifier} {s : Stack} {s' : State} →
+    Runs (more_arguments_pieces more) (AfterArgument t (NumberArgument n NoArguments) s) s' →
+    Runs (more_arguments_pieces more) (GotNumberArgument t NoArguments false n s) s'
 number_done NoArguments is a = absurd is
 number_done _ is a = record { to = a.to }
+
+-- a whole zero behind others
+zero_done : (more done : Arguments) → IsSome done → {t : TypeSpecifier} {s : Stack} {s' : State} →
+    Runs (more_arguments_pieces more) (AfterArgument t (ZeroArgument true done) s) s' →
+    Runs (more_arguments_pieces more) (GotNumberArgument t done false 0 s) s'
+zero_done more NoArguments is a = absurd is
+zero_done NoArguments (Argument e done) is a = record { to = a.to }
+zero_done NoArguments (NumberArgument n done) is a = record { to = a.to }
+zero_done NoArguments (ZeroArgument whole done) is a = record { to = a.to }
+zero_done _ (Argument e done) is a = record { to = a.to }
+zero_done _ (NumberArgument n done) is a = record { to = a.to }
+zero_done _ (ZeroArgument whole done) is a = record { to = a.to }
+
+-- A plain number that stands behind others is a level, and the first one is none.
+abbrev StandBehind : Arguments → Type 0
+StandBehind NoArguments = ⊤
+StandBehind (Argument e more) = StandBehind more
+StandBehind (NumberArgument n more) = ⊥
+StandBehind (ZeroArgument whole more) = StandBehind more
+
+abbrev pub StandFirst : Arguments → Type 0
+StandFirst NoArguments = ⊤
+StandFirst (Argument e more) = StandBehind more
+StandFirst (NumberArgument n more) = StandBehind more
+StandFirst (ZeroArgument whole more) = ⊥
+
+expressions_behind : (args : Arguments) → are_expressions args ≡ true → StandBehind args
+expressions_behind NoArguments is = tt
+expressions_behind (Argument e more) is = expressions_behind more is
+expressions_behind (NumberArgument n more) is = absurd (false≢true is)
+expressions_behind (ZeroArgument whole more) is = absurd (false≢true is)
+
+zero_behind : (args : Arguments) → have_a_zero args ≡ true → StandBehind args
+zero_behind NoArguments is = absurd (false≢true is)
+zero_behind (Argument e more) is = zero_behind more is
+zero_behind (NumberArgument n more) is = absurd (false≢true is)
+zero_behind (ZeroArgument whole more) is = expressions_behind more is
+
+expressions_first : (args : Arguments) → are_expressions args ≡ true → StandFirst args
+expressions_first NoArguments is = tt
+expressions_first (Argument e more) is = expressions_behind more is
+expressions_first (NumberArgument n more) is = absurd (false≢true is)
+expressions_first (ZeroArgument whole more) is = absurd (false≢true is)
+
+right_of : (a b : Bool) → (a && b) ≡ true → b ≡ true
+right_of true b is = is
+right_of false b is = absurd (false≢true is)
+
+one_behind : (args : Arguments) (word expressions : Bool) → are_expressions args ≡ expressions →
+    (expressions || (word && have_a_zero args)) ≡ true → StandBehind args
+one_behind args word true is holds = expressions_behind args is
+one_behind args word false is holds = zero_behind args (right_of word (have_a_zero args) holds)
+
+-- so it is in what a call may take
+pub stand_first : (t : TypeSpecifier) (args : Arguments) → IsTrue (may_take t args) → StandFirst args
+stand_first (Named w) NoArguments is = tt
+stand_first (Named w) (Argument e more) is =
+    one_behind more (stands_in level_words w) (are_expressions more) refl is
+stand_first (Named w) (NumberArgument n more) is =
+    expressions_behind more
+    (right_of (nat_lt n 4) (are_expressions more)
+    (right_of (stands_in gather_words w) (nat_lt n 4 && are_expressions more) is))
+stand_first (Named w) (ZeroArgument whole more) is =
+    absurd (false≢true (right_of (stands_in level_words w) false is))
+stand_first (Template w parts) args is = expressions_first args is
 
 -- Words that take parts.
 
@@ -95,27 +163,30 @@ mutual
   expression_runs (Binary a op b) is s =
       reads $ expression_runs a is.0 _ onward over_gap $ operator_runs op a is.0 s onward over_gap $ expression_runs b is.1 _ onward at_end
   expression_runs (Unary op e) is s = unary_runs op s onward expression_runs e is _ onward at_end
-  expression_runs (Call t args) is s = callee_runs t is.0 _ s _ (arguments_run args is.1 t s)
+  expression_runs (Call t args) is s = callee_runs t is.0 _ s _ (arguments_run args is.1 (stand_first t args is.2) t s)
   expression_runs (Member e w) is s = base_runs e s (expression_runs e is.0) onward at_end
   expression_runs (Index e i) is s = base_runs e s (expression_runs e is.0) onward reads $ expression_runs i is.1 _ onward at_end
   expression_runs (IndexAt e n) is s = base_runs e s (expression_runs e is.0) onward at_end
   expression_runs (AddressOf e) is s = reads $ reads $ expression_runs e is _ onward at_end
   expression_runs (Dereference e) is s = reads $ reads $ expression_runs e is _ onward at_end
 
-  pub arguments_run : (args : Arguments) → IsArguments args → (t : TypeSpecifier) (s : Stack) → Runs (arguments_pieces args) (Want (InArguments t NoArguments s)) (Got (Call t args) s)
-  arguments_run NoArguments is t s = at_end
-  arguments_run (Argument e more) is t s = expression_runs e is.0 _ onward argument_done more (more_arguments_run more is.1 _ t s)
-  arguments_run (NumberArgument n more) is t s = reads $ number_done more is.1 (more_arguments_run more is.2 (NumberArgument n NoArguments) t s)
-  arguments_run (ZeroArgument more) is t s = reads $ more_arguments_run more is (ZeroArgument NoArguments) t s
+  pub arguments_run : (args : Arguments) → IsArguments args → StandFirst args →
+      (t : TypeSpecifier) (s : Stack) →
+      Runs (arguments_pieces args) (Want (InArguments t NoArguments s)) (Got (Call t args) s)
+  arguments_run NoArguments is first t s = at_end
+  arguments_run (Argument e more) is first t s = expression_runs e is.0 _ onward argument_done more (more_arguments_run more is.1 first (Argument e NoArguments) tt t s)
+  arguments_run (NumberArgument n more) is first t s = reads $ number_done more is.1 (more_arguments_run more is.2 first (NumberArgument n NoArguments) tt t s)
+  arguments_run (ZeroArgument whole more) is first t s = absurd first
 
-  pub more_arguments_run : (args : Arguments) → IsArguments args →
-      (done : Arguments) (t : TypeSpecifier) (s : Stack) →
+  pub more_arguments_run : (args : Arguments) → IsArguments args → StandBehind args →
+      (done : Arguments) → IsSome done → (t : TypeSpecifier) (s : Stack) →
       Runs (more_arguments_pieces args) (AfterArgument t done s)
       (Got (Call t (unwind_arguments done args)) s)
-  more_arguments_run NoArguments is done t s = at_end
-  more_arguments_run (Argument e more) is done t s = reads $ over_gap $ expression_runs e is.0 _ onward argument_done more (more_arguments_run more is.1 (Argument e done) t s)
-  more_arguments_run (NumberArgument n more) is done t s = reads $ over_gap $ reads $ number_done more is.1 (more_arguments_run more is.2 (NumberArgument n done) t s)
-  more_arguments_run (ZeroArgument more) is done t s = reads $ over_gap $ reads $ more_arguments_run more is (ZeroArgument done) t s
+  more_arguments_run NoArguments is behind done some t s = at_end
+  more_arguments_run (Argument e more) is behind done some t s = reads $ over_gap $ expression_runs e is.0 _ onward argument_done more (more_arguments_run more is.1 behind (Argument e done) tt t s)
+  more_arguments_run (NumberArgument n more) is behind done some t s = absurd behind
+  more_arguments_run (ZeroArgument false more) is behind done some t s = reads $ over_gap $ reads $ more_arguments_run more is behind (ZeroArgument false done) tt t s
+  more_arguments_run (ZeroArgument true more) is behind done some t s = reads $ over_gap $ reads $ zero_done more done some (more_arguments_run more is behind (ZeroArgument true done) tt t s)
 
 -- Words that take parts.
 
@@ -182,6 +253,9 @@ number_argument_end : (args : Arguments) (n : ℕ) (more : List Piece) → ends 
 number_argument_end NoArguments n more = refl
 number_argument_end _ n more = refl
 
+plain_zero : IsPlainNumber 0
+plain_zero = omega arith
+
 mutual
   pub expression_spaced : (e : Expression) → IsExpression e → Spaced (expression_pieces e)
   expression_spaced (Constant l) is = literal_spaced l is
@@ -203,13 +277,15 @@ mutual
   arguments_spaced NoArguments is = close
   arguments_spaced (Argument e more) is = part (expression_spaced e is.0) (more_arguments_end more) $ more_arguments_spaced more is.1
   arguments_spaced (NumberArgument n more) is = size is.0 (λ ps e. number_argument_end more n ps) $ more_arguments_spaced more is.2
-  arguments_spaced (ZeroArgument more) is = tok tt (λ ps e. refl) $ more_arguments_spaced more is
+  arguments_spaced (ZeroArgument false more) is = tok tt (λ ps e. more_arguments_end more ps e) $ more_arguments_spaced more is
+  arguments_spaced (ZeroArgument true more) is = size plain_zero (λ ps e. number_argument_end more 0 ps) $ more_arguments_spaced more is
 
   pub more_arguments_spaced : (args : Arguments) → IsArguments args → Spaced (more_arguments_pieces args)
   more_arguments_spaced NoArguments is = close
   more_arguments_spaced (Argument e more) is = tok tt (λ ps e. refl) $ gap $ part (expression_spaced e is.0) (more_arguments_end more) $ more_arguments_spaced more is.1
   more_arguments_spaced (NumberArgument n more) is = tok tt (λ ps e. refl) $ gap $ size is.0 (λ ps e. number_argument_end more n ps) $ more_arguments_spaced more is.2
-  more_arguments_spaced (ZeroArgument more) is = tok tt (λ ps e. refl) $ gap $ tok tt (λ ps e. refl) $ more_arguments_spaced more is
+  more_arguments_spaced (ZeroArgument false more) is = tok tt (λ ps e. refl) $ gap $ tok tt (λ ps e. more_arguments_end more ps e) $ more_arguments_spaced more is
+  more_arguments_spaced (ZeroArgument true more) is = tok tt (λ ps e. refl) $ gap $ size plain_zero (λ ps e. number_argument_end more 0 ps) $ more_arguments_spaced more is
 
 -- The text of each row, from the texts of its parts.
 

@@ -4,13 +4,14 @@ use Rattle.std.proofs.Common.{ℕ, Bool, true, false, List, [], ◌∷◌, refl,
 use Rattle.wgsl_text.specs.Expressions.{Constant}
 use Rattle.wgsl_text.specs.Literals.{Literal, Truth, Suffixed, SignedShort, UnsignedShort}
 use Rattle.wgsl_text.specs.Literals.{LeastInteger, LeastLong, wrapped_pieces, literal_pieces}
-use Rattle.wgsl_text.specs.Literals.{IsSigned, IsSuffixed, IsLiteral}
+use Rattle.wgsl_text.specs.Literals.{IsSigned, IsSuffixed, IsLiteral, Floating}
 use Rattle.wgsl_text.specs.Token.{Suffix, NoSuffix, SuffixI, SuffixU, SuffixLi, SuffixLu, Number}
 use Rattle.wgsl_text.specs.Token.{TokenPiece}
 use Rattle.wgsl_text.specs.Words.{IsWord, is_reserved}
 use Rattle.wgsl_text.proofs.Chain.{◌$◌}
 use Rattle.wgsl_text.proofs.Runs.{Runs, at_end}
 use Rattle.wgsl_text.proofs.Spacing.{Spaced, end, tok, free, gap, close, Opens, number_opens}
+use Rattle.wgsl_text.proofs.Spacing.{decimal_opens}
 use Rattle.wgsl_text.proofs.Text.{IsNumber}
 use Rattle.wgsl_text.proofs.Machine.{Stack, Want, Got}
 use Rattle.std.specs.Prelude.{codes, ◌<◌, ◌^◌}
@@ -25,6 +26,7 @@ pub literal_runs : (l : Literal) → IsLiteral l → (s : Stack) → Runs (liter
 literal_runs (Truth true) is s = at_end
 literal_runs (Truth false) is s = at_end
 literal_runs (Suffixed negative n suffix) is s = suffixed_runs suffix negative n is s
+literal_runs (Floating negative whole fraction precision) is s = at_end
 literal_runs (SignedShort negative n) is s = at_end
 literal_runs (UnsignedShort n) is s = at_end
 literal_runs LeastInteger is s = at_end
@@ -67,6 +69,7 @@ pub literal_opens : (l : Literal) → IsLiteral l → Opens (literal_pieces l)
 literal_opens (Truth true) is = record { at = λ more. refl }
 literal_opens (Truth false) is = record { at = λ more. refl }
 literal_opens (Suffixed negative n suffix) is = number_opens negative n suffix (suffixed_number suffix negative n is)
+literal_opens (Floating negative whole fraction precision) is = decimal_opens negative whole fraction precision is.whole_digits
 literal_opens (SignedShort negative n) is = record { at = λ more. refl }
 literal_opens (UnsignedShort n) is = record { at = λ more. refl }
 literal_opens LeastInteger is = record { at = λ more. refl }
@@ -86,6 +89,7 @@ pub literal_spaced : (l : Literal) → IsLiteral l → Spaced (literal_pieces l)
 literal_spaced (Truth true) is = tok tt (λ more e. e) end
 literal_spaced (Truth false) is = tok tt (λ more e. e) end
 literal_spaced (Suffixed negative n suffix) is = suffixed_spaced suffix negative n is
+literal_spaced (Floating negative whole fraction precision) is = tok (is.whole_digits, is.fraction_digits, is.power_digits) (λ more e. refl) end
 literal_spaced (SignedShort negative n) is = wrapped_spaced (codes "i16") negative n i16_word (signed_number negative n (2 ^ 15) (omega arith) is)
 literal_spaced (UnsignedShort n) is = wrapped_spaced (codes "u16") false n u16_word (omega arith)
 literal_spaced LeastInteger is = wrapped_spaced (codes "i32") true 2147483648 i32_word (omega arith)

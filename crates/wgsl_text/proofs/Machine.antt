@@ -1,6 +1,7 @@
 -- A machine that reads a tree back from its tokens, one token at a time. It is a left inverse of
 -- the pieces and no more: it may also accept what the grammar does not have.
-use Rattle.std.specs.Prelude.{ℕ, Bool, true, false, cond, List, [], ◌∷◌, codes, Option, None, Some}
+use Rattle.std.specs.Prelude.{ℕ, zero, Bool, true, false, cond, List, [], ◌∷◌, codes, Option, None}
+use Rattle.std.specs.Prelude.{Some}
 use Rattle.std.specs.Str.{bytes_eq}
 use Rattle.wgsl_text.specs.Token.{Mark, OpenParen, CloseParen, OpenBracket, CloseBracket, OpenBrace}
 use Rattle.wgsl_text.specs.Token.{CloseBrace, Comma, Semicolon, Colon, Dot, At, Equals, LessThan}
@@ -13,6 +14,8 @@ use Rattle.wgsl_text.specs.Token.{KeywordCase, KeywordDefault, KeywordReturn, Ke
 use Rattle.wgsl_text.specs.Token.{KeywordFn, KeywordStruct, KeywordConst, KeywordEnable}
 use Rattle.wgsl_text.specs.Token.{KeywordOverride, Suffix, NoSuffix, SuffixU, Token, Fixed, Word}
 use Rattle.wgsl_text.specs.Token.{Number, ZeroPointZero, Foreign, Piece, TokenPiece, Blank, LineEnd}
+use Rattle.wgsl_text.specs.Token.{Decimal}
+use Rattle.wgsl_text.specs.Literals.{Floating}
 use Rattle.wgsl_text.specs.Token.{Indent}
 use Rattle.wgsl_text.specs.Literals.{Literal, Truth, Suffixed, SignedShort, UnsignedShort}
 use Rattle.wgsl_text.specs.Literals.{LeastInteger, LeastLong}
@@ -163,7 +166,7 @@ abbrev pub unwind_arguments : Arguments → Arguments → Arguments
 unwind_arguments NoArguments args = args
 unwind_arguments (Argument e done) args = unwind_arguments done (Argument e args)
 unwind_arguments (NumberArgument n done) args = unwind_arguments done (NumberArgument n args)
-unwind_arguments (ZeroArgument done) args = unwind_arguments done (ZeroArgument args)
+unwind_arguments (ZeroArgument whole done) args = unwind_arguments done (ZeroArgument whole args)
 
 abbrev pub unwind_parts : TemplateArguments → TemplateArguments → TemplateArguments
 unwind_parts NoTemplateArguments args = args
@@ -359,13 +362,14 @@ want_number NoSuffix negative n s = want_plain negative n s
 want_number suffix negative n s = Got (Constant (Suffixed negative n suffix)) s
 
 abbrev pub want_zero : Stack → State
-want_zero (InArguments t done s) = AfterArgument t (ZeroArgument done) s
+want_zero (InArguments t done s) = AfterArgument t (ZeroArgument false done) s
 want_zero _ = Failed
 
 abbrev pub want : Token → Stack → State
 want (Fixed m) s = want_mark m s
 want (Word w) s = Got (Name w) s
 want (Number negative n suffix) s = want_number suffix negative n s
+want (Decimal negative whole fraction precision) s = Got (Constant (Floating negative whole fraction precision)) s
 want ZeroPointZero s = want_zero s
 want (Foreign b) s = Failed
 
@@ -483,12 +487,18 @@ abbrev pub wrapped : TypeSpecifier → Bool → ℕ → Stack → State
 wrapped (Named w) negative n s = Got (Constant (wrapped_literal w negative n)) s
 wrapped (Template w args) negative n s = Failed
 
+-- behind others a zero is a level
+abbrev pub number_then : Arguments → ℕ → Arguments
+number_then NoArguments n = NumberArgument n NoArguments
+number_then done zero = ZeroArgument true done
+number_then done n = NumberArgument n done
+
 abbrev pub close_number : Arguments → TypeSpecifier → Bool → ℕ → Stack → State
 close_number NoArguments t negative n s = wrapped t negative n s
-close_number done t negative n s = Got (Call t (unwind_arguments done (NumberArgument n NoArguments))) s
+close_number done t negative n s = Got (Call t (unwind_arguments (number_then done n) NoArguments)) s
 
 abbrev pub got_number_argument : Mark → TypeSpecifier → Arguments → Bool → ℕ → Stack → State
-got_number_argument Comma t done negative n s = Want (InArguments t (NumberArgument n done) s)
+got_number_argument Comma t done negative n s = Want (InArguments t (number_then done n) s)
 got_number_argument CloseParen t done negative n s = close_number done t negative n s
 got_number_argument Minus t done negative n s = InLeastLong s
 got_number_argument _ t done negative n s = Failed

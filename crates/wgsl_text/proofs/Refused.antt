@@ -73,19 +73,31 @@ plain_argument = found_expression _ (Call (Named (codes "f")) (Argument (Name (c
 level_elsewhere : IsNoExpression (codes "textureSampleBias(t, s, p, 0.0)")
 unfolding is_reserved is_builtin
 level_elsewhere =
-    found_expression _ (call "textureSampleBias" (Argument (name "t") (Argument (name "s") (Argument (name "p") (ZeroArgument NoArguments))))) refl
+    found_expression _ (call "textureSampleBias" (Argument (name "t") (Argument (name "s") (Argument (name "p") (ZeroArgument false NoArguments))))) refl
     (λ r. false≢true r.form.2)
 
 level_first : IsNoExpression (codes "textureSampleLevel(0.0, t, s, p)")
 unfolding is_reserved is_builtin
 level_first =
-    found_expression _ (call "textureSampleLevel" (ZeroArgument (Argument (name "t") (Argument (name "s") (Argument (name "p") NoArguments))))) refl
+    found_expression _ (call "textureSampleLevel" (ZeroArgument false (Argument (name "t") (Argument (name "s") (Argument (name "p") NoArguments))))) refl
     (λ r. false≢true r.form.2)
 
 two_levels : IsNoExpression (codes "textureSampleLevel(t, s, 0.0, 0.0)")
 unfolding is_reserved is_builtin
 two_levels =
-    found_expression _ (call "textureSampleLevel" (Argument (name "t") (Argument (name "s") (ZeroArgument (ZeroArgument NoArguments))))) refl
+    found_expression _ (call "textureSampleLevel" (Argument (name "t") (Argument (name "s") (ZeroArgument false (ZeroArgument false NoArguments))))) refl
+    (λ r. false≢true r.form.2)
+
+level_of_one : IsNoExpression (codes "textureSampleLevel(t, s, 1)")
+unfolding is_reserved is_builtin
+level_of_one =
+    found_expression _ (call "textureSampleLevel" (Argument (name "t") (Argument (name "s") (NumberArgument 1 NoArguments)))) refl
+    (λ r. false≢true r.form.2)
+
+zero_elsewhere : IsNoExpression (codes "textureSampleBias(t, s, 0)")
+unfolding is_reserved is_builtin
+zero_elsewhere =
+    found_expression _ (call "textureSampleBias" (Argument (name "t") (Argument (name "s") (ZeroArgument true NoArguments)))) refl
     (λ r. false≢true r.form.2)
 
 open_binary : IsNoExpression (codes "a + b")

@@ -11,7 +11,9 @@ use Rattle.wgsl_text.specs.Literals.{IsPlainNumber}
 use Rattle.wgsl_text.specs.Token.{CloseParen, Suffix, NoSuffix, Token, Word, Number, Piece}
 use Rattle.wgsl_text.specs.Token.{TokenPiece, Blank, mark, plain}
 use Rattle.wgsl_text.specs.Words.{IsWord, is_letter, all_word_bytes}
-use Rattle.wgsl_text.specs.Text.{suffix_text, text}
+use Rattle.wgsl_text.specs.Text.{suffix_text, text, decimal_tail}
+use Rattle.wgsl_text.specs.Token.{AreDigits}
+use Rattle.wgsl_text.specs.Token.{Decimal, Precision}
 use Rattle.wgsl_text.proofs.Text.{ends_word, opens, ends, word_token_of, IsNumber, IsToken}
 use Rattle.wgsl_text.proofs.Text.{own_digits, digit_no_letter, Apart}
 
@@ -76,3 +78,8 @@ pub number_opens : (negative : Bool) (n : ℕ) (suffix : Suffix) → IsNumber n 
 number_opens true n suffix is = record { at = λ more. refl }
 number_opens false n suffix is {ps} =
     record { at = λ more. ap opens (append_assoc (decimal n) (suffix_text suffix) (text (ps ++ more))) ∙ digits_open (decimal n) _ (decimal_nonempty n is) (digits_decimal own_digits n is) }
+
+pub decimal_opens : (negative : Bool) (whole fraction : List ℕ) (precision : Precision) → AreDigits whole → {ps : List Piece} → Opens (TokenPiece (Decimal negative whole fraction precision) ∷ ps)
+decimal_opens true whole fraction precision are = record { at = λ more. refl }
+decimal_opens false whole fraction precision are {ps} =
+    record { at = λ more. ap opens (append_assoc whole (decimal_tail fraction precision) (text (ps ++ more))) ∙ digits_open whole _ are.some are.digits }

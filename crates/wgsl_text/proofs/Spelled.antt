@@ -27,7 +27,7 @@ calls = record { enables = refl; type_taking = refl; gathers = refl; levels = re
 
 marks : SpelledMarks
 unfolding is_reserved
-marks = record { keywords_in_order = refl; brackets = refl; separators = refl; operators = refl; double_operators = refl; suffixes = refl }
+marks = record { keywords_in_order = refl; brackets = refl; separators = refl; operators = refl; double_operators = refl; suffixes = refl; precisions = refl }
 
 attributes : SpelledAttributes
 unfolding digits

@@ -3,7 +3,7 @@
 use Rattle.std.proofs.Common.{◌≡◌, ℕ, ◌<◌, ◌≤◌, suc, Bool, true, false, cond, not, ◌&&◌, List, []}
 use Rattle.std.proofs.Common.{◌∷◌, ◌++◌, length, take, drop, refl, sym, ap, subst, ◌∙◌}
 use Rattle.std.proofs.Common.{append_assoc, arith, ◌||◌, eqb-true}
-use Rattle.std.specs.Prelude.{⊤, ◌+◌, ◌==◌}
+use Rattle.std.specs.Prelude.{⊤, ◌+◌, ◌==◌, codes}
 use Rattle.std.specs.Char.{is_ascii_digit}
 use Rattle.std.specs.Str.{bytes_eq, all_ascii_digits}
 use Rattle.std.proofs.lemmas.Bool.{false≢true, and_parts, not-true}
@@ -16,7 +16,15 @@ use Rattle.wgsl_text.specs.Token.{KeywordSwitch, KeywordCase, KeywordDefault, Ke
 use Rattle.wgsl_text.specs.Token.{KeywordDiscard, KeywordFn, KeywordStruct, KeywordConst}
 use Rattle.wgsl_text.specs.Token.{KeywordEnable, KeywordOverride, Suffix, NoSuffix, SuffixI}
 use Rattle.wgsl_text.specs.Token.{SuffixU, SuffixLi, SuffixLu, Token, Fixed, Word, Number}
-use Rattle.wgsl_text.specs.Token.{ZeroPointZero, Foreign}
+use Rattle.wgsl_text.specs.Token.{ZeroPointZero, Foreign, Decimal, Power, NoPower, Precision, Half}
+use Rattle.wgsl_text.specs.Token.{Single, Double}
+use Rattle.wgsl_text.specs.Text.{precision_text, fraction_text, decimal_tail, fraction_at}
+use Rattle.wgsl_text.specs.Token.{AreDigits, IsPower, IsPrecision}
+use Rattle.wgsl_text.specs.Text.{power_text, power_at, digits_at}
+use Rattle.wgsl_text.specs.Text.{power_of_digits, power_after_letter, after_power, starts_with_lf}
+use Rattle.wgsl_text.specs.Text.{after_fraction, has_precision, precision_at, decimal_of, whole_of}
+use Rattle.wgsl_text.specs.Spelling.{SpellsDecimal, decimal_text}
+use Rattle.wgsl_text.proofs.Text.{decimal_scan, decimal_scans, joined}
 use Rattle.wgsl_text.specs.Words.{is_letter, is_word_byte, all_word_bytes, is_word_text}
 use Rattle.wgsl_text.specs.Words.{is_reserved}
 use Rattle.wgsl_text.specs.Text.{Lexeme, Takes, Skips, mark_text, suffix_text, starts_with}
@@ -107,14 +115,21 @@ at_least_if n true l m a b = a
 at_least_if n false l m a b = b
 
 -- digits that more may follow
-digits_at_least : (negative : Bool) (b : ℕ) (ds more bytes : List ℕ) → AtLeast (suc (length ds)) (number_of negative b (ds ++ more) bytes)
-digits_at_least negative b [] more bytes =
+whole_at_least : (negative : Bool) (b : ℕ) (ds more bytes : List ℕ) → AtLeast (suc (length ds)) (whole_of negative b (ds ++ more) bytes)
+whole_at_least negative b [] more bytes =
     at_least_if 1 (is_point_zero bytes && (not negative && (b == 48 && is_empty more))) _ _ (tt, omega arith) (tt, omega arith)
-digits_at_least negative b (d ∷ ds) more bytes =
+whole_at_least negative b (d ∷ ds) more bytes =
     let tail = suffix_text (suffix_at bytes) in
     let whole : length ((ds ++ more) ++ tail) ≡ length (ds ++ more) + length tail = length-append (ds ++ more) tail in
     let digits : length (ds ++ more) ≡ length ds + length more = length-append ds more in
     moved (suc (suc (length ds))) (when_false _ (and_last_false (is_point_zero bytes) (not negative) (b == 48) false refl)) (tt, omega arith)
+
+digits_at_least : (negative : Bool) (b : ℕ) (ds more bytes : List ℕ) → AtLeast (suc (length ds)) (number_of negative b (ds ++ more) bytes)
+digits_at_least negative b ds more bytes =
+    let tail = decimal_tail (fraction_at bytes) (precision_at (after_fraction bytes)) in
+    let whole : length ((ds ++ more) ++ tail) ≡ length (ds ++ more) + length tail = length-append (ds ++ more) tail in
+    let digits : length (ds ++ more) ≡ length ds + length more = length-append ds more in
+    at_least_if (suc (length ds)) (has_precision (after_fraction bytes)) _ _ (tt, omega arith) (whole_at_least negative b ds more bytes)
 
 number_at_least : (negative : Bool) (b : ℕ) (ds : List ℕ) (suffix : Suffix) (rest : List ℕ) →
     all_ascii_digits ds ≡ true →
@@ -152,6 +167,22 @@ number_front true (b ∷ ds) suffix rest some is =
     let n = suc (length (ds ++ suffix_text suffix)) in
     subst (λ v. AtLeast (suc n) (minus_lexeme (b ∷ v))) (sym (append_assoc ds (suffix_text suffix) rest))
     (moved (suc n) {l = one_more (number_lexeme true b (ds ++ (suffix_text suffix ++ rest)))} (when_true _ h.0) (one_more_at_least n _ (number_at_least true b ds suffix rest h.1)))
+
+decimal_front : (negative : Bool) (whole fraction : List ℕ) (precision : Precision) (rest : List ℕ) → AreDigits whole →
+    all_ascii_digits fraction ≡ true → IsPrecision precision →
+    AtLeast (length (decimal_text negative whole fraction precision))
+    (lexeme_of (decimal_text negative whole fraction precision ++ rest))
+decimal_front negative [] fraction precision rest are tail_is power_is = absurd (omega (arith, are.some))
+decimal_front false (b ∷ ds) fraction precision rest are tail_is power_is =
+    let h = and_parts (is_ascii_digit b) (all_ascii_digits ds) are.digits in
+    let n = suc (length (ds ++ decimal_tail fraction precision)) in
+    subst (λ v. AtLeast n (lexeme b v)) (joined ds fraction precision rest)
+    (moved n (when_false _ (digit_no_letter b h.0) ∙ when_true _ h.0 ∙ decimal_scan false b ds fraction precision rest h.1 tail_is power_is) (tt, omega arith))
+decimal_front true (b ∷ ds) fraction precision rest are tail_is power_is =
+    let h = and_parts (is_ascii_digit b) (all_ascii_digits ds) are.digits in
+    let n = suc (suc (length (ds ++ decimal_tail fraction precision))) in
+    subst (λ v. AtLeast n (minus_lexeme (b ∷ v))) (joined ds fraction precision rest)
+    (moved n (when_true _ h.0 ∙ ap one_more (decimal_scan true b ds fraction precision rest h.1 tail_is power_is)) (tt, omega arith))
 
 -- signs
 
@@ -203,7 +234,11 @@ sign_at_least _ is rest = (tt, omega arith)
 pub longest : (other : List ℕ) (u : Token) → Spells other u → (rest : List ℕ) → AtLeast (length other) (lexeme_of (other ++ rest))
 longest _ _ (SpellsWord w is) rest = word_at_least w rest is
 longest _ _ (SpellsNumber negative ds suffix some is) rest = number_front negative ds suffix rest some is
-longest _ _ SpellsZeroPointZero rest = (tt, omega arith)
+longest _ _ (SpellsDecimal negative whole fraction precision are tail_is power_is) rest = decimal_front negative whole fraction precision rest are tail_is power_is
+longest _ _ SpellsZeroPointZero rest =
+    at_least_if 3 (has_precision (after_fraction (46 ∷ 48 ∷ rest)))
+    (decimal_of false 48 [] (fraction_at (46 ∷ 48 ∷ rest)) (precision_at (after_fraction (46 ∷ 48 ∷ rest))))
+    (Takes ZeroPointZero 2) (tt, omega arith) (tt, omega arith)
 longest _ _ (SpellsSign m is) rest = sign_at_least m is rest
 
 -- What is taken is spelled by the bytes that are taken.
@@ -301,6 +336,9 @@ suffix_front (b ∷ bytes) =
 -- what a number that begins with the digit b is
 data NumberFront (negative : Bool) (b : ℕ) (bytes : List ℕ) (l : Lexeme) : Type 0 where
   PointZero : negative ≡ false → b ≡ 48 → (rest : List ℕ) → bytes ≡ 46 ∷ 48 ∷ rest → l ≡ Takes ZeroPointZero 2 → NumberFront negative b bytes l
+  Decimals : (ds fraction rest : List ℕ) (precision : Precision) → all_ascii_digits ds ≡ true → all_ascii_digits fraction ≡ true → IsPrecision precision →
+      bytes ≡ (ds ++ decimal_tail fraction precision) ++ rest →
+      l ≡ decimal_of negative b ds fraction precision → NumberFront negative b bytes l
   Digits : (ds rest : List ℕ) (suffix : Suffix) → all_ascii_digits ds ≡ true →
       bytes ≡ (ds ++ suffix_text suffix) ++ rest →
       l ≡ Takes (Number negative (digits_value 10 (b ∷ ds)) suffix)
@@ -317,8 +355,108 @@ point_zero (b ∷ bytes) e =
     let s = starts 48 bytes h.1 in
     (s.0, ap (λ v. v ∷ bytes) (eqb-true b 46 h.0) ∙ ap (λ v. 46 ∷ v) s.1)
 
+-- a fraction at the front of bytes, after it a power of ten, and the letters of a type
+
+record FractionFront (bytes : List ℕ) : Type 0 where
+  digits : all_ascii_digits (fraction_at bytes) ≡ true
+  whole : bytes ≡ fraction_text (fraction_at bytes) ++ after_fraction bytes
+
+split : (front rest bytes : List ℕ) → bytes ≡ front ++ rest → 46 ∷ bytes ≡ fraction_text front ++ drop (length (fraction_text front)) (46 ∷ bytes)
+split [] rest bytes e = refl
+split (d ∷ ds) rest bytes e = ap (λ v. 46 ∷ v) (e ∙ ap (λ v. (d ∷ ds) ++ v) (sym (ap (drop (length (d ∷ ds))) e ∙ drop-append_seam (d ∷ ds) rest)))
+
+fraction_front : (bytes : List ℕ) → FractionFront bytes
+fraction_front [] = record { digits = refl; whole = refl }
+fraction_front (b ∷ bytes) = by (b == 46) refl
+  where
+    by : (c : Bool) → (b == 46) ≡ c → FractionFront (b ∷ bytes)
+    by true e =
+        let f = digit_front bytes in
+        let found : fraction_at (b ∷ bytes) ≡ f.front = when_true _ e ∙ (ap (λ n. take n bytes) f.count ∙ ap (take (length f.front)) f.whole ∙ take-append_seam f.front f.rest) in
+        record {
+          digits = ap all_ascii_digits found ∙ f.digits;
+          whole =
+              subst (λ v. b ∷ bytes ≡ fraction_text v ++ drop (length (fraction_text v)) (b ∷ bytes)) (sym found)
+              (subst (λ c. c ∷ bytes ≡ fraction_text f.front ++ drop (length (fraction_text f.front)) (c ∷ bytes)) (sym (eqb-true b 46 e))
+              (split f.front f.rest bytes f.whole));
+        }
+    by false e =
+        let found : fraction_at (b ∷ bytes) ≡ [] = when_false _ e in
+        record {
+          digits = ap all_ascii_digits found;
+          whole = subst (λ v. b ∷ bytes ≡ fraction_text v ++ drop (length (fraction_text v)) (b ∷ bytes)) (sym found) refl;
+        }
+
+power_of_digits_is : (negative : Bool) (ds : List ℕ) → all_ascii_digits ds ≡ true → IsPower (power_of_digits negative ds)
+power_of_digits_is negative [] is = tt
+power_of_digits_is negative (d ∷ ds) is = record { some = omega arith; digits = is }
+
+-- an `e` and these bytes begin with the power
+abbrev IsAtFront : List ℕ → Power → Type 0
+IsAtFront bytes p = 101 ∷ bytes ≡ power_text p ++ drop (length (power_text p)) (101 ∷ bytes)
+
+power_split : (negative : Bool) (front rest bytes : List ℕ) → bytes ≡ cond negative (codes "-") [] ++ (front ++ rest) → IsAtFront bytes (power_of_digits negative front)
+power_split negative [] rest bytes e = refl
+power_split false (d ∷ ds) rest bytes e = ap (λ v. 101 ∷ v) (e ∙ ap (λ v. (d ∷ ds) ++ v) (sym (ap (drop (length (d ∷ ds))) e ∙ drop-append_seam (d ∷ ds) rest)))
+power_split true (d ∷ ds) rest bytes e = ap (λ v. 101 ∷ v) (e ∙ ap (λ v. (45 ∷ d ∷ ds) ++ v) (sym (ap (drop (length (45 ∷ d ∷ ds))) e ∙ drop-append_seam (45 ∷ d ∷ ds) rest)))
+
+-- the digits at the front of bytes
+digits_front : (bytes : List ℕ) → (rest : List ℕ) × (bytes ≡ digits_at bytes ++ rest) × (all_ascii_digits (digits_at bytes) ≡ true)
+digits_front bytes =
+    let f = digit_front bytes in
+    let found : digits_at bytes ≡ f.front = ap (λ n. take n bytes) f.count ∙ ap (take (length f.front)) f.whole ∙ take-append_seam f.front f.rest in
+    (f.rest, f.whole ∙ ap (λ v. v ++ f.rest) (sym found), ap all_ascii_digits found ∙ f.digits)
+
+letter_front : (bytes : List ℕ) → IsAtFront bytes (power_after_letter bytes) × IsPower (power_after_letter bytes)
+letter_front [] = (refl, tt)
+letter_front (b ∷ bytes) = by (b == 45) refl
+  where
+    by : (c : Bool) → (b == 45) ≡ c →
+        let p = cond c (power_of_digits true (digits_at bytes)) (power_of_digits false (digits_at (b ∷ bytes))) in
+        IsAtFront (b ∷ bytes) p × IsPower p
+    by true e =
+        let f = digits_front bytes in
+        (power_split true (digits_at bytes) f.0 (b ∷ bytes) (ap (λ v. v ∷ bytes) (eqb-true b 45 e) ∙ ap (λ v. 45 ∷ v) f.1), power_of_digits_is true (digits_at bytes) f.2)
+    by false e =
+        let f = digits_front (b ∷ bytes) in
+        (power_split false (digits_at (b ∷ bytes)) f.0 (b ∷ bytes) f.1, power_of_digits_is false (digits_at (b ∷ bytes)) f.2)
+
+power_front : (bytes : List ℕ) → (bytes ≡ power_text (power_at bytes) ++ after_power bytes) × IsPower (power_at bytes)
+power_front [] = (refl, tt)
+power_front (b ∷ bytes) = by (b == 101) refl
+  where
+    by : (c : Bool) → (b == 101) ≡ c →
+        let p = cond c (power_after_letter bytes) NoPower in
+        (b ∷ bytes ≡ power_text p ++ drop (length (power_text p)) (b ∷ bytes)) × IsPower p
+    by true e =
+        let l = letter_front bytes in
+        let p = power_after_letter bytes in
+        (subst (λ c. c ∷ bytes ≡ power_text p ++ drop (length (power_text p)) (c ∷ bytes)) (sym (eqb-true b 101 e)) l.0, l.1)
+    by false e = (refl, tt)
+
+starts_lf : (bytes : List ℕ) → starts_with_lf bytes ≡ true → (rest : List ℕ) × (bytes ≡ 108 ∷ 102 ∷ rest)
+starts_lf [] e = absurd (false≢true e)
+starts_lf (b ∷ bytes) e =
+    let h = and_parts (b == 108) (starts_with 102 bytes) e in
+    let s = starts 102 bytes h.1 in
+    (s.0, ap (λ v. v ∷ bytes) (eqb-true b 108 h.0) ∙ ap (λ v. 108 ∷ v) s.1)
+
+abbrev PrecisionFront : List ℕ → Precision → Type 0
+PrecisionFront bytes p = (rest : List ℕ) × (bytes ≡ precision_text p ++ rest) × IsPrecision p
+
+precision_front : (bytes : List ℕ) → has_precision bytes ≡ true → PrecisionFront bytes (precision_at bytes)
+precision_front bytes e = by (starts_with 104 bytes) (starts_with 102 bytes) refl refl
+  where
+    by : (c d : Bool) → starts_with 104 bytes ≡ c → starts_with 102 bytes ≡ d → PrecisionFront bytes (cond c Half (cond d Single (Double (power_at bytes))))
+    by true d f g = let s = starts 104 bytes f in (s.0, s.1, tt)
+    by false true f g = let s = starts 102 bytes g in (s.0, s.1, tt)
+    by false false f g =
+        let p = power_front bytes in
+        let l = starts_lf (after_power bytes) (ap (λ c. c || starts_with_lf (after_power bytes)) (sym g) ∙ ap (λ c. c || (starts_with 102 bytes || starts_with_lf (after_power bytes))) (sym f) ∙ e) in
+        (l.0, p.0 ∙ ap (λ v. power_text (power_at bytes) ++ v) l.1 ∙ sym (append_assoc (power_text (power_at bytes)) (codes "lf") l.0), p.1)
+
 number_of_digits : (negative : Bool) (b : ℕ) (bytes ds rest : List ℕ) → all_ascii_digits ds ≡ true → bytes ≡ ds ++ rest → NumberFront negative b bytes (number_of negative b ds rest)
-number_of_digits negative b bytes ds rest is whole = zero_or (is_point_zero rest && (not negative && (b == 48 && is_empty ds))) refl
+number_of_digits negative b bytes ds rest is whole = floating_or (has_precision (after_fraction rest)) refl
   where
     s : SuffixFront rest (suffix_at rest)
     s = suffix_front rest
@@ -336,6 +474,15 @@ number_of_digits negative b bytes ds rest is whole = zero_or (is_point_zero rest
         PointZero (not-true negative i.0) (eqb-true b 48 j.0) p.0 (whole ∙ (ap (λ v. v ++ rest) (no_more ds j.1) ∙ p.1)) refl
     zero_or false e = Digits ds s.0 (suffix_at rest) is (whole ∙ (ap (λ v. ds ++ v) s.1 ∙ sym (append_assoc ds (suffix_text (suffix_at rest)) s.0))) refl
 
+    floating_or : (c : Bool) → has_precision (after_fraction rest) ≡ c →
+        NumberFront negative b bytes (cond c (decimal_of negative b ds (fraction_at rest) (precision_at (after_fraction rest))) (whole_of negative b ds rest))
+    floating_or true e =
+        let f = fraction_front rest in
+        let p = precision_front (after_fraction rest) e in
+        Decimals ds (fraction_at rest) p.0 (precision_at (after_fraction rest)) is f.digits p.2
+        (whole ∙ ap (λ v. ds ++ v) (f.whole ∙ ap (λ v. fraction_text (fraction_at rest) ++ v) p.1) ∙ joined ds (fraction_at rest) (precision_at (after_fraction rest)) p.0) refl
+    floating_or false e = zero_or (is_point_zero rest && (not negative && (b == 48 && is_empty ds))) refl
+
 number_at_front : (negative : Bool) (b : ℕ) (bytes : List ℕ) → NumberFront negative b bytes (number_lexeme negative b bytes)
 number_at_front negative b bytes =
     let f = digit_front bytes in
@@ -350,6 +497,9 @@ all_digits b ds digit is = ap (λ v. v && all_ascii_digits ds) digit ∙ is
 number_answer : (b : ℕ) (bytes : List ℕ) → is_ascii_digit b ≡ true → Answer b bytes (number_lexeme false b bytes)
 number_answer b bytes digit = elim (number_at_front false b bytes) [
   | PointZero positive zero_ rest whole l ↦ Spelled (46 ∷ 48 ∷ []) rest ZeroPointZero whole (subst (λ v. Spells (v ∷ 46 ∷ 48 ∷ []) ZeroPointZero) (sym zero_) SpellsZeroPointZero) l
+  | Decimals ds fraction rest precision is tail_is power_is whole l ↦
+      Spelled (ds ++ decimal_tail fraction precision) rest (Decimal false (b ∷ ds) fraction precision) whole
+      (SpellsDecimal false (b ∷ ds) fraction precision (record { some = omega arith; digits = all_digits b ds digit is }) tail_is power_is) l
   | Digits ds rest suffix is whole l ↦
       Spelled (ds ++ suffix_text suffix) rest (Number false (digits_value 10 (b ∷ ds)) suffix) whole (SpellsNumber false (b ∷ ds) suffix (omega arith) (all_digits b ds digit is)) l
 ]
@@ -364,6 +514,9 @@ minus_answer (b ∷ bytes) = choose (is_ascii_digit b) _ _ (λ digit. negative_n
     negative_number : is_ascii_digit b ≡ true → NumberFront true b bytes (number_lexeme true b bytes) → Answer 45 (b ∷ bytes) (one_more (number_lexeme true b bytes))
     negative_number digit f = elim f [
       | PointZero positive zero_ rest whole l ↦ absurd (false≢true (sym positive))
+      | Decimals ds fraction rest precision is tail_is power_is whole l ↦
+          Spelled (b ∷ (ds ++ decimal_tail fraction precision)) rest (Decimal true (b ∷ ds) fraction precision) (ap (λ v. b ∷ v) whole)
+          (SpellsDecimal true (b ∷ ds) fraction precision (record { some = omega arith; digits = all_digits b ds digit is }) tail_is power_is) (ap one_more l)
       | Digits ds rest suffix is whole l ↦
           Spelled (b ∷ (ds ++ suffix_text suffix)) rest
           (Number true (digits_value 10 (b ∷ ds)) suffix) (ap (λ v. b ∷ v) whole)
@@ -452,6 +605,11 @@ number_alone : (negative : Bool) (ds : List ℕ) (suffix : Suffix) → 0 < lengt
 number_alone false ds suffix some is = ap (λ v. scan (ds ++ v) 0) (sym (append-nil (suffix_text suffix))) ∙ number_scans false ds suffix [] some is (nothing_behind suffix)
 number_alone true ds suffix some is = ap (λ v. scan (45 ∷ (ds ++ v)) 0) (sym (append-nil (suffix_text suffix))) ∙ number_scans true ds suffix [] some is (nothing_behind suffix)
 
+decimal_alone : (negative : Bool) (whole fraction : List ℕ) (precision : Precision) → AreDigits whole →
+    all_ascii_digits fraction ≡ true → IsPrecision precision → tokens (decimal_text negative whole fraction precision) ≡ Decimal negative whole fraction precision ∷ []
+decimal_alone false whole fraction precision are tail_is power_is = ap (λ v. scan v 0) (sym (append-nil (decimal_text false whole fraction precision))) ∙ decimal_scans false whole fraction precision [] are tail_is power_is
+decimal_alone true whole fraction precision are tail_is power_is = ap (λ v. scan v 0) (sym (append-nil (decimal_text true whole fraction precision))) ∙ decimal_scans true whole fraction precision [] are tail_is power_is
+
 sign_alone : (m : Mark) → is_sign m ≡ true → tokens (mark_text m) ≡ Fixed m ∷ []
 sign_alone KeywordTrue is = absurd (false≢true is)
 sign_alone KeywordFalse is = absurd (false≢true is)
@@ -478,5 +636,6 @@ sign_alone _ is = refl
 pub alone : (bytes : List ℕ) (t : Token) → Spells bytes t → tokens bytes ≡ t ∷ []
 alone _ _ (SpellsWord w is) = ap tokens (sym (append-nil w)) ∙ word_scans w [] is refl
 alone _ _ (SpellsNumber negative ds suffix some is) = number_alone negative ds suffix some is
+alone _ _ (SpellsDecimal negative whole fraction precision are tail_is power_is) = decimal_alone negative whole fraction precision are tail_is power_is
 alone _ _ SpellsZeroPointZero = refl
 alone _ _ (SpellsSign m is) = sign_alone m is

@@ -22,7 +22,7 @@ use Rattle.wgsl_text.proofs.Chain.{◌$◌}
 use Rattle.wgsl_text.proofs.Closing.{Closed, none, line, gap, indent, tok, free, sign, part, ◌then◌}
 use Rattle.wgsl_text.proofs.Closing.{stop, close_line}
 use Rattle.wgsl_text.proofs.Expressions.{callee_runs, expression_runs, arguments_run, callee_spaced}
-use Rattle.wgsl_text.proofs.Expressions.{expression_spaced, arguments_spaced}
+use Rattle.wgsl_text.proofs.Expressions.{expression_spaced, arguments_spaced, stand_first}
 use Rattle.wgsl_text.proofs.Literals.{signed_number}
 use Rattle.wgsl_text.proofs.Runs.{Runs, ◌onward◌, reads, over_gap, over_line, over_indent, as_state}
 use Rattle.wgsl_text.proofs.Runs.{at_end}
@@ -93,7 +93,7 @@ mutual
   statement_runs (TypedLet w t e) is n done s =
       over_indent $ reads $ over_gap $ reads $ reads $ over_gap $ type_runs t is.1.part _ onward over_gap $ reads $ over_gap $ expression_runs e is.2 _ onward at_end
   statement_runs (Assign a b) is n done s = over_indent $ expression_runs a is.0 _ onward over_gap $ reads $ over_gap $ expression_runs b is.1 _ onward at_end
-  statement_runs (CallStatement t args) is n done s = over_indent $ callee_runs t is.0 _ _ _ (arguments_run args is.1 t _ onward at_end)
+  statement_runs (CallStatement t args) is n done s = over_indent $ callee_runs t is.0 _ _ _ (arguments_run args is.1 (stand_first t args is.2) t _ onward at_end)
   statement_runs (ReturnValue e) is n done s = over_indent $ reads $ over_gap $ expression_runs e is _ onward at_end
   statement_runs (If e accept reject) is n done s =
       over_indent $ reads $ over_gap $ expression_runs e is.0 _ onward over_gap $ reads $ over_line

@@ -18,6 +18,12 @@ use Rattle.wgsl_text.specs.Token.{GreaterThan, Plus, Minus, Star, Slash, Percent
 use Rattle.wgsl_text.specs.Token.{Caret, Not, Tilde, EqualsEquals, NotEquals, LessEquals, AndAnd}
 use Rattle.wgsl_text.specs.Token.{BarBar, LessLess, Suffix, NoSuffix, SuffixI, SuffixU, SuffixLi}
 use Rattle.wgsl_text.specs.Token.{SuffixLu, Token, Fixed, Word, Number, ZeroPointZero, Foreign}
+use Rattle.wgsl_text.specs.Token.{Decimal, Power, NoPower, PowerOf, Precision, Half, Single, Double}
+use Rattle.wgsl_text.specs.Text.{precision_text, fraction_text, decimal_tail, fraction_at}
+use Rattle.wgsl_text.specs.Token.{AreDigits, IsPower, IsPrecision}
+use Rattle.wgsl_text.specs.Text.{power_text, power_at, digits_at}
+use Rattle.wgsl_text.specs.Text.{power_of_digits, power_after_letter, after_power, starts_with_lf}
+use Rattle.wgsl_text.specs.Text.{after_fraction, has_precision, precision_at, decimal_of, whole_of}
 use Rattle.wgsl_text.specs.Token.{Piece, TokenPiece, Blank, LineEnd, Indent, plain}
 use Rattle.wgsl_text.specs.Words.{IsWord, is_letter, is_word_byte, all_word_bytes, is_word_text}
 use Rattle.wgsl_text.specs.Words.{is_reserved}
@@ -89,14 +95,15 @@ ends_mark LessLess bytes = true
 ends_mark _ bytes = ends_word bytes
 
 abbrev pub ends_number : Suffix → List ℕ → Bool
-ends_number NoSuffix bytes = ends_word bytes && not (is_point_zero bytes)
+ends_number NoSuffix bytes = ends_word bytes && not (starts_with 46 bytes)
 ends_number _ bytes = true
 
 abbrev pub ends : Token → List ℕ → Bool
 ends (Fixed m) bytes = ends_mark m bytes
 ends (Word w) bytes = ends_word bytes
 ends (Number negative n suffix) bytes = ends_number suffix bytes
-ends ZeroPointZero bytes = true
+ends (Decimal negative whole fraction precision) bytes = true
+ends ZeroPointZero bytes = ends_word bytes
 ends (Foreign b) bytes = false
 
 -- a word that is a token of its own, and no keyword that the grammar uses
@@ -115,6 +122,8 @@ abbrev pub IsToken : Token → Type 0
 IsToken (Fixed m) = ⊤
 IsToken (Word w) = IsWordToken w
 IsToken (Number negative n suffix) = IsNumber n
+IsToken (Decimal negative whole fraction precision) =
+    AreDigits whole × (all_ascii_digits fraction ≡ true) × IsPrecision precision
 IsToken ZeroPointZero = ⊤
 IsToken (Foreign b) = ⊥
 
@@ -182,11 +191,48 @@ suffix_found SuffixLi rest e = refl
 suffix_found SuffixLu rest e = refl
 
 no_point : (suffix : Suffix) (rest : List ℕ) → ends_number suffix rest ≡ true → is_point_zero (suffix_text suffix ++ rest) ≡ false
-no_point NoSuffix rest e = not-true _ (and_parts _ _ e).1
+no_point NoSuffix [] e = refl
+no_point NoSuffix (b ∷ rest) e = ap (λ c. c && starts_with 48 rest) (not-true (b == 46) (and_parts _ _ e).1)
 no_point SuffixI rest e = refl
 no_point SuffixU rest e = refl
 no_point SuffixLi rest e = refl
 no_point SuffixLu rest e = refl
+
+-- none of these begins with what tells a floating-point type
+
+no_h : (b : ℕ) → is_letter b ≡ false → (b == 104) ≡ false
+no_h b e = grind (arith, nat_tests)
+
+no_f : (b : ℕ) → is_letter b ≡ false → (b == 102) ≡ false
+no_f b e = grind (arith, nat_tests)
+
+no_e : (b : ℕ) → is_letter b ≡ false → (b == 101) ≡ false
+no_e b e = grind (arith, nat_tests)
+
+no_l : (b : ℕ) → is_letter b ≡ false → (b == 108) ≡ false
+no_l b e = grind (arith, nat_tests)
+
+pub no_precision : (rest : List ℕ) → ends_word rest ≡ true → has_precision rest ≡ false
+no_precision [] e = refl
+no_precision (b ∷ rest) e =
+    let letter = (both_not (is_letter b) (is_ascii_digit b) e).0 in
+    ap (λ c. c || (b == 102 || starts_with_lf (after_power (b ∷ rest)))) (no_h b letter)
+    ∙ ap (λ c. c || starts_with_lf (after_power (b ∷ rest))) (no_f b letter)
+    ∙ ap (λ c. starts_with_lf (drop (length (power_text (cond c (power_after_letter rest) NoPower))) (b ∷ rest))) (no_e b letter)
+    ∙ ap (λ c. c && starts_with 102 rest) (no_l b letter)
+
+no_fraction : (b : ℕ) (rest : List ℕ) → (b == 46) ≡ false → after_fraction (b ∷ rest) ≡ b ∷ rest
+no_fraction b rest e = ap (λ c. drop (length (fraction_text (cond c (take (digits_length rest) rest) []))) (b ∷ rest)) e
+
+no_type_after : (suffix : Suffix) (rest : List ℕ) → ends_number suffix rest ≡ true → has_precision (after_fraction (suffix_text suffix ++ rest)) ≡ false
+no_type_after NoSuffix [] e = refl
+no_type_after NoSuffix (b ∷ rest) e =
+    let h = and_parts (ends_word (b ∷ rest)) (not (b == 46)) e in
+    ap has_precision (no_fraction b rest (not-true (b == 46) h.1)) ∙ no_precision (b ∷ rest) h.0
+no_type_after SuffixI rest e = refl
+no_type_after SuffixU rest e = refl
+no_type_after SuffixLi rest e = refl
+no_type_after SuffixLu rest e = refl
 
 pub digits_scan : (negative : Bool) (b : ℕ) (ds : List ℕ) (suffix : Suffix) (rest : List ℕ) →
     all_ascii_digits ds ≡ true → ends_number suffix rest ≡ true →
@@ -198,6 +244,7 @@ digits_scan negative b ds suffix rest is e =
     ap (λ k. number_of negative b (take k (ds ++ after)) (drop k (ds ++ after))) n
     ∙ ap (λ v. number_of negative b v (drop (length ds) (ds ++ after))) (take-append_seam ds after)
     ∙ ap (λ v. number_of negative b ds v) (drop-append_seam ds after)
+    ∙ when_false _ (no_type_after suffix rest e)
     ∙ ap (λ c. cond (c && (not negative && (b == 48 && is_empty ds))) (Takes ZeroPointZero 2)
     (Takes (Number negative (digits_value 10 (b ∷ ds)) (suffix_at after))
     (length (ds ++ suffix_text (suffix_at after))))) (no_point suffix rest e)
@@ -233,6 +280,136 @@ own_number_scans : (negative : Bool) (n : ℕ) (suffix : Suffix) (rest : List �
 own_number_scans negative n suffix rest is e =
     number_scans negative (decimal n) suffix rest (decimal_nonempty n is) (digits_decimal own_digits n is) e
     ∙ ap (λ v. Number negative v suffix ∷ scan rest 0) (digits_value-decimal own_digits n is)
+
+-- numbers of floating-point types
+
+digits_before : (precision : Precision) (rest : List ℕ) → digits_length (precision_text precision ++ rest) ≡ 0
+digits_before Half rest = refl
+digits_before Single rest = refl
+digits_before (Double NoPower) rest = refl
+digits_before (Double (PowerOf false ds)) rest = refl
+digits_before (Double (PowerOf true ds)) rest = refl
+
+digits_before_tail : (fraction : List ℕ) (precision : Precision) (rest : List ℕ) → digits_length (fraction_text fraction ++ (precision_text precision ++ rest)) ≡ 0
+digits_before_tail [] precision rest = digits_before precision rest
+digits_before_tail (b ∷ ds) precision rest = refl
+
+pub fraction_found : (fraction : List ℕ) (precision : Precision) (rest : List ℕ) → all_ascii_digits fraction ≡ true →
+    fraction_at (fraction_text fraction ++ (precision_text precision ++ rest)) ≡ fraction
+fraction_found [] Half rest is = refl
+fraction_found [] Single rest is = refl
+fraction_found [] (Double NoPower) rest is = refl
+fraction_found [] (Double (PowerOf false ds)) rest is = refl
+fraction_found [] (Double (PowerOf true ds)) rest is = refl
+fraction_found (b ∷ ds) precision rest is =
+    ap (λ n. take n ((b ∷ ds) ++ (precision_text precision ++ rest))) (digits_whole (b ∷ ds) (precision_text precision ++ rest) is (digits_before precision rest))
+    ∙ take-append_seam (b ∷ ds) (precision_text precision ++ rest)
+
+pub fraction_left : (fraction : List ℕ) (precision : Precision) (rest : List ℕ) → all_ascii_digits fraction ≡ true →
+    after_fraction (fraction_text fraction ++ (precision_text precision ++ rest)) ≡ precision_text precision ++ rest
+fraction_left fraction precision rest is =
+    ap (λ v. drop (length (fraction_text v)) (fraction_text fraction ++ (precision_text precision ++ rest))) (fraction_found fraction precision rest is)
+    ∙ drop-append_seam (fraction_text fraction) (precision_text precision ++ rest)
+
+-- the power of ten of an `f64`
+
+digits_found : (ds after : List ℕ) → all_ascii_digits ds ≡ true → digits_length after ≡ 0 → digits_at (ds ++ after) ≡ ds
+digits_found ds after is none = ap (λ n. take n (ds ++ after)) (digits_whole ds after is none) ∙ take-append_seam ds after
+
+no_minus : (b : ℕ) → is_ascii_digit b ≡ true → (b == 45) ≡ false
+no_minus b e = grind (arith, nat_tests)
+
+power_found_in : (power : Power) (rest : List ℕ) → IsPower power → power_at (power_text power ++ (codes "lf" ++ rest)) ≡ power
+power_found_in NoPower rest is = refl
+power_found_in (PowerOf negative []) rest is = absurd (omega (arith, is.some))
+power_found_in (PowerOf true (d ∷ ds)) rest is = ap (power_of_digits true) (digits_found (d ∷ ds) (codes "lf" ++ rest) is.digits refl)
+power_found_in (PowerOf false (d ∷ ds)) rest is =
+    let h = and_parts (is_ascii_digit d) (all_ascii_digits ds) is.digits in
+    when_false _ (no_minus d h.0) ∙ ap (power_of_digits false) (digits_found (d ∷ ds) (codes "lf" ++ rest) is.digits refl)
+
+power_found : (power : Power) (rest : List ℕ) → IsPower power → power_at (precision_text (Double power) ++ rest) ≡ power
+power_found power rest is = ap power_at (append_assoc (power_text power) (codes "lf") rest) ∙ power_found_in power rest is
+
+power_left : (power : Power) (rest : List ℕ) → IsPower power → after_power (precision_text (Double power) ++ rest) ≡ codes "lf" ++ rest
+power_left power rest is =
+    ap (λ p. drop (length (power_text p)) (precision_text (Double power) ++ rest)) (power_found power rest is)
+    ∙ ap (drop (length (power_text power))) (append_assoc (power_text power) (codes "lf") rest)
+    ∙ drop-append_seam (power_text power) (codes "lf" ++ rest)
+
+-- of a power that is written, whose first letter is an `e`
+double_before : (negative : Bool) (b : ℕ) (ds fraction : List ℕ) (power : Power) (rest : List ℕ) → IsPower power →
+    cond (starts_with_lf (after_power (precision_text (Double power) ++ rest)))
+    (decimal_of negative b ds fraction (Double (power_at (precision_text (Double power) ++ rest))))
+    (whole_of negative b ds (fraction_text fraction ++ (precision_text (Double power) ++ rest)))
+    ≡ decimal_of negative b ds fraction (Double power)
+double_before negative b ds fraction power rest is =
+    ap (λ v. cond (starts_with_lf v) (decimal_of negative b ds fraction (Double (power_at (precision_text (Double power) ++ rest)))) (whole_of negative b ds (fraction_text fraction ++ (precision_text (Double power) ++ rest)))) (power_left power rest is)
+    ∙ ap (λ p. decimal_of negative b ds fraction (Double p)) (power_found power rest is)
+
+decimal_before : (negative : Bool) (b : ℕ) (ds fraction : List ℕ) (precision : Precision) (rest : List ℕ) → IsPrecision precision →
+    cond (has_precision (precision_text precision ++ rest)) (decimal_of negative b ds fraction (precision_at (precision_text precision ++ rest)))
+    (whole_of negative b ds (fraction_text fraction ++ (precision_text precision ++ rest))) ≡ decimal_of negative b ds fraction precision
+decimal_before negative b ds fraction Half rest is = refl
+decimal_before negative b ds fraction Single rest is = refl
+decimal_before negative b ds fraction (Double NoPower) rest is = refl
+decimal_before negative b ds fraction (Double (PowerOf false ps)) rest is = double_before negative b ds fraction (PowerOf false ps) rest is
+decimal_before negative b ds fraction (Double (PowerOf true ps)) rest is = double_before negative b ds fraction (PowerOf true ps) rest is
+
+pub decimal_scan : (negative : Bool) (b : ℕ) (ds fraction : List ℕ) (precision : Precision) (rest : List ℕ) →
+    all_ascii_digits ds ≡ true → all_ascii_digits fraction ≡ true → IsPrecision precision →
+    number_lexeme negative b (ds ++ (fraction_text fraction ++ (precision_text precision ++ rest))) ≡ decimal_of negative b ds fraction precision
+decimal_scan negative b ds fraction precision rest is tail_is power_is =
+    let after = fraction_text fraction ++ (precision_text precision ++ rest) in
+    let n = digits_whole ds after is (digits_before_tail fraction precision rest) in
+    ap (λ k. number_of negative b (take k (ds ++ after)) (drop k (ds ++ after))) n
+    ∙ ap (λ v. number_of negative b v (drop (length ds) (ds ++ after))) (take-append_seam ds after)
+    ∙ ap (λ v. number_of negative b ds v) (drop-append_seam ds after)
+    ∙ ap (λ v. cond (has_precision v) (decimal_of negative b ds (fraction_at after) (precision_at v)) (whole_of negative b ds after)) (fraction_left fraction precision rest tail_is)
+    ∙ ap (λ v. cond (has_precision (precision_text precision ++ rest)) (decimal_of negative b ds v (precision_at (precision_text precision ++ rest))) (whole_of negative b ds after)) (fraction_found fraction precision rest tail_is)
+    ∙ decimal_before negative b ds fraction precision rest power_is
+
+pub joined : (ds fraction : List ℕ) (precision : Precision) (rest : List ℕ) →
+    ds ++ (fraction_text fraction ++ (precision_text precision ++ rest)) ≡ (ds ++ decimal_tail fraction precision) ++ rest
+joined ds fraction precision rest =
+    ap (λ v. ds ++ v) (sym (append_assoc (fraction_text fraction) (precision_text precision) rest))
+    ∙ sym (append_assoc ds (decimal_tail fraction precision) rest)
+
+decimal_left : (ds fraction : List ℕ) (precision : Precision) (rest : List ℕ) →
+    scan (ds ++ (fraction_text fraction ++ (precision_text precision ++ rest))) (length (ds ++ decimal_tail fraction precision)) ≡ scan rest 0
+decimal_left ds fraction precision rest =
+    ap (λ v. scan v (length (ds ++ decimal_tail fraction precision))) (joined ds fraction precision rest)
+    ∙ past (ds ++ decimal_tail fraction precision) rest
+
+pub decimal_scans : (negative : Bool) (whole fraction : List ℕ) (precision : Precision) (rest : List ℕ) →
+    AreDigits whole → all_ascii_digits fraction ≡ true → IsPrecision precision →
+    scan (token_text (Decimal negative whole fraction precision) ++ rest) 0 ≡ Decimal negative whole fraction precision ∷ scan rest 0
+decimal_scans negative [] fraction precision rest is tail_is power_is = absurd (omega (arith, is.some))
+decimal_scans false (b ∷ ds) fraction precision rest are tail_is power_is =
+    let h = and_parts (is_ascii_digit b) (all_ascii_digits ds) are.digits in
+    let after = ds ++ (fraction_text fraction ++ (precision_text precision ++ rest)) in
+    let first : lexeme b after ≡ number_lexeme false b after = when_false _ (digit_no_letter b h.0) ∙ when_true _ h.0 in
+    ap (λ v. scan (b ∷ v) 0) (sym (joined ds fraction precision rest))
+    ∙ ap (λ l. behind l (scan after)) (first ∙ decimal_scan false b ds fraction precision rest h.1 tail_is power_is)
+    ∙ ap (λ ts. Decimal false (b ∷ ds) fraction precision ∷ ts) (decimal_left ds fraction precision rest)
+decimal_scans true (b ∷ ds) fraction precision rest are tail_is power_is =
+    let h = and_parts (is_ascii_digit b) (all_ascii_digits ds) are.digits in
+    let after = ds ++ (fraction_text fraction ++ (precision_text precision ++ rest)) in
+    let first : lexeme 45 (b ∷ after) ≡ one_more (number_lexeme true b after) = when_true _ h.0 in
+    ap (λ v. scan (45 ∷ b ∷ v) 0) (sym (joined ds fraction precision rest))
+    ∙ ap (λ l. behind l (scan (b ∷ after))) (first ∙ ap one_more (decimal_scan true b ds fraction precision rest h.1 tail_is power_is))
+    ∙ ap (λ ts. Decimal true (b ∷ ds) fraction precision ∷ ts) (decimal_left ds fraction precision rest)
+
+-- no digit begins these bytes
+no_digits : (rest : List ℕ) → ends_word rest ≡ true → digits_length rest ≡ 0
+no_digits [] e = refl
+no_digits (b ∷ rest) e = when_false _ (both_not (is_letter b) (is_ascii_digit b) e).1
+
+-- `0.0` is the level of a sampling where no letter and no digit stands after it
+zero_scans : (rest : List ℕ) → ends_word rest ≡ true → scan (codes "0.0" ++ rest) 0 ≡ ZeroPointZero ∷ scan rest 0
+zero_scans rest e =
+    ap (λ l. behind l (scan (46 ∷ 48 ∷ rest)))
+    (when_false (decimal_of false 48 [] (fraction_at (46 ∷ 48 ∷ rest)) (precision_at (after_fraction (46 ∷ 48 ∷ rest))))
+    (ap (λ k. has_precision (drop (length (fraction_text (48 ∷ take k rest))) (46 ∷ 48 ∷ rest))) (no_digits rest e) ∙ no_precision rest e))
 
 -- signs and keywords
 
@@ -292,7 +469,8 @@ token_scans (Fixed m) rest is e = mark_scans m rest e
 token_scans (Word w) rest is e = own_word_scans w rest is e
 token_scans (Number false n suffix) rest is e = ap (λ v. scan v 0) (append_assoc (decimal n) (suffix_text suffix) rest) ∙ own_number_scans false n suffix rest is e
 token_scans (Number true n suffix) rest is e = ap (λ v. scan (45 ∷ v) 0) (append_assoc (decimal n) (suffix_text suffix) rest) ∙ own_number_scans true n suffix rest is e
-token_scans ZeroPointZero rest is e = refl
+token_scans (Decimal negative whole fraction precision) rest is e = decimal_scans negative whole fraction precision rest is.0 is.1 is.2
+token_scans ZeroPointZero rest is e = zero_scans rest e
 token_scans (Foreign b) rest is e = absurd is
 
 -- blanks

@@ -237,7 +237,8 @@ sample_at_zero = of_functions (
     parameter "s" (named_type "sampler") ∷ parameter "p" (template_of "vec2" ("f32" ∷ [])) ∷ [])
     (ResultOf [] (template_of "vec4" ("f32" ∷ []))) [] (
     let_statement "_e3" (call "textureSampleLevel"
-    (Argument (name "t") (Argument (name "s") (Argument (name "p") (ZeroArgument NoArguments))))) ∷
+    (Argument (name "t") (Argument (name "s") (Argument (name "p")
+    (ZeroArgument false NoArguments))))) ∷
     ReturnValue (name "_e3") ∷ []) ∷ [])
 
 abbrev pub sample_at_zero_text : List ℕ

@@ -45,18 +45,18 @@ mutual
     Argument : Expression → Arguments → Arguments
     -- the component of a gather
     NumberArgument : ℕ → Arguments → Arguments
-    -- the level `0.0`
-    ZeroArgument : Arguments → Arguments
+    -- level zero: `0.0`, or the whole number `0`
+    ZeroArgument : (whole : Bool) → Arguments → Arguments
 
 -- expressions as the operands of a call
 abbrev pub operands : List Expression → Arguments
 operands [] = NoArguments
 operands (e ∷ more) = Argument e (operands more)
 
--- the same, with the level `0.0` between the first and the last of them
-abbrev pub operands_with_level : List Expression → List Expression → Arguments
-operands_with_level [] more = ZeroArgument (operands more)
-operands_with_level (e ∷ first) more = Argument e (operands_with_level first more)
+-- the same, with level zero between the first and the last of them
+abbrev pub operands_with_level : (whole : Bool) → List Expression → List Expression → Arguments
+operands_with_level whole [] more = ZeroArgument whole (operands more)
+operands_with_level whole (e ∷ first) more = Argument e (operands_with_level whole first more)
 
 -- The pieces of expressions.
 
@@ -91,6 +91,11 @@ abbrev pub base_pieces : Expression → List Piece → List Piece
 base_pieces (Unary op e) pieces = mark OpenParen ∷ (pieces ++ (mark CloseParen ∷ []))
 base_pieces _ pieces = pieces
 
+-- level zero, with a point or whole
+abbrev pub zero_piece : (whole : Bool) → Piece
+zero_piece false = TokenPiece ZeroPointZero
+zero_piece true = plain 0
+
 -- A list of arguments ends with the sign that closes it.
 abbrev mutual
   pub expression_pieces : Expression → List Piece
@@ -124,7 +129,7 @@ abbrev mutual
   arguments_pieces NoArguments = mark CloseParen ∷ []
   arguments_pieces (Argument e more) = expression_pieces e ++ more_arguments_pieces more
   arguments_pieces (NumberArgument n more) = plain n ∷ more_arguments_pieces more
-  arguments_pieces (ZeroArgument more) = TokenPiece ZeroPointZero ∷ more_arguments_pieces more
+  arguments_pieces (ZeroArgument whole more) = zero_piece whole ∷ more_arguments_pieces more
 
   pub more_arguments_pieces : Arguments → List Piece
   more_arguments_pieces NoArguments = mark CloseParen ∷ []
@@ -132,8 +137,8 @@ abbrev mutual
       mark Comma ∷ Blank ∷ (expression_pieces e ++ more_arguments_pieces more)
   more_arguments_pieces (NumberArgument n more) =
       mark Comma ∷ Blank ∷ plain n ∷ more_arguments_pieces more
-  more_arguments_pieces (ZeroArgument more) =
-      mark Comma ∷ Blank ∷ TokenPiece ZeroPointZero ∷ more_arguments_pieces more
+  more_arguments_pieces (ZeroArgument whole more) =
+      mark Comma ∷ Blank ∷ zero_piece whole ∷ more_arguments_pieces more
 
 -- Which expressions the grammar has.
 
@@ -152,12 +157,12 @@ abbrev pub are_expressions : Arguments → Bool
 are_expressions NoArguments = true
 are_expressions (Argument e more) = are_expressions more
 are_expressions (NumberArgument n more) = false
-are_expressions (ZeroArgument more) = false
+are_expressions (ZeroArgument whole more) = false
 
--- expressions, and among them one `0.0`
+-- expressions, and among them one level zero
 abbrev pub have_a_zero : Arguments → Bool
 have_a_zero (Argument e more) = have_a_zero more
-have_a_zero (ZeroArgument more) = are_expressions more
+have_a_zero (ZeroArgument whole more) = are_expressions more
 have_a_zero _ = false
 
 -- the same, and an expression is the first
@@ -165,7 +170,8 @@ abbrev pub have_a_level : Arguments → Bool
 have_a_level (Argument e more) = have_a_zero more
 have_a_level _ = false
 
--- A plain number is the component of a gather, and `0.0` the level of a sampling, and nothing else.
+-- A plain number in front of others is the component of a gather, and `0.0`, or `0` behind others,
+-- the level of a sampling, and nothing else.
 abbrev pub may_take : TypeSpecifier → Arguments → Bool
 may_take (Named w) (NumberArgument n more) =
     stands_in gather_words w && (nat_lt n 4 && are_expressions more)
@@ -195,4 +201,4 @@ abbrev mutual
   IsArguments NoArguments = ⊤
   IsArguments (Argument e more) = IsExpression e × IsArguments more
   IsArguments (NumberArgument n more) = IsPlainNumber n × IsSome more × IsArguments more
-  IsArguments (ZeroArgument more) = IsArguments more
+  IsArguments (ZeroArgument whole more) = IsArguments more

@@ -3,9 +3,10 @@
 -- Throughout, t is a type, and e an expression.
 use Prim.Native.String.{String}
 use Rattle.std.specs.Prelude.{◌≡◌, ℕ, true, false, List, [], ◌∷◌, codes, None, Some}
-use Rattle.wgsl_text.specs.Token.{SuffixI, SuffixLi, SuffixLu}
+use Rattle.wgsl_text.specs.Token.{SuffixI, SuffixLi, SuffixLu, NoPower, PowerOf, Half, Single}
+use Rattle.wgsl_text.specs.Token.{Double}
 use Rattle.wgsl_text.specs.Literals.{Truth, Suffixed, SignedShort, UnsignedShort, LeastInteger}
-use Rattle.wgsl_text.specs.Literals.{LeastLong}
+use Rattle.wgsl_text.specs.Literals.{LeastLong, Floating}
 use Rattle.wgsl_text.specs.Types.{TypeSpecifier, IsType}
 use Rattle.wgsl_text.specs.Expressions.{Add, Subtract, Multiply, Divide, Modulo, Equal, NotEqual}
 use Rattle.wgsl_text.specs.Expressions.{Less, LessEqual, Greater, GreaterEqual, And, ExclusiveOr}
@@ -111,6 +112,18 @@ pub record OperatorRows : Type 0 where
   pub unsigned_long : IsExpressionText (Constant (Suffixed false 5 SuffixLu)) "5lu"
   pub signed_short : IsExpressionText (Constant (SignedShort true 5)) "i16(-5)"
   pub unsigned_short : IsExpressionText (Constant (UnsignedShort 5)) "u16(5)"
+  pub single : IsExpressionText (Constant (Floating false (codes "0") (codes "5") Single)) "0.5f"
+  pub half : IsExpressionText (Constant (Floating true (codes "120") [] Half)) "-120h"
+  pub double :
+      IsExpressionText (Constant (Floating false (codes "1") (codes "0") (Double NoPower))) "1.0lf"
+  pub great_double :
+      IsExpressionText
+      (Constant (Floating false (codes "1") [] (Double (PowerOf false (codes "16")))))
+      "1e16lf"
+  pub small_double :
+      IsExpressionText
+      (Constant (Floating true (codes "1") (codes "5") (Double (PowerOf true (codes "5")))))
+      "-1.5e-5lf"
   pub least_integer : IsExpressionText (Constant LeastInteger) "i32(-2147483648)"
   pub least_long : IsExpressionText (Constant LeastLong) "i64(-9223372036854775807 - 1)"
   pub inlined_constant : IsExpressionText (integer 7) "7i"
@@ -188,8 +201,12 @@ pub record AccessRows : Type 0 where
       "textureSampleLevel(t, s, p, l)"
   pub sample_at_zero : IsExpressionText
       (call "textureSampleLevel" (Argument (name "t") (Argument (name "s") (Argument (name "p")
-      (Argument (name "i") (ZeroArgument (Argument (name "o") NoArguments)))))))
+      (Argument (name "i") (ZeroArgument false (Argument (name "o") NoArguments)))))))
       "textureSampleLevel(t, s, p, i, 0.0, o)"
+  pub sample_at_whole_zero : IsExpressionText
+      (call "textureSampleLevel" (Argument (name "t") (Argument (name "s") (Argument (name "p")
+      (ZeroArgument true (Argument (name "o") NoArguments))))))
+      "textureSampleLevel(t, s, p, 0, o)"
   pub sample_with_bias : IsExpressionText
       (call "textureSampleBias" (names ("t" ∷ "s" ∷ "p" ∷ "b" ∷ [])))
       "textureSampleBias(t, s, p, b)"

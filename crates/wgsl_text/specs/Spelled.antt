@@ -1,13 +1,14 @@
 -- The words and signs of the grammar, spelled out: for each table a text of its words, in order.
 --
 -- Throughout, a is an attribute.
-use Rattle.std.specs.Prelude.{◌≡◌, ℕ, false, List, [], ◌∷◌, ◌++◌, map, codes}
+use Rattle.std.specs.Prelude.{◌≡◌, ℕ, false, true, List, [], ◌∷◌, ◌++◌, map, codes}
 use Rattle.wgsl_text.specs.Token.{OpenParen, CloseParen, OpenBracket, CloseBracket, OpenBrace}
 use Rattle.wgsl_text.specs.Token.{CloseBrace, Comma, Semicolon, Colon, Dot, At, Equals, LessThan}
 use Rattle.wgsl_text.specs.Token.{GreaterThan, Plus, Minus, Star, Slash, Percent, Ampersand, Bar}
 use Rattle.wgsl_text.specs.Token.{Caret, Not, Tilde, EqualsEquals, NotEquals, LessEquals, AndAnd}
 use Rattle.wgsl_text.specs.Token.{BarBar, LessLess, NoSuffix, SuffixI, SuffixU, SuffixLi, SuffixLu}
-use Rattle.wgsl_text.specs.Token.{Fixed, Word, Number}
+use Rattle.wgsl_text.specs.Token.{Fixed, Word, Number, Decimal, NoPower, PowerOf, Half, Single}
+use Rattle.wgsl_text.specs.Token.{Double}
 use Rattle.wgsl_text.specs.Attributes.{Invariant, PerPrimitive, Coherent, Volatile, Vertex}
 use Rattle.wgsl_text.specs.Attributes.{Fragment, Compute, Task, RayGeneration, AnyHit, ClosestHit}
 use Rattle.wgsl_text.specs.Attributes.{Miss, Location, BlendSource, Id, Group, Binding, Size, Align}
@@ -63,7 +64,7 @@ pub record SpelledCalls : Type 0 where
   pub enables : AreWords (
       codes "f16 wgpu_int16 dual_source_blending clip_distances wgpu_mesh_shader " ++ (
       codes "wgpu_binding_array draw_index primitive_index wgpu_cooperative_matrix " ++
-      codes "wgpu_ray_tracing_pipeline wgpu_per_vertex")) enable_words
+      codes "wgpu_ray_tracing_pipeline wgpu_per_vertex subgroups")) enable_words
   pub type_taking : AreWords (codes "bitcast coopLoad coopLoadT") type_taking_words
   pub gathers : AreWords (codes "textureGather textureGatherCompare") gather_words
   pub levels : AreWords (codes "textureSampleLevel") level_words
@@ -84,6 +85,9 @@ pub record SpelledMarks : Type 0 where
       EqualsEquals ∷ NotEquals ∷ LessEquals ∷ AndAnd ∷ BarBar ∷ LessLess ∷ [])
   pub suffixes : tokens (codes "1 1i 1u 1li 1lu") ≡ map (Number false 1) (
       NoSuffix ∷ SuffixI ∷ SuffixU ∷ SuffixLi ∷ SuffixLu ∷ [])
+  pub precisions : tokens (codes "2h 2f 2lf 2e1lf 2e-1lf") ≡ map (Decimal false (codes "2") []) (
+      Half ∷ Single ∷ Double NoPower ∷ Double (PowerOf false (codes "1")) ∷
+      Double (PowerOf true (codes "1")) ∷ [])
 
 -- attributes
 pub record SpelledAttributes : Type 0 where

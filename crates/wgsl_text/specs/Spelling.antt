@@ -10,9 +10,11 @@ use Rattle.wgsl_text.specs.Token.{CloseBrace, Comma, Semicolon, Colon, Dot, At, 
 use Rattle.wgsl_text.specs.Token.{GreaterThan, Plus, Minus, Star, Slash, Percent, Ampersand, Bar}
 use Rattle.wgsl_text.specs.Token.{Caret, Not, Tilde, EqualsEquals, NotEquals, LessEquals, AndAnd}
 use Rattle.wgsl_text.specs.Token.{BarBar, LessLess, Suffix, Token, Fixed, Number, ZeroPointZero}
+use Rattle.wgsl_text.specs.Token.{Decimal, Precision}
 use Rattle.wgsl_text.specs.Token.{Foreign}
 use Rattle.wgsl_text.specs.Words.{is_word_text}
-use Rattle.wgsl_text.specs.Text.{mark_text, suffix_text, word_token, tokens}
+use Rattle.wgsl_text.specs.Text.{mark_text, suffix_text, word_token, tokens, decimal_tail}
+use Rattle.wgsl_text.specs.Token.{AreDigits, IsPrecision}
 
 -- a sign, and no keyword
 abbrev pub is_sign : Mark → Bool
@@ -53,6 +55,12 @@ abbrev pub number_text : Bool → List ℕ → Suffix → List ℕ
 number_text true digits suffix = codes "-" ++ (digits ++ suffix_text suffix)
 number_text false digits suffix = digits ++ suffix_text suffix
 
+-- those of a number of a floating-point type
+abbrev pub decimal_text : Bool → (whole fraction : List ℕ) → Precision → List ℕ
+decimal_text true whole fraction precision =
+    codes "-" ++ (whole ++ decimal_tail fraction precision)
+decimal_text false whole fraction precision = whole ++ decimal_tail fraction precision
+
 -- These bytes spell this token. There is no sign `->`,
 -- `>>` or `>=`, so `>` is always a token by itself.
 pub data Spells : List ℕ → Token → Type 0 where
@@ -61,6 +69,10 @@ pub data Spells : List ℕ → Token → Type 0 where
   SpellsNumber : (negative : Bool) (digits : List ℕ) (suffix : Suffix) → 0 < length digits →
       IsTrue (all_ascii_digits digits) →
       Spells (number_text negative digits suffix) (Number negative (digits_value 10 digits) suffix)
+  SpellsDecimal : (negative : Bool) (whole fraction : List ℕ) (precision : Precision) →
+      AreDigits whole → IsTrue (all_ascii_digits fraction) → IsPrecision precision →
+      Spells (decimal_text negative whole fraction precision)
+      (Decimal negative whole fraction precision)
   SpellsZeroPointZero : Spells (codes "0.0") ZeroPointZero
   SpellsSign : (m : Mark) → IsTrue (is_sign m) → Spells (mark_text m) (Fixed m)
 

@@ -157,7 +157,7 @@ enable_words =
     codes "f16" ∷ codes "wgpu_int16" ∷ codes "dual_source_blending" ∷ codes "clip_distances" ∷
     codes "wgpu_mesh_shader" ∷ codes "wgpu_binding_array" ∷
     codes "draw_index" ∷ codes "primitive_index" ∷ codes "wgpu_cooperative_matrix" ∷
-    codes "wgpu_ray_tracing_pipeline" ∷ codes "wgpu_per_vertex" ∷ []
+    codes "wgpu_ray_tracing_pipeline" ∷ codes "wgpu_per_vertex" ∷ codes "subgroups" ∷ []
 
 -- built-in functions that take a type
 abbrev pub type_taking_words : List (List ℕ)

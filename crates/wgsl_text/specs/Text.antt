@@ -19,6 +19,7 @@ use Rattle.wgsl_text.specs.Token.{KeywordCase, KeywordDefault, KeywordReturn, Ke
 use Rattle.wgsl_text.specs.Token.{KeywordFn, KeywordStruct, KeywordConst, KeywordEnable}
 use Rattle.wgsl_text.specs.Token.{KeywordOverride, Suffix, NoSuffix, SuffixI, SuffixU, SuffixLi}
 use Rattle.wgsl_text.specs.Token.{SuffixLu, Token, Fixed, Word, Number, ZeroPointZero, Foreign}
+use Rattle.wgsl_text.specs.Token.{Decimal, Power, NoPower, PowerOf, Precision, Half, Single, Double}
 use Rattle.wgsl_text.specs.Token.{Piece, TokenPiece, Blank, LineEnd, Indent}
 use Rattle.wgsl_text.specs.Words.{is_letter, is_word_byte, is_reserved}
 
@@ -81,11 +82,33 @@ suffix_text SuffixU = codes "u"
 suffix_text SuffixLi = codes "li"
 suffix_text SuffixLu = codes "lu"
 
+abbrev pub power_text : Power → List ℕ
+power_text NoPower = []
+power_text (PowerOf false ds) = codes "e" ++ ds
+power_text (PowerOf true ds) = codes "e-" ++ ds
+
+abbrev pub precision_text : Precision → List ℕ
+precision_text Half = codes "h"
+precision_text Single = codes "f"
+precision_text (Double power) = power_text power ++ codes "lf"
+
+-- a point and the digits after it, if there are any
+abbrev pub fraction_text : List ℕ → List ℕ
+fraction_text [] = []
+fraction_text (b ∷ ds) = 46 ∷ b ∷ ds
+
+-- what stands after the whole part of a number of a floating-point type
+abbrev pub decimal_tail : List ℕ → Precision → List ℕ
+decimal_tail fraction precision = fraction_text fraction ++ precision_text precision
+
 abbrev pub token_text : Token → List ℕ
 token_text (Fixed m) = mark_text m
 token_text (Word w) = w
 token_text (Number false n suffix) = decimal n ++ suffix_text suffix
 token_text (Number true n suffix) = codes "-" ++ (decimal n ++ suffix_text suffix)
+token_text (Decimal false whole fraction precision) = whole ++ decimal_tail fraction precision
+token_text (Decimal true whole fraction precision) =
+    codes "-" ++ (whole ++ decimal_tail fraction precision)
 token_text ZeroPointZero = codes "0.0"
 token_text (Foreign b) = b ∷ []
 
@@ -161,13 +184,71 @@ abbrev pub is_empty : List ℕ → Bool
 is_empty [] = true
 is_empty _ = false
 
--- a number of the digits b and ds, before the other bytes
-abbrev pub number_of : Bool → ℕ → List ℕ → List ℕ → Lexeme
-number_of negative b ds bytes =
+-- a number of no floating-point type: of the digits b and ds, before the other bytes
+abbrev pub whole_of : Bool → ℕ → List ℕ → List ℕ → Lexeme
+whole_of negative b ds bytes =
     if is_point_zero bytes && (not negative && (b == 48 && is_empty ds))
     then Takes ZeroPointZero 2
     else Takes (Number negative (digits_value 10 (b ∷ ds)) (suffix_at bytes))
     (length (ds ++ suffix_text (suffix_at bytes)))
+
+-- the digits after a point that the bytes begin with, and what stands after them
+abbrev pub fraction_at : List ℕ → List ℕ
+fraction_at [] = []
+fraction_at (b ∷ bytes) = if b == 46 then take (digits_length bytes) bytes else []
+
+abbrev pub after_fraction : List ℕ → List ℕ
+after_fraction bytes = drop (length (fraction_text (fraction_at bytes))) bytes
+
+-- the power of ten that the bytes begin with: an `e`, a `-` or none, and digits
+abbrev pub digits_at : List ℕ → List ℕ
+digits_at bytes = take (digits_length bytes) bytes
+
+abbrev pub power_of_digits : Bool → List ℕ → Power
+power_of_digits negative [] = NoPower
+power_of_digits negative (b ∷ ds) = PowerOf negative (b ∷ ds)
+
+abbrev pub power_after_letter : List ℕ → Power
+power_after_letter [] = NoPower
+power_after_letter (b ∷ bytes) =
+    if b == 45 then power_of_digits true (digits_at bytes)
+    else power_of_digits false (digits_at (b ∷ bytes))
+
+abbrev pub power_at : List ℕ → Power
+power_at [] = NoPower
+power_at (b ∷ bytes) = if b == 101 then power_after_letter bytes else NoPower
+
+-- what stands after it
+abbrev pub after_power : List ℕ → List ℕ
+after_power bytes = drop (length (power_text (power_at bytes))) bytes
+
+-- the bytes begin with `lf`
+abbrev pub starts_with_lf : List ℕ → Bool
+starts_with_lf [] = false
+starts_with_lf (b ∷ bytes) = b == 108 && starts_with 102 bytes
+
+-- the bytes begin with what tells a floating-point type, and with which
+abbrev pub has_precision : List ℕ → Bool
+has_precision bytes =
+    starts_with 104 bytes || (starts_with 102 bytes || starts_with_lf (after_power bytes))
+
+abbrev pub precision_at : List ℕ → Precision
+precision_at bytes =
+    if starts_with 104 bytes then Half else (if starts_with 102 bytes then Single
+    else Double (power_at bytes))
+
+-- a number of a floating-point type, with the digits b and ds before its point
+abbrev pub decimal_of : Bool → ℕ → List ℕ → (fraction : List ℕ) → Precision → Lexeme
+decimal_of negative b ds fraction precision =
+    Takes (Decimal negative (b ∷ ds) fraction precision)
+    (length (ds ++ decimal_tail fraction precision))
+
+-- a number of the digits b and ds, before the other bytes
+abbrev pub number_of : Bool → ℕ → List ℕ → List ℕ → Lexeme
+number_of negative b ds bytes =
+    if has_precision (after_fraction bytes)
+    then decimal_of negative b ds (fraction_at bytes) (precision_at (after_fraction bytes))
+    else whole_of negative b ds bytes
 
 abbrev pub number_lexeme : Bool → ℕ → List ℕ → Lexeme
 number_lexeme negative b bytes =

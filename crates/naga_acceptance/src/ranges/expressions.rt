@@ -27,7 +27,8 @@ fn operands_before(expressions: usize, expression: &Expression) -> bool
     true
 }
 
-/// Whether a literal's value is one of its type, as it always is.
+/// Whether a literal's value is one of its type. It always is, unless a numeral tells it, which has
+/// to be in range and to denote no infinity.
 pub(crate) fn literal_is_within(literal: Literal) -> bool
     ensures { result ≡ literal_is_within literal }
 {
@@ -44,6 +45,9 @@ pub(crate) fn literal_is_within(literal: Literal) -> bool
         | Literal::F64(_)
         | Literal::AbstractFloat(_) => true,
         Literal::Bool(_) => true,
+        Literal::DecimalF64(numeral) => numeral.is_finite_double(),
+        Literal::DecimalF32(numeral) => numeral.is_finite_single(),
+        Literal::DecimalF16(numeral) => numeral.is_finite_half(),
     }
 }
 

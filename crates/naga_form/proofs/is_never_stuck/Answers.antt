@@ -4,8 +4,8 @@ use Rattle.naga_form.proofs.DistinguishedItems.{types_are_distinguished}
 use Rattle.naga_form.proofs.is_never_stuck.Goals as goal
 
 pub returns-clause-written : goal.returns-clause-written
-returns-clause-written c = λ m info explicit named are accepted declarations have scopes.
-    never_stuck m info explicit accepted declarations have scopes named are
+returns-clause-written c = λ m info flags named are accepted declarations have scopes.
+    never_stuck m info flags accepted declarations have scopes named are
 
 pub returns-clause-every : goal.returns-clause-every
 returns-clause-every c = λ m info accepted scopes.

@@ -9,10 +9,10 @@ use Rattle.naga_form.proofs.ScopeRules.{scopes_are_checked_under}
 use Rattle.naga_form.proofs.points_agree.Goals as goal
 
 pub returns : goal.returns
-returns c = λ m info explicit named are accepted declarations have scopes later f fs split.
+returns c = λ m info flags named are accepted declarations have scopes later f fs split.
     let shape = module_shape m info in
     let outer = outer_names (module_names m) m in
     points_agree shape outer later f fs
     (subst (ModuleFits shape outer) split
-    (module_fits_under m info accepted explicit have named are
+    (module_fits_under m info accepted flags have named are
     ((scopes_are_checked_under m info accepted named).1 scopes)))

@@ -205,6 +205,12 @@ const ROWS: &[(&[&str], &str, &str, u8)] = &[
         "",
         0,
     ),
+    (
+        &["numeral"],
+        "fn w() -> f32 {\n    return 0.5f;\n}\n\n",
+        "",
+        0,
+    ),
     (&["float"], "", "refused: float literal\n", 1),
     (&["float", "explicit"], "", "refused: float literal\n", 1),
     (&[], "", "unknown row\n", 2),

@@ -1,5 +1,4 @@
-use Rattle.std.proofs.Common.{ap, subst, sym}
-use Rattle.naga_wgsl_fns.specs.FunctionText.{annotates_types}
+use Rattle.std.proofs.Common.{subst, sym}
 use Rattle.naga_wgsl_out.specs.Headline.{FaithfulWriting}
 use Rattle.module_answers.proofs.writing.write.Goals as goal
 
@@ -12,15 +11,15 @@ returns-clause-faithful g c =
     let text = g.W.TextSink.text in
     let failures = g.W.TextSink.failures in
     subst
-    (λ explicit. FaithfulWriting explicit m info answer (text c.args.sink) (text c.finish-sink.result)
+    (λ flags. FaithfulWriting flags m info answer (text c.args.sink) (text c.finish-sink.result)
     (failures c.args.sink) (failures c.finish-sink.result))
-    (ap annotates_types c.new-writer.ensures.flags)
+    c.new-writer.ensures.flags
     (subst
-    (λ old. FaithfulWriting (annotates_types c.new-writer.result.flags) m info answer (text old)
+    (λ old. FaithfulWriting c.new-writer.result.flags m info answer (text old)
     (text c.finish-sink.result) (failures old) (failures c.finish-sink.result))
     c.new-writer.ensures.sink
     (subst
-    (λ now. FaithfulWriting (annotates_types c.new-writer.result.flags) m info answer
+    (λ now. FaithfulWriting c.new-writer.result.flags m info answer
     (text c.new-writer.result.sink) (text now) (failures c.new-writer.result.sink) (failures now))
     (sym c.finish-sink.ensures)
     c.write-answer.ensures.faithful))

@@ -10,7 +10,7 @@ use Rattle.naga_words.proofs.Writing.{reason_known}
 use Rattle.naga_words.proofs.Writing.{same_sink, writes_as}
 use Rattle.naga_scope.proofs.Planned.{plan_found}
 use Rattle.naga_wgsl_fns.specs.Errors.{IsWant}
-use Rattle.naga_wgsl_fns.specs.FunctionText.{annotates_types}
+use Rattle.naga_back.specs.Flags.{annotates_types}
 use Rattle.naga_wgsl_fns.proofs.FunctionRows.{can_write, names_same, reason_reported}
 use Rattle.naga_wgsl_fns.proofs.FunctionRows.{text_under_names}
 use Rattle.naga_wgsl_fns.specs.Functions.{text_under}

@@ -1,5 +1,6 @@
 use Rattle.std.proofs.Common.{◌≡◌, ◌∙◌, Some, ap, arith, subst}
-use Rattle.module_meaning.specs.Enables.{is_needed}
+use Rattle.module_meaning.specs.Enables.{is_enabled}
+use Rattle.naga_back.specs.Flags.{is_portable}
 use Rattle.naga_words.proofs.Writing.{content_begun_as, content_whole_as, never_failed}
 use Rattle.naga_words.proofs.Writing.{never_formless, reason_known, same_sink, writes_as}
 use Rattle.naga_wgsl_fns.specs.Errors.{IsWant}
@@ -11,8 +12,9 @@ use Rattle.naga_wgsl_out.proofs.enables.write_enables.Goals as goal
 pub returns-in-Ok : goal.returns-in-Ok
 returns-in-Ok g c =
     let same : c.write.new.out.sink.ghost_name ≡ c.new-written.result.sink.ghost_name = same_sink _ _ _ c.write.ensures in
-    let text_is = ap (λ e. enables_text (words_among (words_found e))) c.of.ensures
-    ∙ ap enables_text (words_needed (is_needed c.args.«module».now)) in
+    let text_is = ap (λ e. enables_text (words_among (words_found e))) c.enabled.ensures
+    ∙ ap enables_text
+    (words_needed (is_enabled (is_portable c.args.flags) c.args.«module».now c.args.info.now)) in
     let kept : g.W.TextSink.failures c.write.new.out.sink.now ≡ g.W.TextSink.failures c.new-written.result.sink.now =
     never_failed _ _ _ c.write.ensures c.new-written.ensures.want c.in-Ok.ensures.whole in
     record {
@@ -25,8 +27,9 @@ returns-in-Ok g c =
 pub returns-in-Err : goal.returns-in-Err
 returns-in-Err g c =
     let same : c.write.new.out.sink.ghost_name ≡ c.new-written.result.sink.ghost_name = same_sink _ _ _ c.write.ensures in
-    let text_is = ap (λ e. enables_text (words_among (words_found e))) c.of.ensures
-    ∙ ap enables_text (words_needed (is_needed c.args.«module».now)) in
+    let text_is = ap (λ e. enables_text (words_among (words_found e))) c.enabled.ensures
+    ∙ ap enables_text
+    (words_needed (is_enabled (is_portable c.args.flags) c.args.«module».now c.args.info.now)) in
     let reason = reason_known _ _ _ c.in-Err.want c.write.ensures c.new-written.ensures.want c.in-Err.ensures.wanting in
     let reported = reason_reported (g.W.TextSink.failures c.new-written.result.sink.now)
     (g.W.TextSink.failures c.write.new.out.sink.now) c.in-Err.want

@@ -18,7 +18,9 @@ use Rattle.naga_wgsl_fns.proofs.Wanted.{override_within}
 use Rattle.naga_wgsl_fns.specs.Names.{name_of_override}
 use Rattle.naga_wgsl_fns.specs.Expressions.{next_operand_text}
 use Rattle.naga_wgsl_fns.specs.FunctionText.{AreInText, expressions}
-use Rattle.naga_wgsl_fns.specs.Images.{furthers_text, level_text, offset_text}
+use Rattle.module_meaning.specs.ExpressionOperators.{level_of}
+use Rattle.module_meaning.specs.OperatorTable.{zero_is_written}
+use Rattle.naga_wgsl_fns.specs.Images.{furthers_text, offset_text, zero_text}
 use Rattle.std.specs.Option.{option_to_list}
 use Rattle.naga_wgsl_fns.proofs.PartRows.{base_pointed, base_signed, base_unpointed, base_unsigned}
 use Rattle.naga_wgsl_fns.proofs.PartRows.{element_end, plain_row, reference_pointed}
@@ -603,6 +605,11 @@ write_sampling-write_sampling_head-requires-clause-written g t c =
     ap (λ b. sampling_is_written s.gather s.level b s.clamp_to_edge) c.is_some-compares.ensures
     ∙ written_as c.args.self.now c.requires.can c.index.ensures c.requires.handle s.is
 
+pub write_sampling-zero_is_whole-requires-clause-image : goal.write_sampling-zero_is_whole-requires-clause-image
+write_sampling-zero_is_whole-requires-clause-image g t c =
+    (operands_in c.args.self.now c.requires.can
+    c.index.ensures c.in-ImageSample.is c.requires.handle).0.1
+
 pub write_sampling-write_value-requires : goal.write_sampling-write_value-requires
 write_sampling-write_value-requires g t c κs within =
     let all =
@@ -692,7 +699,10 @@ write_sampling-returns g t c =
     s.coordinate s.array_index s.offset s.level s.depth_ref s.clamp_to_edge
     (c.index.ensures ∙ ap Some s.is) c.is_some-compares.result c.is_some-compares.ensures
     c.level_str.result.now
-    (c.level_str.ensures ∙ ap (level_text s.level) c.is_zero_by_name-by_name.ensures))
+    (c.level_str.ensures
+    ∙ (λ i. zero_text
+    (zero_is_written (level_of s.level) (c.is_zero_by_name-by_name.ensures i))
+    (c.zero_is_whole.ensures i))))
     (writes_then c.write_sampling_head.ensures
     (writes_then c.write_value.ensures
     (writes_then c.write_next_operand.ensures

@@ -18,4 +18,5 @@ returns g c =
     (writes_then c.write_line-9.ensures
     (writes_then c.write_line-10.ensures
     (writes_then c.write_line-11.ensures
-    (writes_as (ap end_text c.is_any.ensures) c.write_end.ensures))))))))))))
+    (writes_then c.write_line-12.ensures
+    (writes_as (ap end_text c.is_any.ensures) c.write_end.ensures)))))))))))))
