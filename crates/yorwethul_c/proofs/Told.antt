@@ -1,13 +1,11 @@
 -- What a call tells, from what its steps say.
-use Rattle.std.proofs.Common.{◌≡◌, ◌≤◌, ◌∙◌, ℕ, Bool, List, [], Err, None, Ok, Option, Result, Some, ap, inl, inr, is_none, refl, subst, sym}
+use Rattle.std.proofs.Common.{◌≡◌, ◌≤◌, ◌∙◌, ℕ, List, [], Err, None, Ok, Option, Result, Some, ap, inl, inr, is_none, refl, subst, sym}
 use Rattle.std.specs.Prelude.{◌⊎◌, IfErr, IfSome, IsTrue}
 use Rattle.naga_ir.specs.declared.module.Module.{Module}
 use Rattle.naga_info.specs.declared.info.ModuleInfo.{ModuleInfo}
 use Rattle.module_meaning.specs.Accepted.{is_accepted}
 use Rattle.naga_back.specs.declared.flags.WriterFlags.{WriterFlags}
-use Rattle.naga_form.specs.Declarations.{written_program}
-use Rattle.wgsl_text.specs.Reading.{layout}
-use Rattle.naga_wgsl_fns.specs.FunctionText.{annotates_types}
+use Rattle.naga_back.specs.Flags.{bits_of}
 use Rattle.naga_wgsl_fns.specs.declared.error.Error.{Error}
 use Rattle.naga_wgsl_fns.specs.declared.error.Error.TheVariants as error
 use Rattle.naga_wgsl_out.specs.Checked.{IsCounted}
@@ -17,7 +15,7 @@ use Rattle.naga_acceptance.specs.Faults.{Fails}
 use Rattle.naga_acceptance.specs.declared.faults.Unaccepted.{Unaccepted}
 use Rattle.yorwethul_c.specs.Answers.{IsAccepted, IsNotAccepted, IsStopped, IsWritten, LacksMemory, Says, SaysOfError, SaysOfWritten}
 use Rattle.yorwethul_c.specs.Answers.{TellsOfChecking, TellsOfLayouts, TellsOfReading, TellsOfWriting}
-use Rattle.yorwethul_c.specs.Answers.{annotates, status_of_error}
+use Rattle.yorwethul_c.specs.Answers.{status_of_error}
 use Rattle.yorwethul_c.specs.declared.status.Status.{Status}
 use Rattle.yorwethul_c.specs.declared.status.Status.TheVariants as status
 
@@ -85,10 +83,10 @@ accepted_by m read found is accepts =
 -- ---- what the writer did
 
 -- of what is written no failure is told
-no_failures : (explicit : Bool) (m : Module) (info : ModuleInfo) (content : List ℕ) (failures : ℕ) →
-    FaithfulWriting explicit m info (Ok tt) [] content 0 failures →
-    FaithfulWriting explicit m info (Ok tt) [] content 0 0
-no_failures explicit m info content failures f =
+no_failures : (flags : WriterFlags) (m : Module) (info : ModuleInfo) (content : List ℕ) (failures : ℕ) →
+    FaithfulWriting flags m info (Ok tt) [] content 0 failures →
+    FaithfulWriting flags m info (Ok tt) [] content 0 0
+no_failures flags m info content failures f =
     record { refusals = f.refusals; reading = f.reading; interface = f.interface; runs = f.runs }
 
 -- it stopped by an error
@@ -109,26 +107,22 @@ stopped json flags (error.Unsupported kind value) told text is says =
 
 pub wrote : (json : List ℕ) (flags : ℕ) (writer : WriterFlags) (m : Module) (read info : ModuleInfo)
     (answer : Result Unit Error) (content : List ℕ) (failures : ℕ) (told : Status) (text : List ℕ) →
-    flags ≤ 1 → IsTrue (is_accepted m read) → IsCounted m read info →
-    annotates_types writer ≡ annotates flags →
-    FaithfulWriting (annotates_types writer) m info answer [] content 0 failures →
+    flags ≤ 3 → bits_of writer ≡ flags → IsTrue (is_accepted m read) → IsCounted m read info →
+    FaithfulWriting writer m info answer [] content 0 failures →
     AppendsItsText m info writer answer [] content →
     SaysOfWritten answer content told text → TellsOfWriting json flags told text
-wrote json flags writer m read info (Ok tt) content failures told text known accepted counted explicit faithful
+wrote json flags writer m read info (Ok tt) content failures told text known bits accepted counted faithful
     appends (inl is) =
-    let moved : FaithfulWriting (annotates flags) m info (Ok tt) [] text 0 0 =
-    subst (λ now. FaithfulWriting (annotates flags) m info (Ok tt) [] now 0 0) (sym is.1)
-    (no_failures (annotates flags) m info content failures
-    (subst (λ e. FaithfulWriting e m info (Ok tt) [] content 0 failures) explicit faithful)) in
-    let text_is : text ≡ layout (written_program m info (annotates flags)) =
-    is.1 ∙ (appends ∙ ap (λ e. layout (written_program m info e)) explicit) in
+    let moved : FaithfulWriting writer m info (Ok tt) [] text 0 0 =
+    subst (λ now. FaithfulWriting writer m info (Ok tt) [] now 0 0) (sym is.1)
+    (no_failures writer m info content failures faithful) in
     let done : IsWritten flags text =
-    record { flags_are_known = known; m = m; read = read; info = info; accepted = accepted; counted = counted; faithful = moved; text_is = text_is } in
+    record { flags_are_known = known; writer = writer; has_bits = bits; m = m; read = read; info = info; accepted = accepted; counted = counted; faithful = moved; text_is = is.1 ∙ appends } in
     subst (λ s. TellsOfWriting json flags s text) (sym is.0) done
-wrote json flags writer m read info (Ok tt) content failures told text known accepted counted explicit faithful
+wrote json flags writer m read info (Ok tt) content failures told text known bits accepted counted faithful
     appends (inr less) = lacking (TellsOfWriting json flags) told text refl less
-wrote json flags writer m read info (Err e) content failures told text known accepted counted explicit faithful
+wrote json flags writer m read info (Err e) content failures told text known bits accepted counted faithful
     appends says =
     stopped json flags e told text
-    (record { flags_are_known = known; m = m; read = read; info = info; error = e; beginning = content; failures = failures; accepted = accepted; counted = counted; faithful = subst (λ x. FaithfulWriting x m info (Err e) [] content 0 failures) explicit faithful; told_is = refl })
+    (record { flags_are_known = known; writer = writer; has_bits = bits; m = m; read = read; info = info; error = e; beginning = content; failures = failures; accepted = accepted; counted = counted; faithful = faithful; told_is = refl })
     says

@@ -2,10 +2,12 @@
 --
 -- Throughout, m is a module, read is what is known of it, info is the same with the uses counted, and
 -- json is the bytes that a call was given.
-use Rattle.std.specs.Prelude.{◌≡◌, ◌≤◌, ⊤, ℕ, ◌==◌, ◌++◌, ◌⊎◌, Bool, IsTrue, List, [], length}
+use Rattle.std.specs.Prelude.{◌≡◌, ◌≤◌, ⊤, ℕ, ◌++◌, ◌⊎◌, IsTrue, List, [], length}
 use Rattle.std.specs.Prelude.{drop, if◌then◌else◌, nat_le, Result, Ok, Err}
 use Rattle.naga_ir.specs.declared.module.Module.{Module}
 use Rattle.naga_info.specs.declared.info.ModuleInfo.{ModuleInfo}
+use Rattle.naga_back.specs.Flags.{bits_of}
+use Rattle.naga_back.specs.declared.flags.WriterFlags.{WriterFlags}
 use Rattle.naga_acceptance.specs.Faults.{Fails}
 use Rattle.naga_acceptance.specs.declared.faults.Unaccepted.{Unaccepted}
 use Rattle.module_meaning.specs.Accepted.{is_accepted}
@@ -57,25 +59,26 @@ status_of_error (error.Memory e) = status.OutOfMemory
 status_of_error (error.FmtError e) = status.TooLong
 status_of_error _ = status.Refused
 
--- one bit is a flag: that `let`s tell their types
-abbrev pub annotates : (flags : ℕ) → Bool
-annotates flags = flags == 1
-
--- The text is that of an accepted module, faithfully written.
+-- The text is that of an accepted module, faithfully written. The flags in yorwethul.h are the
+-- writer's own.
 pub record IsWritten (flags : ℕ) (text : List ℕ) : Type 0 where
-  pub flags_are_known : flags ≤ 1
+  pub flags_are_known : flags ≤ 3
+  pub writer : WriterFlags
+  pub has_bits : bits_of writer ≡ flags
   pub m : Module
   pub read : ModuleInfo
   pub info : ModuleInfo
   pub accepted : IsTrue (is_accepted m read)
   pub counted : IsCounted m read info
-  pub faithful : FaithfulWriting (annotates flags) m info (Ok tt) [] text 0 0
-  pub text_is : text ≡ layout (written_program m info (annotates flags))
+  pub faithful : FaithfulWriting writer m info (Ok tt) [] text 0 0
+  pub text_is : text ≡ layout (written_program m info writer)
 
 -- The writer stopped at an accepted module, by an error of this status. So a refusal is for a
 -- listed construct that stands in the module.
 pub record IsStopped (flags : ℕ) (told : Status) : Type 0 where
-  pub flags_are_known : flags ≤ 1
+  pub flags_are_known : flags ≤ 3
+  pub writer : WriterFlags
+  pub has_bits : bits_of writer ≡ flags
   pub m : Module
   pub read : ModuleInfo
   pub info : ModuleInfo
@@ -84,7 +87,7 @@ pub record IsStopped (flags : ℕ) (told : Status) : Type 0 where
   pub failures : ℕ
   pub accepted : IsTrue (is_accepted m read)
   pub counted : IsCounted m read info
-  pub faithful : FaithfulWriting (annotates flags) m info (Err error) [] beginning 0 failures
+  pub faithful : FaithfulWriting writer m info (Err error) [] beginning 0 failures
   pub told_is : status_of_error error ≡ told
 
 -- A module was read that is accepted.
@@ -114,7 +117,7 @@ TellsOfWriting json flags status.Done text = IsWritten flags text
 TellsOfWriting json flags status.Refused text = IsStopped flags status.Refused
 TellsOfWriting json flags status.TooLong text = IsStopped flags status.TooLong
 TellsOfWriting json flags status.NotAccepted text = IsNotAccepted
-TellsOfWriting json flags status.UnknownFlag text = 2 ≤ flags
+TellsOfWriting json flags status.UnknownFlag text = 4 ≤ flags
 TellsOfWriting json flags told text = TellsOfReading json told text
 
 -- of one that is only asked whether it is accepted: then there is no text

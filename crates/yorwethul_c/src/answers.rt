@@ -7,11 +7,12 @@ ghost use Rattle.yorwethul_c.specs.Answers.{TellsOfWriting};
 
 use crate::nesting::nests_past;
 use crate::status::{Status, status_of};
-use module_answers::{JsonPlace, Written, flags_for, layout_table, write};
+use bitflags::Flags;
+use module_answers::{JsonPlace, Written, layout_table, write};
 use naga_json::{Known, ReadError, read_known};
 use naga_wgsl_out::info::{Unaccepted, unaccepted};
 use naga_wgsl_out::sinks::Limited;
-use naga_wgsl_out::wgsl::Error;
+use naga_wgsl_out::wgsl::{Error, WriterFlags};
 use std::alloc::{AllocError, Global};
 use std::fmt::Display;
 
@@ -35,7 +36,7 @@ pub struct Answer {
 pub fn written(alloc: Global, json: &[u8], flags: u32) -> Answer
     ensures { TellsOfWriting json.now flags result.status (string_bytes result.text) }
 {
-    if flags > 1 {
+    if flags > 3 {
         return told(alloc, Status::UnknownFlag, "a bit is set that no flag has");
     }
     match known_in(alloc, json) {
@@ -95,7 +96,7 @@ fn unread(alloc: Global, json: &[u8], error: ReadError) -> Answer
 }
 
 fn written_known(alloc: Global, known: &mut Known, flags: u32) -> Answer
-    requires known { flags ≤ 1 }
+    requires known { flags ≤ 3 }
     ensures { (json : List ℕ) → TellsOfWriting json flags result.status (string_bytes result.text) }
 {
     let sink = Limited::new(alloc, LONGEST_TEXT);
@@ -103,7 +104,7 @@ fn written_known(alloc: Global, known: &mut Known, flags: u32) -> Answer
         alloc,
         &known.module,
         &mut known.info,
-        flags_for(flags == 1),
+        WriterFlags::from_bits_retain(flags),
         sink,
     ) {
         Ok(written) => told_written(alloc, written),

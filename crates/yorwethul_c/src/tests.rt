@@ -85,7 +85,7 @@ const NESTED: &str = concat!(
 const CALLS: &[(Call, &str, u32, &str)] = &[
     (Call::Write(0), DOUBLE, 0, DOUBLE_TEXT),
     (Call::Write(1), DOUBLE, 0, DOUBLE_TEXT),
-    (Call::Write(2), DOUBLE, 4, "a bit is set that no flag has"),
+    (Call::Write(4), DOUBLE, 4, "a bit is set that no flag has"),
     (Call::Write(0), FLOAT_LITERAL, 1, "float literal"),
     (
         Call::Write(0),

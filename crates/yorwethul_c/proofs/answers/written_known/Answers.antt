@@ -1,5 +1,4 @@
-use Rattle.std.proofs.Common.{◌∙◌, Err, IfErr, IfOk, Ok, ap, is_ok, refl, subst, sym}
-use Rattle.naga_wgsl_fns.specs.FunctionText.{annotates_types}
+use Rattle.std.proofs.Common.{◌∙◌, Err, IfErr, IfOk, Ok, ap, is_ok, refl, subst, sym, tt}
 use Rattle.naga_wgsl_out.specs.Checked.{IsCounted}
 use Rattle.naga_wgsl_out.specs.Headline.{FaithfulWriting}
 use Rattle.naga_wgsl_out.specs.Writing.{AppendsItsText}
@@ -16,12 +15,12 @@ pub returns-in-Ok : goal.returns-in-Ok
 returns-in-Ok c =
     let m = c.args.known.now.module in
     let info = c.write.new.info in
-    let writer = c.flags_for.result in
+    let writer = c.from_bits_retain.result in
     let w = c.in-Ok.written in
     let counted = subst (λ r. IfOk r (λ _. IsCounted m c.args.known.now.info info)) c.in-Ok.is c.write.ensures.counted in
     let faithful =
-    subst (λ r. IfOk r (λ w. FaithfulWriting (annotates_types writer) m info w.answer c.new-sink.result.text w.sink.text c.new-sink.result.failures w.sink.failures)) c.in-Ok.is c.write.ensures.faithful in
-    let from_nothing = subst (λ s. FaithfulWriting (annotates_types writer) m info w.answer s.text w.sink.text s.failures w.sink.failures) c.new-sink.ensures faithful in
+    subst (λ r. IfOk r (λ w. FaithfulWriting writer m info w.answer c.new-sink.result.text w.sink.text c.new-sink.result.failures w.sink.failures)) c.in-Ok.is c.write.ensures.faithful in
+    let from_nothing = subst (λ s. FaithfulWriting writer m info w.answer s.text w.sink.text s.failures w.sink.failures) c.new-sink.ensures faithful in
     let text = subst (λ r. IfOk r (λ w. AppendsItsText m info writer w.answer c.new-sink.result.text w.sink.text)) c.in-Ok.is c.write.ensures.text in
     let appends = subst (λ s. AppendsItsText m info writer w.answer s.text w.sink.text) c.new-sink.ensures text in
-    λ json. wrote json c.args.flags writer m c.args.known.now.info info w.answer w.sink.text _ _ _ c.requires.known (sym c.write.ensures.accepted ∙ ap is_ok c.in-Ok.is) counted c.flags_for.ensures from_nothing appends c.told_written.ensures
+    λ json. wrote json c.args.flags writer m c.args.known.now.info info w.answer w.sink.text _ _ _ c.requires.known (c.from_bits_retain.ensures tt) (sym c.write.ensures.accepted ∙ ap is_ok c.in-Ok.is) counted from_nothing appends c.told_written.ensures
