@@ -6,6 +6,7 @@ Their digits are the fewest from which the number is read back. Of an `f32` they
 import copy
 import math
 import struct
+from decimal import ROUND_CEILING, ROUND_FLOOR, Context, Decimal
 
 from operators import LITERALS, NUMERALS
 from spelling import F16, F32, F64
@@ -26,9 +27,13 @@ def numeral_of(scalar, bits):
 
 
 def single_text(number):
-    """The nearest numeral of as few digits as are read back as this `f32`."""
-    texts = (f"{number:.{digits}e}" for digits in range(SINGLE_DIGITS))
-    return next(text for text in texts if is_single(float(text), number))
+    """Of the numerals of as few digits as are read back as this `f32` the nearest one, and of two that are as near the
+    greater."""
+    for digits in range(1, SINGLE_DIGITS + 1):
+        around = (Context(digits, rounding).create_decimal(Decimal(number)) for rounding in (ROUND_CEILING, ROUND_FLOOR))
+        found = [numeral for numeral in around if is_single(float(numeral), number)]
+        if found:
+            return str(min(found, key=lambda numeral: abs(numeral - Decimal(number)))).replace("E", "e")
 
 
 def is_single(number, wanted):
