@@ -1,15 +1,17 @@
 #!/usr/bin/env python3
-"""Says which examples are not the first lines of crates/yorwethul/stdin, in the order of their names, and which texts
-beside them are not what becomes of them.
+"""Says which examples are not the first lines of crates/yorwethul/stdin, in the order of their names, which texts beside
+them are not what becomes of them, and where README shows another text of its first example.
 
 Each example stands in two lines, of which the second asks for its plain text. So the gate runs the program on each of them
 in both ways, and crates/yorwethul/stdout has what becomes of it. A line may have other members beside. Where each example
-stands, and each `NAME.wgsl` is the text of the first line of `NAME.json`, it says nothing, and its status is 0. Run it from
-anywhere.
+stands, each `NAME.wgsl` is the text of the first line of `NAME.json`, and README shows the end of one, it says nothing, and
+its status is 0. Run it from anywhere.
 """
 
 import json
+import re
 import sys
+from textwrap import dedent
 from itertools import zip_longest
 from pathlib import Path
 
@@ -18,7 +20,7 @@ LINES, ANSWERS = (TOP / "crates/yorwethul" / name for name in ("stdin", "stdout"
 
 
 def main():
-    faults = [*missing_lines(), *other_texts()]
+    faults = [*missing_lines(), *other_texts(), *other_words_of_readme()]
     for fault in faults:
         print(fault)
     sys.exit(1 if faults else 0)
@@ -46,11 +48,24 @@ def stands_in(example, is_plain, line):
 
 def other_texts():
     """Texts that the program does not give, and those of no example."""
-    answers = ANSWERS.read_text().splitlines()
-    texts = {example.stem: object_of(answer).get("text") for example, answer in zip(examples(), answers[::2])}
     for path in sorted(TOP.glob("examples/*.wgsl")):
-        if path.read_text() != texts.get(path.stem):
+        if path.read_text() != texts().get(path.stem):
             yield f"examples/{path.name} is not the text that crates/yorwethul/stdout has of examples/{path.stem}.json"
+
+
+def texts():
+    """What the program gives of each example, where that is a text."""
+    answers = map(object_of, ANSWERS.read_text().splitlines()[::2])
+    return {example.stem: answer["text"] for example, answer in zip(examples(), answers) if "refused" not in answer}
+
+
+def other_words_of_readme():
+    """README, where the first text in it is not the end of that of the first example in it."""
+    readme = (TOP / "README.md").read_text()
+    name = re.search(r"\./yorwethul examples/(\w+)\.json", readme)[1]
+    shown = dedent(re.search(r"(?m)^    @(?:.*\n(?=    |\n    ))*.*\n", readme)[0])
+    if not texts().get(name, "").endswith(shown):
+        yield f"README.md shows another text than that of examples/{name}.json"
 
 
 def object_of(line):

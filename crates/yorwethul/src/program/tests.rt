@@ -280,11 +280,13 @@ struct Out: no layout
 const OPERAND_FAULT: &str = "not accepted: module.functions[0].expressions[1]: \
     an operand does not stand before the expression\n";
 
-/// The style of a text by default, and of one like the library's.
+/// The style of texts by default.
 const STANDARD: Style = Style {
     explicit_types: false,
     plain: false,
 };
+
+/// That of plain texts.
 const PLAIN: Style = Style {
     explicit_types: false,
     plain: true,
@@ -423,16 +425,9 @@ impl Write for Broken {
 
 #[test]
 fn broken_outputs_are_told(rt: HostRuntime) -> Result<(), Fail> {
-    let mut err = Vec::new(rt.alloc());
     let alloc = rt.alloc();
-    let status = status_of(
-        alloc,
-        DOUBLE,
-        Task::Write,
-        STANDARD,
-        &mut Broken,
-        &mut err,
-    );
+    let mut err = Vec::new(alloc);
+    let status = status_of(alloc, DOUBLE, Task::Write, STANDARD, &mut Broken, &mut err);
     assert_eq!(rt; status, Some(FAILED));
     assert_eq!(rt;
         err.as_slice(),
