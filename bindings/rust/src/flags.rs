@@ -8,6 +8,10 @@ impl Flags {
     /// Each `let` tells its type.
     pub const EXPLICIT_TYPES: Flags = Flags(crate::sys::EXPLICIT_TYPES);
 
+    /// The text has what standard compilers ask for, as `enable subgroups;` where something of
+    /// subgroups stands in it.
+    pub const PORTABLE: Flags = Flags(crate::sys::PORTABLE);
+
     /// No flag.
     pub const fn empty() -> Flags {
         Flags(0)
