@@ -4,3 +4,5 @@ pub mod ToldNames
 pub mod ToldContexts
 pub mod ToldPlaces
 pub mod ToldShapes
+pub mod ToldInterfaces
+pub mod ToldFaithfully

@@ -3,4 +3,4 @@
 
 mod laws;
 
-pub use laws::told_modules_have_their_shapes;
+pub use laws::{programs_are_faithful_to_both, told_modules_have_their_shapes};
