@@ -2,15 +2,13 @@
 -- constants that are written out.
 --
 -- Throughout, m is a module, new what it becomes, info what is known of it, and h a handle.
-use Rattle.std.proofs.Common.{◌≡◌, ℕ, zero, suc, List, refl, ap, ◌∙◌}
-use Rattle.std.specs.Prelude.{Option, None, Some, if◌then◌else◌, slice_get, unwrap_or}
+use Rattle.std.proofs.Common.{◌≡◌, ℕ, zero, suc, refl, ap, ◌∙◌}
+use Rattle.std.specs.Prelude.{None, Some, if◌then◌else◌, slice_get, unwrap_or}
 use Rattle.std.specs.Option.{is_some, option_and_then, option_map, option_map_or}
-use Rattle.naga_ir.specs.declared.expression.Expression.{Expression}
 use Rattle.naga_ir.specs.declared.module.Constant.{Constant}
 use Rattle.naga_ir.specs.declared.module.Module.{Module}
 use Rattle.naga_info.specs.Resolution.{inner_of}
 use Rattle.naga_info.specs.declared.info.ModuleInfo.{ModuleInfo}
-use Rattle.naga_info.specs.declared.info.TypeResolution.{TypeResolution}
 use Rattle.naga_info.specs.declared.info.TypeResolution.TheVariants.{Handle}
 use Rattle.naga_names.specs.declared.key.NameKey.TheVariants as key
 use Rattle.naga_words.specs.Contexts.{names_of}
@@ -20,15 +18,15 @@ use Rattle.module_meaning.specs.ExpressionContexts.{global_tree, global_tree_wit
 use Rattle.module_meaning.specs.ExpressionContexts.{global_types_known, is_handle_variable}
 use Rattle.module_meaning.specs.ExpressionContexts.{override_number, written_constant, zero_of_type}
 use Rattle.module_meaning.specs.ExpressionOperators.{constructor}
-use Rattle.module_meaning.specs.ExpressionShapes.{computed_over, Declared}
+use Rattle.module_meaning.specs.ExpressionShapes.{computed_over}
 use Rattle.module_meaning.specs.ModuleShapes.{initialiser}
-use Rattle.module_meaning.specs.Names.{module_names, name_in}
+use Rattle.module_meaning.specs.Names.{name_in}
 use Rattle.module_meaning.specs.OperatorTable.{run_word}
 use Rattle.module_meaning.specs.TypeIdentity.{identity, identity_code, word_of_unspelled_type}
 use Rattle.module_meaning.specs.Types.{called_spelling, spelled_resolution, type_of_values}
 use Rattle.module_meaning.specs.Types.{values_of, word_of_values}
 use Rattle.module_meaning.specs.Undeclared.{is_undeclared_struct}
-use Rattle.shader_runs.specs.Program.{ConstantTree, Constructed, Fixed, NamedConstant, no_constant}
+use Rattle.shader_runs.specs.Program.{Constructed, Fixed, NamedConstant, no_constant}
 use Rattle.shader_runs.specs.Value.{OtherType}
 use Rattle.told_floats.specs.Told.{IsToldExpression, IsToldModule}
 use Rattle.told_floats.proofs.Lists.{seen_same}

@@ -2,8 +2,8 @@
 --
 -- Throughout, m is a module, new what it becomes, info what is known of it, and shape a program of
 -- shapes.
-use Rattle.std.proofs.Common.{◌≡◌, ℕ, List, refl, sym, ap, subst, ◌∙◌}
-use Rattle.std.specs.Prelude.{IsTrue, Option, Some}
+use Rattle.std.proofs.Common.{◌≡◌, ℕ, List, ap, subst, ◌∙◌}
+use Rattle.std.specs.Prelude.{IsTrue, Some}
 use Rattle.naga_ir.specs.declared.module.Module.{Module}
 use Rattle.naga_back.specs.declared.flags.WriterFlags.{WriterFlags}
 use Rattle.naga_info.specs.declared.info.ModuleInfo.{ModuleInfo}

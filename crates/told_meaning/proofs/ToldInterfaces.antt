@@ -3,12 +3,11 @@
 -- Throughout, m is a module, new what it becomes, info what is known of it, f and g are functions
 -- and p and q entry points, as they were before and afterwards, and x is an extension.
 use Rattle.std.proofs.Common.{◌≡◌, ℕ, ◌+◌, ◌-◌, Bool, true, false, ◌&&◌, ◌||◌, nat_lt, cond}
-use Rattle.std.proofs.Common.{List, [], ◌∷◌, ◌++◌, length, map, refl, sym, ap, ◌∙◌}
+use Rattle.std.proofs.Common.{List, [], ◌∷◌, map, refl, ap}
 use Rattle.std.specs.Prelude.{Option, if◌then◌else◌, slice_get}
 use Rattle.std.specs.List.{AllZip, enumerate_from, filter, filter_map, list_any}
-use Rattle.std.specs.Option.{option_and_then, option_map, option_map_or}
+use Rattle.std.specs.Option.{option_and_then, option_map_or}
 use Rattle.std.proofs.lemmas.Slice.Zip.{AllZip-long}
-use Rattle.naga_ir.specs.declared.expression.Expression.{Expression}
 use Rattle.naga_ir.specs.declared.module.EntryPoint.{EntryPoint}
 use Rattle.naga_ir.specs.declared.module.Function as ir_function
 use Rattle.naga_ir.specs.declared.module.Module as ir_module
@@ -23,9 +22,8 @@ use Rattle.naga_names.specs.Keys.{NameMap}
 use Rattle.naga_words.specs.Contexts.{names_of, Names as TypeNames}
 use Rattle.shader_runs.specs.Constants.{module_initialiser_value}
 use Rattle.shader_runs.specs.World.{Meaning, Settings}
-use Rattle.module_meaning.specs.Enables.{entry_point_needs, Extension, extensions, f16, is_enabled}
-use Rattle.module_meaning.specs.Enables.{is_needed, subgroups, type_needs, written_enables}
-use Rattle.module_meaning.specs.FunctionNumbers.{function_type}
+use Rattle.module_meaning.specs.Enables.{entry_point_needs, Extension, extensions, is_enabled}
+use Rattle.module_meaning.specs.Enables.{is_needed, type_needs, written_enables}
 use Rattle.module_meaning.specs.Halves.{converts_to_halves, function_spells_halves, is_over_halves}
 use Rattle.module_meaning.specs.Halves.{spells_halves, spells_known_halves, value_is_over_halves}
 use Rattle.module_meaning.specs.Interface.{body_interface, constant_interface}

@@ -3,12 +3,11 @@
 -- Throughout, m is a module, new what it becomes, and p and q are entry points and f and g
 -- functions, as they were before and afterwards.
 use Rattle.std.proofs.Common.{◌≡◌, ℕ, List, [], ◌∷◌, ◌++◌, refl, ap}
-use Rattle.std.specs.Prelude.{Option, None, codes, if◌then◌else◌, unwrap_or}
+use Rattle.std.specs.Prelude.{None, codes, if◌then◌else◌, unwrap_or}
 use Rattle.std.specs.List.{AllZip, enumerate_from, flat_map}
 use Rattle.std.specs.Map.{lookup, update_all}
 use Rattle.std.specs.Option.{option_or}
 use Rattle.naga_ir.specs.declared.module.EntryPoint.{EntryPoint}
-use Rattle.naga_ir.specs.declared.module.Function.{Function}
 use Rattle.naga_ir.specs.declared.module.Module.{Module}
 use Rattle.naga_names.specs.Keys.{same_key}
 use Rattle.naga_names.specs.Naming.{label_or, Names}

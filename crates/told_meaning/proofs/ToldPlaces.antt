@@ -2,12 +2,10 @@
 --
 -- Throughout, m is a module, new what it becomes, info what is known of it, whole is how a pointer
 -- is spelled, word is a member's, and at is a space.
-use Rattle.std.proofs.Common.{◌≡◌, ℕ, zero, suc, List, [], ◌∷◌, ◌++◌, map, refl, ap, ◌∙◌}
+use Rattle.std.proofs.Common.{◌≡◌, ℕ, List, [], ◌∷◌, ◌++◌, map, refl, ◌∙◌}
 use Rattle.std.specs.Prelude.{None, Some, if◌then◌else◌, slice_get, unwrap_or}
 use Rattle.std.specs.List.{AllZip, enumerate_from, find, flat_map, zip}
 use Rattle.std.specs.Option.{option_map_or}
-use Rattle.naga_ir.specs.declared.expression.Expression as ir
-use Rattle.naga_ir.specs.declared.expression.Expression.TheVariants as expression
 use Rattle.naga_ir.specs.declared.module.Function.{Function}
 use Rattle.naga_ir.specs.declared.module.Module.{Module}
 use Rattle.naga_ir.specs.declared.types.AddressSpace.{AddressSpace}
@@ -16,21 +14,19 @@ use Rattle.naga_ir.specs.declared.types.TypeInner.TheVariants as inner
 use Rattle.naga_info.specs.Resolution.{inner_of}
 use Rattle.naga_info.specs.declared.info.ExpressionInfo.{ExpressionInfo}
 use Rattle.naga_info.specs.declared.info.ModuleInfo.{ModuleInfo}
-use Rattle.naga_info.specs.declared.info.TypeResolution.{TypeResolution}
 use Rattle.naga_info.specs.declared.info.TypeResolution.TheVariants.{Value}
 use Rattle.naga_names.specs.declared.key.NameKey.TheVariants as key
 use Rattle.module_meaning.specs.AgreeingOperators.{function_groups, further_groups_of, Group}
 use Rattle.module_meaning.specs.AgreeingOperators.{groups_of}
 use Rattle.module_meaning.specs.AlikeTypes.{is_spelled}
 use Rattle.module_meaning.specs.ExpressionContexts.{declared}
-use Rattle.module_meaning.specs.Names.{module_names, name_in}
+use Rattle.module_meaning.specs.Names.{name_in}
 use Rattle.module_meaning.specs.PlaceParts.{member_part, member_taken, members_taken, own_types}
 use Rattle.module_meaning.specs.PlaceParts.{parts_at, parts_behind, place_parts, place_spaces}
 use Rattle.module_meaning.specs.PlaceParts.{pointer_spelled, pointer_to_member, pointer_types}
-use Rattle.module_meaning.specs.PlaceParts.{pointers_in, takes_member}
+use Rattle.module_meaning.specs.PlaceParts.{pointers_in}
 use Rattle.module_meaning.specs.TypeIdentity.{vector_number}
 use Rattle.module_meaning.specs.TypeParts.{element_count, inner_at}
-use Rattle.module_meaning.specs.Types.{type_of_values, word_of_values}
 use Rattle.shader_runs.specs.Value.{Components, Elements, Members, NoParts, PointerType, same_type}
 use Rattle.told_floats.specs.Told.{IsToldExpression, IsToldFunction, IsToldModule}
 use Rattle.told_floats.proofs.ToldItems.{along}

@@ -6,7 +6,7 @@
 -- are functions, as they were before and afterwards.
 use Rattle.std.proofs.Common.{◌≡◌, ℕ, zero, suc, ◌+◌, List, [], ◌∷◌, ◌++◌, map, reverse}
 use Rattle.std.proofs.Common.{refl, ap, ◌∙◌}
-use Rattle.std.specs.Prelude.{Bool, Option, None, Some, if◌then◌else◌, nat_eq, slice_get}
+use Rattle.std.specs.Prelude.{Some, if◌then◌else◌, nat_eq, slice_get}
 use Rattle.std.specs.List.{AllZip, list_any}
 use Rattle.std.specs.Option.{option_and_then, option_map}
 use Rattle.indexmap.specs.IndexMap.{keys}
