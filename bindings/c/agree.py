@@ -110,21 +110,27 @@ def numbers_of_crate():
     numbers = {re.sub(r"(?<=.)(?=[A-Z])", "_", name).upper(): int(number) for name, number in told.items()}
     answers = (CRATE / "answers.rt").read_text()
     numbers["VERSION"] = int(re.search(r"fn yorwethul_version.*?\{\n    ([\d_]+)\n\}", (CRATE / "lib.rt").read_text(), re.DOTALL)[1])
+    numbers["TELL_FLOATS"] = told_floats_of_calls()
     numbers["LONGEST_TEXT"] = int(re.search(r"LONGEST_TEXT: usize = ([\d_]+);", answers)[1])
     return {**numbers, **flags_of_writer()}
 
 
+def told_floats_of_calls():
+    """The flag by which floats are told, which is the calls' own."""
+    return int(re.search(r"TELL_FLOATS: u32 = (\d+);", (CRATE / "answers.rt").read_text())[1])
+
+
 def flags_of_writer():
-    """The writer's flags, which are those of the calls."""
+    """The writer's flags, which are flags of the calls."""
     told = re.findall(r"const (\w+) = (\d+);", (TOP / "crates/naga_back/src/flags.rt").read_text())
     return {name: int(number) for name, number in told}
 
 
 def unknown_flags_differ():
     """Where a call takes more flags than the writer has, or less."""
-    most = int(re.search(r"if flags > (\d+)", (CRATE / "answers.rt").read_text())[1])
-    known = sum(flags_of_writer().values())
-    return [] if most == known else [f"crates/yorwethul_c knows flags up to {most}, the writer up to {known}"]
+    most = int(re.search(r"ALL_FLAGS: u32 = (\d+);", (CRATE / "answers.rt").read_text())[1])
+    known = sum(flags_of_writer().values()) + told_floats_of_calls()
+    return [] if most == known else [f"crates/yorwethul_c knows flags up to {most}, and there are those up to {known}"]
 
 
 def rust_numbers_differ(wanted):

@@ -16,6 +16,7 @@ int main(int count, char **words) {
     for (int at = 2; at < count; at++) {
         if (!strcmp(words[at], "explicit")) flags |= YORWETHUL_EXPLICIT_TYPES;
         if (!strcmp(words[at], "portable")) flags |= YORWETHUL_PORTABLE;
+        if (!strcmp(words[at], "floats")) flags |= YORWETHUL_TELL_FLOATS;
     }
     /* a text is nearly always shorter than its JSON, so that one call is enough */
     size_t out_length = length + 256, needed;

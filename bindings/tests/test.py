@@ -27,7 +27,7 @@ CRATES = TOP / "crates"
 EXAMPLES = sorted((TOP / "examples").glob("*.json"))
 WARNINGS = ["-Wall", "-Wextra", "-pedantic"]
 DONE, REFUSED, NOT_ACCEPTED, NO_MODULE, UNKNOWN_FLAG, OUT_OF_MEMORY, TOO_DEEP = range(7)
-EXPLICIT_TYPES, PORTABLE, ALL_FLAGS = 1, 2, 3
+EXPLICIT_TYPES, PORTABLE, TELL_FLOATS, ALL_FLAGS = 1, 2, 4, 7
 
 # What `hammer` is told: so many calls, on so many threads, so many lengths and changes of each file.
 SHORT = {"calls": 20_000, "threads": 1_000, "cut": 300, "flip": 400}
@@ -215,14 +215,14 @@ def plain_answers():
 
 
 def test_lines(folder, _):
-    """The library answers the lines of the program's test as the program does, but for floats that the program tells."""
+    """The library answers the lines of the program's test as the program does."""
     library = Library(folder / "libyorwethul.so")
     lines = zip((CRATES / "yorwethul/stdin").read_bytes().splitlines(), (CRATES / "yorwethul/stdout").read_text().splitlines())
     for line, answer in ((line, json.loads(answer)) for line, answer in lines):
         is_plain = b'"plain":true' in line
-        if answer.get("error", "").endswith(": no truth value") or (b'"F32":' in line and not is_plain):
+        if answer.get("error", "").endswith(": no truth value"):
             continue
-        flags = (EXPLICIT_TYPES if b'"explicit_types":true' in line else 0) | (0 if is_plain else PORTABLE)
+        flags = (EXPLICIT_TYPES if b'"explicit_types":true' in line else 0) | (0 if is_plain else PORTABLE | TELL_FLOATS)
         if "refused" in answer:
             wanted = (REFUSED, answer["refused"])
         elif "text" in answer:
@@ -267,7 +267,7 @@ def cut_answers(output, names):
         wanted = {0: plain, EXPLICIT_TYPES: with_types if typed else plain}
         if portable:
             portable, typed, with_types = portable.partition(f"== {name}, portable with types\n")
-            wanted |= {PORTABLE: portable, ALL_FLAGS: with_types if typed else portable}
+            wanted |= {PORTABLE: portable, PORTABLE | EXPLICIT_TYPES: with_types if typed else portable}
         answers.append(wanted)
         at = end
     return answers
