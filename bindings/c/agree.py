@@ -110,26 +110,21 @@ def numbers_of_crate():
     numbers = {re.sub(r"(?<=.)(?=[A-Z])", "_", name).upper(): int(number) for name, number in told.items()}
     answers = (CRATE / "answers.rt").read_text()
     numbers["VERSION"] = int(re.search(r"fn yorwethul_version.*?\{\n    ([\d_]+)\n\}", (CRATE / "lib.rt").read_text(), re.DOTALL)[1])
-    numbers["TELL_FLOATS"] = told_floats_of_calls()
     numbers["LONGEST_TEXT"] = int(re.search(r"LONGEST_TEXT: usize = ([\d_]+);", answers)[1])
-    return {**numbers, **flags_of_writer()}
+    return {**numbers, **flags_of_calls()}
 
 
-def told_floats_of_calls():
-    """The flag by which floats are told, which is the calls' own."""
-    return int(re.search(r"TELL_FLOATS: u32 = (\d+);", (CRATE / "answers.rt").read_text())[1])
-
-
-def flags_of_writer():
-    """The writer's flags, which are flags of the calls."""
+def flags_of_calls():
+    """The writer's flags, and the one by which floats are told, which is the calls' own."""
     told = re.findall(r"const (\w+) = (\d+);", (TOP / "crates/naga_back/src/flags.rt").read_text())
+    told += re.findall(r"const (TELL_FLOATS): u32 = (\d+);", (CRATE / "answers.rt").read_text())
     return {name: int(number) for name, number in told}
 
 
 def unknown_flags_differ():
-    """Where a call takes more flags than the writer has, or less."""
+    """Where a call takes more flags than there are, or less."""
     most = int(re.search(r"ALL_FLAGS: u32 = (\d+);", (CRATE / "answers.rt").read_text())[1])
-    known = sum(flags_of_writer().values()) + told_floats_of_calls()
+    known = sum(flags_of_calls().values())
     return [] if most == known else [f"crates/yorwethul_c knows flags up to {most}, and there are those up to {known}"]
 
 
@@ -142,12 +137,17 @@ def rust_numbers_differ(wanted):
 
 
 def page_differs(wanted):
-    """Where the page in web/ names another status, by its place in a list."""
-    told = re.search(r"const statuses = \[(.*?)\];", (TOP / "web/index.html").read_text())[1]
+    """Where the page in web/ names another status, by its place in a list, or has other flags."""
+    page = (TOP / "web/index.html").read_text()
+    told = re.search(r"const statuses = \[(.*?)\];", page)[1]
     names = [name.upper().replace(" ", "_") for name in re.findall(r'"([^"]*)"', told)]
-    left_out = {"VERSION", "LONGEST_TEXT", *flags_of_writer()}
+    left_out = {"VERSION", "LONGEST_TEXT", *flags_of_calls()}
     statuses = {name: number for name, number in wanted.items() if name not in left_out}
-    return differences("yorwethul.h", statuses, "web/index.html", {name: number for number, name in enumerate(names)})
+    bits = sorted(map(int, re.findall(r"\d+", re.search(r"const bitOf = {(.*?)}", page)[1])))
+    known = sorted(flags_of_calls().values())
+    return [
+        *differences("yorwethul.h", statuses, "web/index.html", {name: number for number, name in enumerate(names)}),
+        *([] if bits == known else [f"web/index.html has the flags {bits}, the calls {known}"])]
 
 
 def versions_differ(number):
