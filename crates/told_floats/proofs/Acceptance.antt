@@ -147,7 +147,7 @@ module _ (m new : Module) (all : IsToldModule m new) where
   declarations_kept h =
       let k = length es in
       let count : length es ≡ length m.global_expressions =
-          AllZip-long IsToldExpression m.global_expressions es expressions in
+      AllZip-long IsToldExpression m.global_expressions es expressions in
       let types = length m.types in
       kept_sixth
       (types_in_range (length m.overrides) m.types)
@@ -170,7 +170,7 @@ module _ (m new : Module) (all : IsToldModule m new) where
   function_kept callees f g r h =
       let ds = g.expressions in
       let count : length ds ≡ length f.expressions =
-          AllZip-long IsToldExpression f.expressions ds r.expressions in
+      AllZip-long IsToldExpression f.expressions ds r.expressions in
       let arguments = length f.arguments.items in
       let locals = length f.local_variables in
       subst (λ (k : Function). function_in_range n callees k ≡ true) (sym r.rest)

@@ -8,7 +8,6 @@
 
 mod laws;
 mod telling;
-
 #[cfg(test)]
 mod tests;
 
