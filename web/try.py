@@ -1,7 +1,7 @@
 #!/usr/bin/env python3
-"""try.py [FOLDER]: opens the page that web/make.sh made in FOLDER (web/out) in a headless Chromium, and compares what it
-shows with what the program answers: the texts of examples/ and their plain ones, some of which are refused, `let`s that
-tell their types, a fault, what is no module, and layouts.
+"""try.py [FOLDER]: opens the page that web/make.sh made in FOLDER (web/out) in a headless Chromium, and compares what
+it shows with what the program answers: the texts of examples/ and their plain ones, some of which are refused, `let`s
+that tell their types, a fault, what is no module, and layouts.
 
 Where there is no Chromium, or no page, it says so, and its status is 0. Of the browser's own verdict on each text it
 prints what there is: nothing is asked of that.
