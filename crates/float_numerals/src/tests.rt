@@ -1,5 +1,6 @@
 //! Tests of which digits are chosen, of which it is proved alone that they denote the float: floats
-//! by their bits, each with the literal that Rust's formatting gives, and none of an infinity and a NaN.
+//! by their bits, each with the literal that Rust's formatting gives, and none of an infinity and a
+//! NaN.
 
 use crate::{double_decimal, half_decimal, push_double, push_half, push_single, single_decimal};
 

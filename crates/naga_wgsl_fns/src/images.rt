@@ -103,8 +103,8 @@ impl FunctionText<'_> {
         }
     }
 
-    /// Whether level zero of this image is written as a whole number, which standard compilers ask for
-    /// where it is one of depths.
+    /// Whether level zero of this image is written as a whole number, which standard compilers ask
+    /// for where it is one of depths.
     fn zero_is_whole(&self, image: Handle<Expression>) -> bool
         requires can { CanWrite self.now }
         requires image { IsInText self.now image }
