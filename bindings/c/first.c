@@ -1,4 +1,4 @@
-/* first FILE [explicit] [portable]: prints the text of a module. */
+/* first FILE [explicit] [portable] [floats]: prints the text of a module, by these flags. */
 #include <stdio.h>
 #include <stdlib.h>
 #include <string.h>
@@ -16,6 +16,7 @@ int main(int count, char **words) {
     for (int at = 2; at < count; at++) {
         if (!strcmp(words[at], "explicit")) flags |= YORWETHUL_EXPLICIT_TYPES;
         if (!strcmp(words[at], "portable")) flags |= YORWETHUL_PORTABLE;
+        if (!strcmp(words[at], "floats")) flags |= YORWETHUL_TELL_FLOATS;
     }
     /* a text is nearly always shorter than its JSON, so that one call is enough */
     size_t out_length = length + 256, needed;

@@ -1,12 +1,15 @@
 #!/usr/bin/env python3
-"""first.py LIBRARY FILE [explicit] [portable]: prints the text of a module, by the calls of LIBRARY, a libyorwethul.so."""
+"""first.py LIBRARY FILE [explicit] [portable] [floats]: prints the text of a module, by these flags.
+
+LIBRARY is a libyorwethul.so, whose calls are made.
+"""
 
 import ctypes
 import sys
 from pathlib import Path
 
 DONE = 0
-FLAGS = {"explicit": 1, "portable": 2}
+FLAGS = {"explicit": 1, "portable": 2, "floats": 4}
 
 
 class Yorwethul:

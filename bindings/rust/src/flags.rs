@@ -12,6 +12,10 @@ impl Flags {
     /// subgroups stands in it.
     pub const PORTABLE: Flags = Flags(crate::sys::PORTABLE);
 
+    /// Floats are written, by the digits that Rust's formatting gives them. Without this flag a
+    /// module with a literal of a float is refused, as `float literal`.
+    pub const TELL_FLOATS: Flags = Flags(crate::sys::TELL_FLOATS);
+
     /// No flag.
     pub const fn empty() -> Flags {
         Flags(0)

@@ -87,6 +87,8 @@ fn a_refused_module_tells_the_construct() {
     let half = DOUBLE
         .replace("\"Sint\"", "\"Float\"")
         .replace(r#"{"FunctionArgument": 0}"#, r#"{"Literal": {"F32": 0.5}}"#);
+    let told = write_json(&half, Flags::TELL_FLOATS).unwrap();
+    assert!(told.contains("0.5f"), "{told}");
     let error = write_json(&half, Flags::empty()).unwrap_err();
     assert_eq!(error.construct(), Some("float literal"));
     assert_eq!(error.to_string(), "refused: float literal");
