@@ -52,8 +52,7 @@ use Rattle.module_meaning.specs.Soundness.{function_is_sound}
 use Rattle.module_meaning.specs.Soundness.{module_is_sound, typed_function_is_sound}
 use Rattle.module_meaning.specs.StatementsFit.{are_passed, block_is_sound, calls, cases_are_sound}
 use Rattle.module_meaning.specs.StatementsFit.{is_answered, is_atomic_result, is_ballot_result}
-use Rattle.module_meaning.specs.StatementsFit.{is_call, is_condition, is_result, is_result_if}
-use Rattle.module_meaning.specs.StatementsFit.{is_returned}
+use Rattle.module_meaning.specs.StatementsFit.{is_call, is_condition, is_result, is_result_if, is_returned}
 use Rattle.module_meaning.specs.StatementsFit.{is_result_of, is_selection, is_subgroup_result}
 use Rattle.module_meaning.specs.StatementsFit.{is_uniform_load_result}
 use Rattle.module_meaning.specs.StatementsFit.{simple_is_sound, statement_is_sound}
@@ -159,8 +158,7 @@ module _ (m new : Module) (all : IsToldModule m new) where
       (all_placed (global_expression_in_range n) es)
       (placed_kept IsToldExpression (global_expression_in_range m) (global_expression_in_range n)
       global_kept 0 m.global_expressions es expressions)
-      (ap (λ k. types_in_range (length m.overrides) m.types
-      && (special_types_fit types m.special_types
+      (ap (λ k. types_in_range (length m.overrides) m.types && (special_types_fit types m.special_types
       && (list_all (constant_in_range types k) m.constants
       && (list_all (override_in_range types k) m.overrides
       && (list_all (global_in_range types k) m.global_variables
@@ -365,8 +363,7 @@ module _ (m new : Module) (all : IsToldModule m new) where
 
     typed_same : typed_function_is_sound n g known ≡ typed_function_is_sound m f known
     typed_same = λ i.
-        (ap (λ (k : Function). expressions_are_sound n
-        (Some (record k { expressions = f.expressions }))
+        (ap (λ (k : Function). expressions_are_sound n (Some (record k { expressions = f.expressions }))
         known g.expressions) r.rest
         ∙ expressions_same (Some f) known f.expressions g.expressions r.expressions) i &&
         (locals_are_sound m.types known (r.rest i).local_variables &&

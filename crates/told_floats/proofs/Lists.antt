@@ -19,8 +19,7 @@ module _ {X : Type 0} (R : X → X → Type 0) where
     AllZip-set [] [] i y z h lt is r = h
     AllZip-set [] (w ∷ ys) i y z h lt is r = absurd h
     AllZip-set (x ∷ xs) [] i y z h lt is r = absurd h
-    AllZip-set (x ∷ xs) (w ∷ ys) zero y z h lt is r =
-        (join x w z h.0 (subst (λ v. R v z) is r), h.1)
+    AllZip-set (x ∷ xs) (w ∷ ys) zero y z h lt is r = (join x w z h.0 (subst (λ v. R v z) is r), h.1)
     AllZip-set (x ∷ xs) (w ∷ ys) (suc i) y z h lt is r =
         (h.0, AllZip-set xs ys i y z h.1 (omega arith) is r)
 

@@ -36,8 +36,7 @@ same_functions fs = AllZip-same IsToldFunction same_function fs
 
 pub same_entry_points : (ps : List EntryPoint) → AllZip IsToldEntryPoint ps ps
 same_entry_points ps =
-    AllZip-same IsToldEntryPoint
-    (λ p. record { function = same_function p.function; rest = refl }) ps
+    AllZip-same IsToldEntryPoint (λ p. record { function = same_function p.function; rest = refl }) ps
 
 -- ---- told twice
 pub expression_again : (e d c : Expression) → IsToldExpression e d → IsToldExpression d c →

@@ -55,8 +55,7 @@ returns c =
     let told : IsToldModule old new = record {
       expressions = c.tell_expressions.ensures;
       functions = c.tell_functions.ensures;
-      entry_points = subst
-          (λ (ps : List EntryPoint). AllZip IsToldEntryPoint old.entry_points.items ps)
+      entry_points = subst (λ (ps : List EntryPoint). AllZip IsToldEntryPoint old.entry_points.items ps)
           (sym (with_items_is old.entry_points points (count ∙ sym old.entry_points.ok.0)))
           told_points;
       rest = refl;
