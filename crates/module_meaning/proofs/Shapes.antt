@@ -6,8 +6,8 @@ use Rattle.module_meaning.specs.Shapes.{operator_shape}
 use Rattle.shader_runs.specs.Value.{ShortCircuit}
 use Rattle.shader_runs.specs.Program.{Expression, Operator, Logical, Function, operands_of}
 use Rattle.shader_runs.specs.Program.{is_counted, binds_as}
-use Rattle.shader_runs.specs.Scope.{Availability, is_present, usable_as, is_pure, is_constant_leaf}
-use Rattle.shader_runs.specs.Scope.{is_emittable}
+use Rattle.shader_runs.specs.Program.{is_pure, is_emittable}
+use Rattle.shader_runs.specs.Scope.{Availability, is_present, usable_as, is_constant_leaf}
 use Rattle.shader_runs.specs.Value.{ShortCircuitAnd, ShortCircuitOr}
 
 -- what holds of short circuits, and of the operator's word over the operands, holds of the operator

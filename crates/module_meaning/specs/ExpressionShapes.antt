@@ -35,7 +35,7 @@ use Rattle.shader_runs.specs.Program.{ConstantTree, Fixed, Constructed, Constant
 use Rattle.shader_runs.specs.Program.{Indexing, Picking, Joining}
 use Rattle.shader_runs.specs.Program.{constant, Expression, Constant, Argument, Local, Global, Load}
 use Rattle.shader_runs.specs.Program.{Access, AccessIndex, Swizzle, Request}
-use Rattle.shader_runs.specs.Program.{AskingRule, WhenCounted, Always, Result}
+use Rattle.shader_runs.specs.Program.{Result}
 
 -- what the shapes of a function's expressions ask of the module
 pub record Declared : Type 0 where
@@ -119,7 +119,7 @@ asking operator = if asks_an_image operator then Always else WhenCounted
 -- what an operator over operands evaluates: a request, where it asks for an event
 abbrev pub applied_shape : TableOperator → List ℕ → Expression
 applied_shape operator operands =
-    if asks operator then Request (asking operator) (run_word operator) operands no_constant
+    if asks operator then Request (run_word operator) operands no_constant
     else operator_shape operator operands
 
 -- the same, where an operator is applied, and this where none is
@@ -276,7 +276,7 @@ sample_shape
     (expression.ImageSample
     image sampler gather coordinate array_index offset level depth_ref clamp) tree
     (Some operator) =
-    Request (asking operator) (run_word operator)
+    Request (run_word operator)
     (image ∷ sampler ∷ coordinate ∷ option_to_list array_index ++ option_to_list depth_ref ++
     level_operands level ++ (if is_some tree then [] else option_to_list offset))
     (trees

@@ -86,7 +86,7 @@ use Rattle.module_meaning.proofs.ExpressionShapes.{query_asks}
 use Rattle.module_meaning.specs.ExpressionOperators.{is_depth_image, level_of, query_operator}
 use Rattle.module_meaning.specs.ExpressionOperators.{sample_operator, texel_of, matrix_load}
 use Rattle.module_meaning.specs.ExpressionOperators.{is_atomic_pointer}
-use Rattle.module_meaning.specs.ExpressionShapes.{asking, constant_tree}
+use Rattle.module_meaning.specs.ExpressionShapes.{constant_tree}
 use Rattle.module_meaning.specs.ExpressionShapes.{trees, written_zero}
 use Rattle.module_meaning.specs.OperatorTable.{ArrayLength, CooperativeMultiplyAdd, Texel, asks}
 use Rattle.module_meaning.specs.Shapes.{operator_shape}
@@ -272,7 +272,7 @@ module _ (m : Module) (info : ModuleInfo) (types : TypesAreFit m) (p : shapes.Mo
       subst
       (λ b. WordFits p own
       (Some
-      (if b then shapes.Request (asking op) (run_word op) xs no_constant
+      (if b then shapes.Request (run_word op) xs no_constant
       else operator_shape op xs)))
       (sym is) (asks_by (run_word op) free, tt)
 

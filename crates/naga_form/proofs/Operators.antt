@@ -47,7 +47,7 @@ use Rattle.naga_ir.specs.declared.operators.DerivativeControl.{DerivativeControl
 use Rattle.naga_ir.specs.declared.operators.DerivativeControl.TheVariants as control
 use Rattle.wgsl_text.specs.Expressions.{IsCallee}
 use Rattle.wgsl_text.specs.Types.{IsType}
-use Rattle.module_meaning.specs.ExpressionShapes.{applied_shape, asking}
+use Rattle.module_meaning.specs.ExpressionShapes.{applied_shape}
 use Rattle.module_meaning.specs.OperatorTable.{Operator, BinarySign, UnarySign, AtomicLoad, asks}
 use Rattle.module_meaning.specs.OperatorTable.{AtomicStore, CooperativeLoad, MatrixLoad}
 use Rattle.module_meaning.specs.OperatorTable.{own_math_word, run_word}
@@ -322,7 +322,7 @@ module _ (operand : ℕ → PlainForm) (like : ℕ → runs.Plain) where
           (expression_read (applied_form (notation type op) (value_forms operand hs))) ≡
           runs.own_form n like
           (Some
-          (if b then Request (asking op) (run_word op) hs no_constant else operator_shape op hs))
+          (if b then Request (run_word op) hs no_constant else operator_shape op hs))
       by true is = request_read type op spelled hs same is
       by false is = operator_read n type op spelled hs same
 

@@ -19,14 +19,12 @@ use Rattle.shader_runs.specs.Program.{Argument, Constant, Global, Local, Request
 use Rattle.shader_runs.specs.Program.{operands_of}
 use Rattle.shader_runs.specs.Program.{Function, expression_of, is_counted, is_named, binds_as, binds}
 use Rattle.shader_runs.specs.Scope.{Handles, Availability, is_present, is_constant_leaf}
-use Rattle.shader_runs.specs.Scope.{is_emittable}
-use Rattle.shader_runs.specs.Scope.{is_pure, usable, usable_as}
+use Rattle.shader_runs.specs.Scope.{usable, usable_as}
 use Rattle.shader_runs.specs.Value.{Selector}
 use Rattle.naga_info.specs.declared.info.TypeResolution.TheVariants.{Handle}
 use Rattle.module_meaning.specs.ExpressionOperators.{ExpressionContext, cast, constructor}
 use Rattle.module_meaning.specs.ExpressionOperators.{type_known}
 use Rattle.module_meaning.specs.ExpressionOperators.{is_atomic_pointer}
-use Rattle.module_meaning.specs.ExpressionShapes.{asking}
 use Rattle.module_meaning.specs.Shapes.{operator_shape}
 use Rattle.module_meaning.specs.OperatorTable.{asks, run_word}
 use Rattle.shader_runs.specs.Program.{no_constant}
@@ -57,7 +55,7 @@ use Rattle.naga_ir.specs.Operands.{cooperative_operands, query_operands}
 use Rattle.naga_ir.specs.declared.expression.ImageQuery.{ImageQuery}
 use Rattle.naga_ir.specs.declared.expression.ImageQuery.TheVariants as query
 use Rattle.naga_ir.specs.declared.expression.SwizzleComponent.{SwizzleComponent}
-use Rattle.shader_runs.specs.Program.{is_asked}
+use Rattle.shader_runs.specs.Program.{is_emittable, is_pure}
 
 -- ---- the runs' words for shapes are tests of their kind
 pure_shape : (o : Option Expression) → is_pure o ≡ is_pure_kind (shape_kind o)
@@ -71,7 +69,7 @@ pure_shape (Some (Access base index)) = refl
 pure_shape (Some (AccessIndex selector base)) = refl
 pure_shape (Some (Swizzle letters vector)) = refl
 pure_shape (Some (Logical circuit left right)) = refl
-pure_shape (Some (Request asking word xs ts)) = refl
+pure_shape (Some (Request word xs ts)) = refl
 pure_shape (Some Result) = refl
 pure_shape None = refl
 
@@ -86,7 +84,7 @@ constant_shape (Some (Access base index)) = refl
 constant_shape (Some (AccessIndex selector base)) = refl
 constant_shape (Some (Swizzle letters vector)) = refl
 constant_shape (Some (Logical circuit left right)) = refl
-constant_shape (Some (Request asking word xs ts)) = refl
+constant_shape (Some (Request word xs ts)) = refl
 constant_shape (Some Result) = refl
 constant_shape None = refl
 
@@ -101,14 +99,14 @@ emittable_shape (Some (Access base index)) = refl
 emittable_shape (Some (AccessIndex selector base)) = refl
 emittable_shape (Some (Swizzle letters vector)) = refl
 emittable_shape (Some (Logical circuit left right)) = refl
-emittable_shape (Some (Request asking word xs ts)) = refl
+emittable_shape (Some (Request word xs ts)) = refl
 emittable_shape (Some Result) = refl
 emittable_shape None = refl
 
 never_bound : (f : Function) (h : ℕ) (o : Option Expression) → is_emittable o ≡ false →
     binds_as f h o ≡ false
 never_bound f h (Some (Load p)) none = absurd cc
-never_bound f h (Some (Request a w xs es)) none = absurd cc
+never_bound f h (Some (Request w xs es)) none = absurd cc
 never_bound f h (Some (Operator w xs)) none = absurd cc
 never_bound f h (Some (Logical j l r)) none = absurd cc
 never_bound f h (Some (Swizzle w v)) none = absurd cc
@@ -261,7 +259,7 @@ module _ (m : Module) (info : ModuleInfo) (f : ir_function.Function) (es : List 
       ap
       (λ b. binds_as shape h
       (Some
-      (if b then Request (asking op) (run_word op) xs no_constant else operator_shape op xs)))
+      (if b then Request (run_word op) xs no_constant else operator_shape op xs)))
       silent
       ∙ operator_bound shape h op xs
 

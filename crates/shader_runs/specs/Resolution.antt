@@ -233,7 +233,7 @@ own_targets operand (Some (Access b i)) = operand b ++ operand i
 own_targets operand (Some (AccessIndex x b)) = PartTarget x ∷ operand b
 own_targets operand (Some (Logical j a b)) = LogicTarget j ∷ (operand a ++ operand b)
 own_targets operand (Some (Swizzle letters v)) = PartTarget (MemberNamed letters) ∷ operand v
-own_targets operand (Some (Request a word xs es)) =
+own_targets operand (Some (Request word xs es)) =
     WordTarget word ∷ operands_targets_then operand xs (constants_targets es)
 own_targets operand _ = no_value
 
