@@ -144,7 +144,7 @@ module _ (members : Vec StructMember Global) where
   offsets = expression.Literal (literal.I32 (pos 1)) ∷ expression.Splat vector.Bi 0 ∷ []
 
   sampled_at_zero : shape_of declared offsets 20
-      (expression.ImageSample 7 8 None 1 None (Some 1) level.Zero None false) ≡ Request Always
+      (expression.ImageSample 7 8 None 1 None (Some 1) level.Zero None false) ≡ Request
       (codes "textureSampleLevel") (7 ∷ 8 ∷ 1 ∷ [])
       (constant (Fixed (Opaque (codes "f32") 0))
       (constant (Constructed (codes "vec2") (OtherType (codes "T"))
@@ -153,7 +153,7 @@ module _ (members : Vec StructMember Global) where
 
   -- compared, level zero is told by the word alone, and an offset that is no constant is an operand
   compared_at_zero : shape_of declared [] 20
-      (expression.ImageSample 6 8 None 1 None (Some 3) level.Zero (Some 0) false) ≡ Request Always
+      (expression.ImageSample 6 8 None 1 None (Some 3) level.Zero (Some 0) false) ≡ Request
       (codes "textureSampleCompareLevel") (6 ∷ 8 ∷ 1 ∷ 0 ∷ 3 ∷ []) no_constant
   compared_at_zero = refl
 

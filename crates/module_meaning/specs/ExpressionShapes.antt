@@ -103,19 +103,6 @@ abbrev pub constant_shape : Option ConstantTree → Expression
 constant_shape t = Constant (unwrap_or t (Fixed (Truth false)))
 
 -- ---- operators
--- it asks an image
-abbrev pub asks_an_image : TableOperator → Bool
-asks_an_image (Sample level compares clamped arrayed offset) = true
-asks_an_image (Gather component level compares clamped arrayed offset) = true
-asks_an_image (Texel arrayed texel) = true
-asks_an_image (ImageSize of_level) = true
-asks_an_image (CountOf what) = true
-asks_an_image _ = false
-
--- Operations on images are always written; other requests, which read, only where they count.
-abbrev pub asking : TableOperator → AskingRule
-asking operator = if asks_an_image operator then Always else WhenCounted
-
 -- what an operator over operands evaluates: a request, where it asks for an event
 abbrev pub applied_shape : TableOperator → List ℕ → Expression
 applied_shape operator operands =
