@@ -4,7 +4,7 @@
 -- function below.
 use Rattle.std.specs.Prelude.{ℕ, ◌||◌, ◌+◌, Bool, true, false, List, [], ◌∷◌, ◌++◌, Option, Some}
 use Rattle.std.specs.Prelude.{None, codes, ⊤, ◌≡◌, unwrap_or, if◌then◌else◌}
-use Rattle.std.specs.Option.{option_to_list}
+use Rattle.std.specs.Option.{option_to_list, is_some}
 use Rattle.naga_ir.specs.declared.expression.SwizzleComponent.{SwizzleComponent}
 use Rattle.naga_ir.specs.declared.expression.SwizzleComponent.TheVariants as component
 use Rattle.naga_ir.specs.declared.types.CooperativeRole.{CooperativeRole}
@@ -271,6 +271,10 @@ operator_word (Splat size) = Some (vector_word size)
 operator_word (Convert spelling) = Some spelling
 operator_word (Reinterpret spelling) = Some (with_type (codes "bitcast") spelling)
 operator_word (WithoutForm what) = None
+
+-- a text can have it
+abbrev pub has_word : Operator → Bool
+has_word operator = is_some (operator_word operator)
 
 abbrev pub own_math_word : MathFunction → List ℕ
 own_math_word math.Inverse = codes " inverse"

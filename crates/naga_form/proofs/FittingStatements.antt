@@ -33,10 +33,10 @@ use Rattle.shader_runs.specs.Scope.{Naming}
 use Rattle.wgsl_text.specs.Expressions.{IsCallee}
 use Rattle.wgsl_text.specs.Types.{Named}
 use Rattle.wgsl_text.specs.Words.{IsIdentifier}
-use Rattle.naga_form.proofs.ActWords.{ballot_called, change_called, collective_called}
-use Rattle.naga_form.proofs.ActWords.{cooperative_store_called, source_called, texel_change_called}
-use Rattle.naga_form.proofs.ActWords.{texel_store_called, trace_called, uniform_load_called}
-use Rattle.naga_form.proofs.Operators.{atomic_store_called}
+use Rattle.module_meaning.specs.OperatorTable.{AtomicChange, AtomicStore, Ballot, Collective}
+use Rattle.module_meaning.specs.OperatorTable.{CooperativeStore, FromSubgroup, TexelChange}
+use Rattle.module_meaning.specs.OperatorTable.{TexelStore, TraceRay, UniformLoad, has_word}
+use Rattle.naga_form.proofs.CalledWords.{word_is_called}
 use Rattle.naga_form.proofs.Switches.{HasOneDefault, has_one_default}
 
 -- ---- statements without blocks
@@ -83,33 +83,39 @@ module _ (n : Naming) (a : ExpressionContext) (callees expressions : ℕ)
   line_fits (store pointer value) within has = by (is_atomic_pointer a pointer)
     where
       by : (to_atomic : Bool) → ShapeFits n (store_shape to_atomic pointer value)
-      by true = (atomic_store_called, tt)
+      by true = (word_is_called AtomicStore refl refl refl, tt)
       by false = tt
-  line_fits (image_store image coordinate array_index value) within has = (texel_store_called (is_some array_index), tt)
+  line_fits (image_store image coordinate array_index value) within has = 
+      (word_is_called (TexelStore (is_some array_index)) refl refl refl, tt)
   line_fits (atomic pointer fun value outcome) within has =
       let one = and_parts (nat_lt pointer expressions) _ within in
       let two = and_parts (atomic_in_range expressions fun) _ one.1 in
       let three = and_parts (nat_lt value expressions) (is_below expressions outcome) two.1 in
-      (change_called (change_of fun), result_if outcome three.1)
+      (word_is_called (AtomicChange (change_of fun)) refl refl refl, result_if outcome three.1)
   line_fits (image_atomic image coordinate array_index fun value) within has =
-      (texel_change_called (change_of fun) (is_some array_index) has, tt)
+      (word_is_called (TexelChange (change_of fun) (is_some array_index)) refl refl has, tt)
   line_fits (work_group_uniform_load pointer outcome) within has =
-      (uniform_load_called, result_is outcome (and_parts (nat_lt pointer expressions) (nat_lt outcome expressions) within).1)
+      (word_is_called UniformLoad refl refl refl, result_is outcome (and_parts (nat_lt pointer expressions) (nat_lt outcome expressions) within).1)
   line_fits (call function arguments outcome) within has =
       let one = and_parts (nat_lt function callees) _ within in
       let two = and_parts (all_below expressions arguments) (is_below expressions outcome) one.1 in
       ((functions function (ltb-true function callees one.0)).word, result_if outcome two.1)
   line_fits (ray_query query) within has = absurd cc
   line_fits (subgroup_ballot outcome predicate) within has =
-      (ballot_called (is_some predicate), result_is outcome (and_parts (nat_lt outcome expressions) (is_below expressions predicate) within).0)
+      (word_is_called (Ballot (is_some predicate)) refl refl refl, result_is outcome (and_parts (nat_lt outcome expressions) (is_below expressions predicate) within).0)
   line_fits (subgroup_gather mode argument outcome) within has =
       let one = and_parts (gather_in_range expressions mode) _ within in
       let two = and_parts (nat_lt argument expressions) (nat_lt outcome expressions) one.1 in
-      (source_called (source_of mode), result_is outcome two.1)
+      (word_is_called (FromSubgroup (source_of mode)) refl refl refl, result_is outcome two.1)
   line_fits (subgroup_collective_operation op how argument outcome) within has =
-      (collective_called op how has, result_is outcome (and_parts (nat_lt argument expressions) (nat_lt outcome expressions) within).1)
-  line_fits (cooperative_store target place) within has = (cooperative_store_called place.row_major, tt)
-  line_fits (ray_pipeline_function fun) within has = (trace_called, tt)
+      (word_is_called (Collective op how) refl refl has, result_is outcome (and_parts (nat_lt argument expressions) (nat_lt outcome expressions) within).1)
+  line_fits (cooperative_store target place) within has =
+      (word_is_called (CooperativeStore place.row_major) refl refl (by place.row_major), tt)
+    where
+      by : (row_major : Bool) → has_word (CooperativeStore row_major) ≡ true
+      by true = refl
+      by false = refl
+  line_fits (ray_pipeline_function fun) within has = (word_is_called TraceRay refl refl refl, tt)
   line_fits _ within has = tt
 
   module _ (m : Module) (f : Function) (known : List TypeResolution) where

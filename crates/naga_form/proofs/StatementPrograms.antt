@@ -51,7 +51,7 @@ use Rattle.naga_form.specs.Expressions.{value_form, value_forms}
 use Rattle.naga_form.specs.Statements.{act_line, barrier_lines, cases_form, label_form, let_form}
 use Rattle.naga_form.specs.Statements.{lets_form, line_form, lines_form, loop_form, optional_form}
 use Rattle.naga_form.specs.Statements.{return_line, shape_form, then_if}
-use Rattle.naga_form.proofs.ActWords.{AreCalled, barriers_called}
+use Rattle.naga_form.proofs.CalledWords.{AreCalled, barriers_called}
 use Rattle.naga_form.proofs.Fits.{named_by_all_is, named_by_is, named_is, named_one}
 use Rattle.naga_form.proofs.FittingStatements.{AllFit, CasesFit, ResultIs, ShapeFits, StatementFits}
 use Rattle.naga_form.proofs.ModulePlaces.{expression_is}
