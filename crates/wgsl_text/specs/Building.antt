@@ -2,7 +2,7 @@
 --
 -- Throughout, w is a word, t a type or a callee, n a number, e an expression (es are several), and
 -- s the name of a struct.
-use Rattle.std.specs.Prelude.{◌≡◌, ℕ, ◌<◌, List, ◌∷◌, codes, IsTrue}
+use Rattle.std.specs.Prelude.{◌≡◌, ℕ, ◌<◌, Bool, List, ◌∷◌, codes, IsTrue}
 use Rattle.wgsl_text.specs.Literals.{IsPlainNumber}
 use Rattle.wgsl_text.specs.Types.{TypeSpecifier, Named, Template, NoTemplateArguments, TypeArgument}
 use Rattle.wgsl_text.specs.Types.{SizeArgument}
