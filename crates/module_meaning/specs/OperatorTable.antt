@@ -257,10 +257,10 @@ operator_word (Ballot predicate) = Some (codes "subgroupBallot")
 operator_word (Collective op collective) = collective_word op collective
 operator_word (FromSubgroup source) = Some (source_word source)
 operator_word (Barrier control kept) = Some (barrier_word kept)
-operator_word (CooperativeLoad false spelling) = Some (with_type (codes "coopLoad") spelling)
-operator_word (CooperativeLoad true spelling) = Some (with_type (codes "coopLoadT") spelling)
-operator_word (CooperativeStore false) = Some (codes "coopStore")
-operator_word (CooperativeStore true) = Some (codes "coopStoreT")
+operator_word (CooperativeLoad row_major spelling) =
+    Some (with_type (if row_major then codes "coopLoadT" else codes "coopLoad") spelling)
+operator_word (CooperativeStore row_major) =
+    Some (if row_major then codes "coopStoreT" else codes "coopStore")
 operator_word CooperativeMultiplyAdd = Some (codes "coopMultiplyAdd")
 operator_word TraceRay = Some (codes "traceRay")
 operator_word RayStep = None
