@@ -1,6 +1,6 @@
 //! What standard compilers ask for extensions.
 
-ghost use Rattle.std.specs.Prelude.{◌≡◌, slice_get};
+ghost use Rattle.std.specs.Prelude.{◌≡◌, ◌||◌, false, slice_get};
 ghost use Rattle.std.specs.List.{enumerate_from, list_any};
 ghost use Rattle.std.specs.Option.{option_map_or};
 ghost use Rattle.module_meaning.specs.Conversions.{converted_scalar};
@@ -115,11 +115,14 @@ fn keeps_subgroups(barrier: Barrier) -> bool
     barrier.contains(Barrier::SUB_GROUP)
 }
 
-/// Whether the text of the module spells a type that is over `f16`.
+/// Whether the text of the module may spell a type that is over `f16`, or have a literal of one.
 pub fn spells_halves(module: &Module, info: &ModuleInfo) -> bool
     ensures { result ≡ spells_halves «module».now info.now }
 {
     if are_over_halves(&module.types) {
+        return true;
+    }
+    if values_over_halves(&info.const_expression_types) {
         return true;
     }
     functions_spell_halves(module, info) || entry_points_spell_halves(module, info)
@@ -130,6 +133,17 @@ fn are_over_halves(types: &UniqueArena<Type_>) -> bool
 {
     for (_, ty) in types.iter() {
         if is_over_halves(&ty.inner) {
+            return true;
+        }
+    }
+    false
+}
+
+fn values_over_halves(known: &[TypeResolution]) -> bool
+    ensures { result ≡ list_any value_is_over_halves known.now }
+{
+    for ty in known {
+        if value_is_over_halves(ty) {
             return true;
         }
     }
@@ -277,7 +291,8 @@ fn makes_halves(inner: &TypeInner, kind: ScalarKind, convert: Option<u8>) -> boo
     }
 }
 
-fn converted_scalar(scalar: Scalar, kind: ScalarKind, convert: Option<u8>) -> Scalar
+/// The scalar that one is converted to: of this kind, and of the width that is told or its own.
+pub fn converted_scalar(scalar: Scalar, kind: ScalarKind, convert: Option<u8>) -> Scalar
     ensures { result ≡ converted_scalar scalar kind convert }
 {
     Scalar {
