@@ -35,7 +35,7 @@ use Rattle.naga_form.specs.TypeTrees.{resolution_tree}
 use Rattle.naga_form.proofs.SameValues.{TypesAreCounted, IsFit, spelling_of, tree_is}
 
 -- an operator that takes no type
-untyped_is_sound : (o : Operator) → is_untyped o ≡ true → TypeIsSound o
+pub untyped_is_sound : (o : Operator) → is_untyped o ≡ true → TypeIsSound o
 untyped_is_sound (CooperativeLoad row_major spelling) u = absurd cc
 untyped_is_sound (Construct spelling components) u = absurd cc
 untyped_is_sound (Convert spelling) u = absurd cc
