@@ -395,10 +395,10 @@ module _ (m : Module) (info : ModuleInfo) (types : TypesAreFit m) (p : shapes.Mo
       (matrix_load_free d.context columns rows role place) (cooperative_operands place)
   words h (expression.Access base index) = tt
   words h (expression.Swizzle size vector pattern) = tt
-  words h (expression.ImageQuery image query) =
-      own_words shapes.Result tt (Some (query_operator query))
-      (own_is_untyped (expression.ImageQuery image query)) (of_no_statement query)
-      (image ∷ query_operands query)
+  words h (expression.ImageQuery image asked) =
+      own_words shapes.Result tt (Some (query_operator asked))
+      (own_is_untyped (expression.ImageQuery image asked)) (of_no_statement asked)
+      (image ∷ query_operands asked)
     where
       of_no_statement : (q : ImageQuery) → is_of_statements (query_operator q) ≡ false
       of_no_statement (query.Size level) = refl

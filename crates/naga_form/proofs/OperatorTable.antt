@@ -410,16 +410,19 @@ found : (test : Operator → Bool) (w : List ℕ) (os : List Operator) (o : Oper
     list_all test os ≡ true → first_with w os ≡ Some o → (w ≡ run_word o) × (test o ≡ true)
 found test w [] o all e = absurd cc
 found test w (x ∷ os) o all e =
-    by (bytes_eq w (run_word x)) refl (and_parts (test x) (list_all test os) all) e
+    by (bytes_eq w (run_word x)) refl (and_parts (test x) (list_all test os) all)
+    (found test w os o) e
   where
     by : (b : Bool) → bytes_eq w (run_word x) ≡ b → (test x ≡ true) × (list_all test os ≡ true) →
+        (list_all test os ≡ true → first_with w os ≡ Some o →
+        (w ≡ run_word o) × (test o ≡ true)) →
         (if b then Some x else first_with w os) ≡ Some o → (w ≡ run_word o) × (test o ≡ true)
-    by true same parts e =
+    by true same parts later e =
         let is = same_Some x o e in (
           (bytes_eq-Decides w (run_word x)).0 same ∙ ap run_word is,
           subst (λ y. test y ≡ true) is parts.0,
         )
-    by false same parts e = found test w os o parts.1 e
+    by false same parts later e = later parts.1 e
 
 -- One that takes no type has the word of the operator that stands for it, which passes what all of
 -- the table pass.

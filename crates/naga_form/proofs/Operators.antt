@@ -527,11 +527,11 @@ notated a t m es (expression.CooperativeLoad columns rows role place) written ha
     (operator_type a t (expression.CooperativeLoad columns rows role place)) formed.0 formed.1))
     formed.2
 notated a t m es expression.RayQueryProceedResult written has formed = absurd cc
-notated a t m es (expression.ImageQuery image query) written has formed =
-    own_notated (Some (query_operator query)) (image ∷ query_operands query)
-    (own_is_untyped (expression.ImageQuery image query)) written (query_takes query)
+notated a t m es (expression.ImageQuery image asked) written has formed =
+    own_notated (Some (query_operator asked)) (image ∷ query_operands asked)
+    (own_is_untyped (expression.ImageQuery image asked)) written (query_takes asked)
   where
-    query_takes : (q : ImageQuery) → takes (query_operator q) (image ∷ query_operands query) ≡ true
+    query_takes : (q : ImageQuery) → takes (query_operator q) (image ∷ query_operands q) ≡ true
     query_takes (query.Size level) = refl
     query_takes _ = refl
 notated a t m es e written has formed =
