@@ -3,7 +3,7 @@
 --
 -- Throughout, m is a module, f a function, es are its expressions, e is one, k is what is known of
 -- one, h is a handle, a an argument, r a result, s are scalars, and t is a type.
-use Rattle.std.specs.Prelude.{ℕ, zero, suc, Bool, true, false, ◌&&◌, ◌||◌, not, List, length, ◌==◌}
+use Rattle.std.specs.Prelude.{ℕ, zero, suc, Bool, true, false, ◌&&◌, ◌||◌, List, length}
 use Rattle.std.specs.Prelude.{Option, nat_lt, slice_get}
 use Rattle.std.specs.List.{list_all}
 use Rattle.std.specs.Option.{option_map_or, is_some}
@@ -15,7 +15,6 @@ use Rattle.naga_ir.specs.declared.expression.Expression.TheVariants.{Cooperative
 use Rattle.naga_ir.specs.declared.expression.Expression.TheVariants.{RayQueryProceedResult}
 use Rattle.naga_ir.specs.declared.expression.Literal.{Literal as LiteralValue}
 use Rattle.naga_ir.specs.declared.expression.Literal.TheVariants as literal
-use Rattle.naga_ir.specs.declared.module.Function.{Function}
 use Rattle.naga_ir.specs.declared.module.Module.{Module}
 use Rattle.naga_ir.specs.declared.types.CooperativeRole.{CooperativeRole}
 use Rattle.naga_ir.specs.declared.types.CooperativeSize.{CooperativeSize}
@@ -31,11 +30,9 @@ use Rattle.module_meaning.specs.AlikeTypes.{is_spelled}
 use Rattle.module_meaning.specs.Conversions.{conversion_target}
 use Rattle.module_meaning.specs.ExpressionOperators.{has_parts, own_operator, scalar_behind}
 use Rattle.module_meaning.specs.OperatorTable.{has_word}
-use Rattle.module_meaning.specs.Ranges.{all_placed}
 use Rattle.module_meaning.specs.Sampling.{own_offset_is_written, sampling_is_written}
-use Rattle.module_meaning.specs.Undeclared.{is_spellable, is_undeclared, part_is_written_at}
+use Rattle.module_meaning.specs.Undeclared.{is_spellable, part_is_written_at}
 use Rattle.module_meaning.specs.Undeclared.{whole_known}
-use Rattle.naga_words.specs.Spelling.{is_struct}
 
 -- ---- literals
 -- the literal is of `bool` or of one of these integer types, or a numeral of a floating-point type

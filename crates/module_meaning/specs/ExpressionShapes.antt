@@ -24,8 +24,8 @@ use Rattle.module_meaning.specs.ExpressionOperators.{ExpressionContext, applied_
 use Rattle.module_meaning.specs.ExpressionOperators.{constructor, part_operator}
 use Rattle.module_meaning.specs.ExpressionOperators.{type_with, load_operator, level_of}
 use Rattle.module_meaning.specs.Literals.{literal_value}
-use Rattle.module_meaning.specs.OperatorTable.{Operator as TableOperator, Splat, Sample, Gather}
-use Rattle.module_meaning.specs.OperatorTable.{Texel, ImageSize, CountOf, WithoutForm, PartAt, asks}
+use Rattle.module_meaning.specs.OperatorTable.{Operator as TableOperator, Splat}
+use Rattle.module_meaning.specs.OperatorTable.{WithoutForm, PartAt, asks}
 use Rattle.module_meaning.specs.OperatorTable.{run_word, is_zero_by_name, zero_is_written}
 use Rattle.module_meaning.specs.Shapes.{operator_shape}
 use Rattle.module_meaning.specs.TypeIdentity.{vector_number}

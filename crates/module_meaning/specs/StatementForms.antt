@@ -3,7 +3,7 @@
 -- falls through. The labels of an empty case that falls through are joined with the next one's.
 --
 -- Throughout, b is the rest of a block, and cs are the further cases.
-use Rattle.std.specs.Prelude.{Bool, true, false, ◌&&◌, ◌||◌, not}
+use Rattle.std.specs.Prelude.{Bool, true, ◌&&◌, ◌||◌, not}
 use Rattle.std.specs.Option.{option_map_or}
 use Rattle.naga_ir.specs.StatementTree.{SimpleStatement, StatementTree, simple, block, branch}
 use Rattle.naga_ir.specs.StatementTree.{switch, loop, BlockTree, no_statements, statement}

@@ -2,7 +2,7 @@
 -- grammar.
 use Rattle.std.proofs.Common.{◌≡◌, ℕ, Bool, true, false, List, [], ◌∷◌, Option, Some, None}
 use Rattle.std.proofs.Common.{refl, sym, ap, subst, ◌∙◌, length, codes, ◌++◌}
-use Rattle.std.specs.Prelude.{IsTrue, if◌then◌else◌, unwrap_or, ◌||◌}
+use Rattle.std.specs.Prelude.{if◌then◌else◌, unwrap_or}
 use Rattle.std.specs.List.{AllByRecursion}
 use Rattle.std.specs.Option.{option_map, option_map_or, option_and_then}
 use Rattle.naga_ir.specs.declared.expression.CooperativeData.{CooperativeData}

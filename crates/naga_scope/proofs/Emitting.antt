@@ -23,9 +23,8 @@ use Rattle.shader_runs.specs.Program.{operands_of, from}
 use Rattle.shader_runs.specs.Program.{is_pure, is_emittable}
 use Rattle.shader_runs.specs.Scope as runs
 use Rattle.shader_runs.specs.Scope.{Naming, Handles, is_new, usable_all}
-use Rattle.shader_runs.specs.Scope.{with_emitted_handle, after_one, after_emit, named_after}
+use Rattle.shader_runs.specs.Scope.{with_emitted_handle, after_one}
 use Rattle.shader_runs.specs.Scope.{may_emit}
-use Rattle.shader_runs.specs.Scope.{may_emit_all}
 use Rattle.module_meaning.specs.ExpressionLabels.{label_of}
 use Rattle.module_meaning.specs.Names.{numbered_name}
 use Rattle.naga_form.proofs.Fits.{named_is}

@@ -1,7 +1,7 @@
 -- The shapes of a function's expressions have the kinds and the operands of these, and a `let` binds
 -- what is used as often as its kind asks.
-use Rattle.std.proofs.Common.{◌≡◌, ℕ, Bool, ◌||◌, true, false, List, [], ◌∷◌, map}
-use Rattle.std.proofs.Common.{length, get_or, nat_lt, Option, Some, None, refl, sym, ap, ◌∙◌}
+use Rattle.std.proofs.Common.{◌≡◌, ℕ, Bool, ◌&&◌, ◌||◌, true, false, List, [], ◌∷◌}
+use Rattle.std.proofs.Common.{nat_lt, Option, Some, None, refl, sym, ap, ◌∙◌}
 use Rattle.std.specs.Prelude.{slice_get, if◌then◌else◌}
 use Rattle.std.specs.Option.{is_some, option_map_or}
 use Rattle.naga_ir.specs.Kinds.{kind_of}
@@ -17,44 +17,30 @@ use Rattle.naga_info.specs.declared.info.ModuleInfo.{ModuleInfo}
 use Rattle.shader_runs.specs.Program.{Expression, Load, Operator, Access, AccessIndex, Logical}
 use Rattle.shader_runs.specs.Program.{Argument, Constant, Global, Local, Request, Result, Swizzle}
 use Rattle.shader_runs.specs.Program.{operands_of}
-use Rattle.shader_runs.specs.Program.{Function, expression_of, is_counted, is_named, binds_as, binds}
+use Rattle.shader_runs.specs.Program.{Function, expression_of, is_counted, is_named, binds}
 use Rattle.shader_runs.specs.Scope.{Handles, Availability, is_present, is_constant_leaf}
 use Rattle.shader_runs.specs.Scope.{usable, usable_as}
 use Rattle.shader_runs.specs.Value.{Selector}
-use Rattle.naga_info.specs.declared.info.TypeResolution.TheVariants.{Handle}
-use Rattle.module_meaning.specs.ExpressionOperators.{ExpressionContext, cast, constructor}
-use Rattle.module_meaning.specs.ExpressionOperators.{type_known}
+use Rattle.module_meaning.specs.ExpressionOperators.{ExpressionContext}
 use Rattle.module_meaning.specs.ExpressionOperators.{is_atomic_pointer}
-use Rattle.module_meaning.specs.Shapes.{operator_shape}
-use Rattle.module_meaning.specs.OperatorTable.{asks, run_word}
-use Rattle.shader_runs.specs.Program.{no_constant}
-use Rattle.module_meaning.proofs.ExpressionShapes.{cast_asks, constructor_asks}
 use Rattle.module_meaning.specs.ExpressionShapes.{Declared, shape_of, applied_or, applied_shape}
 use Rattle.module_meaning.specs.ExpressionShapes.{part_selector, part_shape}
-use Rattle.module_meaning.specs.BindingCounts.{is_bound_by_uses}
+use Rattle.module_meaning.specs.BindingCounts.{is_bound_by_uses, uses_of}
 use Rattle.module_meaning.specs.FunctionShapes.{function_shape}
 use Rattle.module_meaning.proofs.BindingCounts.{bound_by_uses_at}
 use Rattle.module_meaning.specs.OperatorTable.{Operator as TableOperator, AtomicLoad, BinarySign}
-use Rattle.module_meaning.specs.OperatorTable.{CooperativeLoad, MatrixLoad, PartAt, WithoutForm}
-use Rattle.naga_ir.specs.declared.types.CooperativeRole.{CooperativeRole}
-use Rattle.naga_ir.specs.declared.types.CooperativeSize.{CooperativeSize}
+use Rattle.module_meaning.specs.OperatorTable.{CooperativeLoad}
 use Rattle.module_meaning.specs.ShapeKinds.{shape_kind}
 use Rattle.module_meaning.specs.ExpressionContexts.{declared, types_known}
 use Rattle.module_meaning.specs.Types.{declared_type}
 use Rattle.module_meaning.proofs.ExpressionShapes.{kind_shaped, shape_kinds, shape_operands}
-use Rattle.module_meaning.proofs.Shapes.{operator_bound}
 use Rattle.naga_form.proofs.Fits.{named_is, mapped_length}
 use Rattle.module_meaning.specs.ExpressionLabels.{label_of}
 use Rattle.naga_form.proofs.ModulePlaces.{expression_at, no_expression_at}
 use Rattle.naga_form.proofs.WellFormed.{applied_any}
 use Rattle.naga_scope.specs.Availabilities.{kind_at, operands_at, is_pure_kind, is_constant_kind}
-use Rattle.naga_scope.specs.Availabilities.{is_emittable_kind, is_image_operation, usable_by}
-use Rattle.module_meaning.specs.ExpressionOperators.{is_depth_image, level_of, query_operator}
-use Rattle.module_meaning.specs.ExpressionOperators.{sample_operator}
-use Rattle.naga_ir.specs.Operands.{cooperative_operands, query_operands}
+use Rattle.naga_scope.specs.Availabilities.{is_emittable_kind, usable_by}
 use Rattle.naga_ir.specs.declared.expression.ImageQuery.{ImageQuery}
-use Rattle.naga_ir.specs.declared.expression.ImageQuery.TheVariants as query
-use Rattle.naga_ir.specs.declared.expression.SwizzleComponent.{SwizzleComponent}
 use Rattle.shader_runs.specs.Program.{is_emittable, is_pure}
 
 -- ---- the runs' words for shapes are tests of their kind

@@ -6,9 +6,7 @@ ghost use Rattle.module_meaning.specs.ExpressionOperators.{query_operator};
 ghost use Rattle.module_meaning.specs.OperatorTable.{Derivative, relational_word, run_word};
 ghost use Rattle.naga_scope.specs.Forms.{called_word};
 
-use naga_ir::{
-    DerivativeAxis, DerivativeControl, Expression, ImageQuery, RelationalFunction,
-};
+use naga_ir::{DerivativeAxis, DerivativeControl, Expression, ImageQuery, RelationalFunction};
 use naga_words::words::vector_str;
 use wgsl_words::TryToWgsl;
 
@@ -24,7 +22,13 @@ pub fn called_str(expression: &Expression) -> Option<&'static str>
         Expression::Math { fun, .. } => fun.try_to_wgsl(),
         Expression::Relational { fun, .. } => relational_function_str(*fun),
         Expression::Derivative { axis, ctrl, .. } => Some(derivative_str(*axis, *ctrl)),
-        Expression::ImageLoad { sample, level, .. } => texel_str(sample.is_some() && level.is_some()),
+        Expression::ImageLoad { sample, level, .. } => {
+            if sample.is_some() && level.is_some() {
+                None
+            } else {
+                Some("textureLoad")
+            }
+        }
         Expression::ImageQuery { query, .. } => Some(image_query_str(*query)),
         Expression::ArrayLength(_) => Some("arrayLength"),
         Expression::CooperativeMultiplyAdd { .. } => Some("coopMultiplyAdd"),
