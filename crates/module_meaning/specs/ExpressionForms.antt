@@ -12,6 +12,7 @@ use Rattle.naga_ir.specs.declared.expression.Expression.TheVariants.{Literal, Co
 use Rattle.naga_ir.specs.declared.expression.Expression.TheVariants.{GlobalVariable, ZeroValue}
 use Rattle.naga_ir.specs.declared.expression.Expression.TheVariants.{Compose, Splat, AccessIndex, As}
 use Rattle.naga_ir.specs.declared.expression.Expression.TheVariants.{CooperativeLoad, ImageSample}
+use Rattle.naga_ir.specs.declared.expression.Expression.TheVariants.{ImageQuery}
 use Rattle.naga_ir.specs.declared.expression.Expression.TheVariants.{RayQueryProceedResult}
 use Rattle.naga_ir.specs.declared.expression.Literal.{Literal as LiteralValue}
 use Rattle.naga_ir.specs.declared.expression.Literal.TheVariants as literal
@@ -130,6 +131,7 @@ expression_is_written m es
     sampling_is_written gather level (is_some depth_ref) clamp
 expression_is_written m es (CooperativeLoad columns rows role place) =
     known_passes m.types es (loads_matrix m.types columns rows role) place.pointer
+expression_is_written m es (ImageQuery image query) = true
 expression_is_written m es RayQueryProceedResult = false
 expression_is_written m es e = option_map_or has_word (own_operator e) true
 

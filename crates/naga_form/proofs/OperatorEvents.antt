@@ -16,7 +16,7 @@ use Rattle.wgsl_text.specs.Reading.{type_layout}
 use Rattle.wgsl_text.specs.Requests.{request_words, is_request}
 use Rattle.module_meaning.specs.OperatorTable.{Operator, UnarySign, Sample, Gather, Texel}
 use Rattle.module_meaning.specs.OperatorTable.{OnlyTexel, Automatic, Zero, CooperativeLoad}
-use Rattle.module_meaning.specs.OperatorTable.{CooperativeStore, Construct, Convert, Reinterpret}
+use Rattle.module_meaning.specs.OperatorTable.{Construct, Convert, Reinterpret}
 use Rattle.module_meaning.specs.OperatorTable.{with_type, operator_word, own_word, run_word}
 use Rattle.module_meaning.specs.OperatorTable.{one_word, asks, is_untyped, SpellsAType}
 use Rattle.module_meaning.specs.OperatorTable.{TypeIsSound, WithoutForm, ValueOf}
@@ -36,10 +36,6 @@ keeps_text (Gather c Automatic compares clamped arrayed offset) = refl
 keeps_text (Gather c _ compares clamped arrayed offset) = refl
 keeps_text (Texel arrayed OnlyTexel) = refl
 keeps_text (Texel arrayed _) = refl
-keeps_text (CooperativeLoad true t) = refl
-keeps_text (CooperativeLoad false t) = refl
-keeps_text (CooperativeStore true) = refl
-keeps_text (CooperativeStore false) = refl
 keeps_text _ = refl
 
 pub keeps_asking : (o : Operator) → asks (one_word o) ≡ asks o
