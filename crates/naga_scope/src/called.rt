@@ -48,7 +48,7 @@ fn relational_function_str(fun: RelationalFunction) -> Option<&'static str>
 }
 
 /// The word of a derivative.
-fn derivative_str(axis: DerivativeAxis, control: DerivativeControl) -> &'static str
+pub fn derivative_str(axis: DerivativeAxis, control: DerivativeControl) -> &'static str
     ensures { result.now ≡ run_word (Derivative axis control) }
 {
     match (axis, control) {
@@ -65,7 +65,7 @@ fn derivative_str(axis: DerivativeAxis, control: DerivativeControl) -> &'static 
 }
 
 /// What asks an image for its size or for one of its counts.
-fn image_query_str(query: ImageQuery) -> &'static str
+pub fn image_query_str(query: ImageQuery) -> &'static str
     ensures { result.now ≡ run_word (query_operator query) }
 {
     match query {
