@@ -18,9 +18,7 @@ ghost use Rattle.naga_wgsl_fns.specs.Images.{is_sampled, offset_text, zero_text}
 
 use crate::functions::FunctionText;
 use naga_back::is_portable;
-use naga_ir::{
-    Expression, Handle, ImageClass, SampleLevel, SwizzleComponent, TypeInner,
-};
+use naga_ir::{Expression, Handle, ImageClass, SampleLevel, SwizzleComponent, TypeInner};
 use naga_scope::Scope;
 use naga_words::{Output, TextSink};
 use std::alloc::Global;
