@@ -3,14 +3,15 @@
 use Rattle.module_meaning.specs.Names.{TypesAreDistinguished}
 use Rattle.std.proofs.Common.{◌≡◌, ℕ, Bool, true, false, List, [], ◌∷◌, refl, sym, ap, ◌∙◌, subst}
 use Rattle.std.proofs.Common.{Option, Some, None, map, drop, if◌then◌else◌, nat_eq}
-use Rattle.std.specs.Prelude.{IsTrue, slice_get, get_or, unwrap_or, ◌&&◌, ◌||◌, not}
-use Rattle.std.specs.Option.{option_and_then, option_map, option_map_or, is_none, is_some}
+use Rattle.std.specs.Prelude.{IsTrue, slice_get, get_or, unwrap_or, ◌&&◌}
+use Rattle.std.specs.Option.{option_map, option_map_or, is_some}
 use Rattle.std.proofs.lemmas.Bool.{false≢true, true≢false}
 use Rattle.std.proofs.lemmas.Option.{same_Some}
 use Rattle.naga_ir.specs.Operands.{expression_operands}
 use Rattle.naga_ir.specs.declared.expression.Expression.{Expression}
 use Rattle.naga_ir.specs.declared.expression.Expression.TheVariants as expression
 use Rattle.naga_ir.specs.declared.expression.ImageQuery.{ImageQuery}
+use Rattle.naga_ir.specs.declared.expression.ImageQuery.TheVariants as query
 use Rattle.naga_ir.specs.declared.expression.SwizzleComponent.{SwizzleComponent}
 use Rattle.naga_ir.specs.declared.module.Constant.{Constant}
 use Rattle.naga_ir.specs.declared.module.Function.{Function}
@@ -28,19 +29,16 @@ use Rattle.shader_runs.specs.Value.{Word, Spelled, PartWord, IndexWord, Selector
 use Rattle.std.specs.List.{flat_map}
 use Rattle.std.specs.Prelude.{take}
 use Rattle.module_meaning.specs.Accepted.{is_accepted}
-use Rattle.module_meaning.specs.AgreeingOperators.{Group, operator_key, own_key}
+use Rattle.module_meaning.specs.AgreeingOperators.{Group, operator_key}
 use Rattle.module_meaning.specs.AlikeTypes.{type_identity}
-use Rattle.module_meaning.specs.ExpressionOperators.{applied_operator, constructor, matrix_load, is_atomic_pointer}
-use Rattle.module_meaning.specs.ExpressionOperators.{own_operator, query_operator, sample_operator}
+use Rattle.module_meaning.specs.ExpressionOperators.{applied_operator, constructor, matrix_load, is_atomic_pointer, sample_operator, query_operator}
 use Rattle.module_meaning.specs.ExpressionShapes.{part_selector, letter}
 use Rattle.module_meaning.specs.ExpressionTypes.{wanted_type, LikeThis, only}
-use Rattle.module_meaning.specs.OperatorTable.{Operator, AtomicLoad, CooperativeLoad, MatrixLoad, WithoutForm, ValueOf, Construct, Level, run_word, one_word, asks, is_untyped}
+use Rattle.module_meaning.specs.OperatorTable.{Operator, AtomicLoad, CooperativeLoad, MatrixLoad, WithoutForm, ValueOf, Construct, Level, run_word, one_word, asks}
 use Rattle.module_meaning.specs.Types.{word_of_values}
 use Rattle.module_meaning.specs.TypeIdentity.{identity, identity_at, identity_code, Itself, Nothing, StructAt, word_of_unspelled_type, vector_number}
 use Rattle.module_meaning.specs.Types.{called_spelling, type_names, spelled_resolution}
 use Rattle.module_meaning.specs.Undeclared.{is_undeclared, is_undeclared_struct}
-use Rattle.module_meaning.proofs.OwnOperators.{own_is_untyped}
-use Rattle.module_meaning.proofs.ExpressionShapes.{query_asks}
 use Rattle.module_meaning.proofs.ExpressionForms.{called_spelled}
 use Rattle.naga_words.specs.Spelling.{is_struct}
 use Rattle.naga_form.proofs.AcceptedGroups.{agree}
@@ -52,41 +50,6 @@ use Rattle.naga_form.proofs.Signatures.{IsCalled, by_operator, by_zero, by_const
 use Rattle.naga_form.proofs.Signatures.{by_part, by_letters, IsOfExpression, IsOfZero}
 use Rattle.naga_form.proofs.Signatures.{group_context, declared_for}
 use Rattle.naga_form.proofs.TypedWords.{no_blank, share_a_word}
-
--- ---- operators that expressions apply by themselves
--- one that asks for nothing has a key
-key_or_asks : (o : Operator) → (not (is_untyped o) || (asks o || is_some (own_key o))) ≡ true
-key_or_asks _ = refl
-
-own_key_there : (o : Operator) → is_untyped o ≡ true → asks o ≡ false →
-    (k : List ℕ) × (own_key o ≡ Some k)
-own_key_there o untyped silent =
-    by (own_key o) refl
-    ((λ i. not (sym untyped i) || (sym silent i || is_some (own_key o))) ∙ key_or_asks o)
-  where
-    by : (key : Option (List ℕ)) → own_key o ≡ key → is_some (own_key o) ≡ true →
-        (k : List ℕ) × (own_key o ≡ Some k)
-    by (Some k) at is = (k, at)
-    by None at is = absurd (false≢true (sym (ap is_some at) ∙ is))
-
--- each has an operand
-abbrev has_one : List ℕ → Bool
-has_one [] = false
-has_one (h ∷ hs) = true
-
-operand_if : (e : Expression) → (is_none (own_operator e) || has_one (expression_operands e)) ≡ true
-operand_if _ = refl
-
-own_operand : (e : Expression) (o : Operator) → own_operator e ≡ Some o →
-    (h : ℕ) × (hs : List ℕ) × (expression_operands e ≡ h ∷ hs)
-own_operand e o is =
-    by (expression_operands e) refl
-    (sym (ap (λ p. is_none p || has_one (expression_operands e)) is) ∙ operand_if e)
-  where
-    by : (xs : List ℕ) → expression_operands e ≡ xs → has_one (expression_operands e) ≡ true →
-        (h : ℕ) × (hs : List ℕ) × (expression_operands e ≡ h ∷ hs)
-    by (h ∷ hs) at has = (h, hs, at)
-    by [] at has = absurd (false≢true (sym (ap has_one at) ∙ has))
 
 module _ (m : Module) (info : ModuleInfo) (accepted : IsTrue (is_accepted m info)) (distinguished : TypesAreDistinguished m) where
   -- how the runs call an expression: as a value of a type, from components or none; as an operator
@@ -115,6 +78,12 @@ module _ (m : Module) (info : ModuleInfo) (accepted : IsTrue (is_accepted m info
   samples_ask of_depths None level compares clamped arrayed offset = refl
   samples_ask of_depths (Some component) level compares clamped arrayed offset = refl
 
+  queries_ask : (q : ImageQuery) → asks (query_operator q) ≡ true
+  queries_ask (query.Size level) = refl
+  queries_ask query.NumLevels = refl
+  queries_ask query.NumLayers = refl
+  queries_ask query.NumSamples = refl
+
   loads_ask : (columns rows : CooperativeSize) (role : CooperativeRole) (row_major : Bool)
       (o : Option (List ℕ)) →
       asks (option_map_or (CooperativeLoad row_major) o
@@ -125,9 +94,17 @@ module _ (m : Module) (info : ModuleInfo) (accepted : IsTrue (is_accepted m info
   applied : (g : Group) (e : Expression) (o : Operator) → applied_operator (group_context m info g) e ≡ Some o → asks o ≡ false → Call g e (Spelled (run_word o))
   applied g (expression.Compose ty parts) o a silent = Composed ty _ _ (λ f. refl) refl refl (λ has. has) (ap (λ o. Spelled (run_word o)) (sym (same_Some _ o a)))
   applied g (expression.As operand kind convert) o a silent = Applied o _ a refl tt operand [] refl refl
-  applied g (expression.Access base index) o a silent = absurd cc
+  applied g (expression.Splat size value) o a silent = Applied o _ a refl tt value [] refl refl
   applied g (expression.AccessIndex base index) o a silent = Applied o _ a refl tt base [] refl refl
-  applied g (expression.Swizzle size vector pattern) o a silent = absurd cc
+  applied g (expression.Unary op operand) o a silent = Applied o _ a refl tt operand [] refl refl
+  applied g (expression.Binary op left right) o a silent = Applied o _ a refl tt left (right ∷ []) refl refl
+  applied g (expression.Select condition accept reject) o a silent = Applied o _ a refl tt reject (accept ∷ condition ∷ []) refl refl
+  applied g (expression.Relational fun argument) o a silent = Applied o _ a refl tt argument [] refl refl
+  applied g (expression.Math fun arg arg1 arg2 arg3) o a silent = Applied o _ a refl tt arg _ refl refl
+  applied g (expression.ArrayLength array) o a silent = Applied o _ a refl tt array [] refl refl
+  applied g (expression.CooperativeMultiplyAdd p q r) o a silent = Applied o _ a refl tt p (q ∷ r ∷ []) refl refl
+  applied g (expression.RayQueryGetIntersection query committed) o a silent = Applied o _ a refl tt query [] refl refl
+  applied g (expression.RayQueryVertexPositions query committed) o a silent = Applied o _ a refl tt query [] refl refl
   applied g (expression.Load pointer) o a silent = by (is_atomic_pointer (group_context m info g) pointer) a
     where
       by : (b : Bool) → (if b then Some AtomicLoad else None) ≡ Some o → Call g (expression.Load pointer) (Spelled (run_word o))
@@ -135,13 +112,12 @@ module _ (m : Module) (info : ModuleInfo) (accepted : IsTrue (is_accepted m info
       by false a = absurd cc
   applied g (expression.ImageSample image sampler gather coordinate array_index offset level depth_ref clamp) o a silent =
       absurd (asking o _ a (samples_ask _ gather _ _ _ _ _) silent)
-  applied g (expression.ImageQuery image q) o a silent = absurd (asking o (query_operator q) a (query_asks q) silent)
+  applied g (expression.ImageLoad image coordinate array_index sample level) o a silent = absurd (asking o _ a refl silent)
+  applied g (expression.ImageQuery image q) o a silent = absurd (asking o (query_operator q) a (queries_ask q) silent)
+  applied g (expression.Derivative axis control operand) o a silent = absurd (asking o _ a refl silent)
   applied g (expression.CooperativeLoad columns rows role place) o a silent =
       absurd (asking o (matrix_load (group_context m info g) columns rows role place) a (loads_ask columns rows role place.row_major _) silent)
-  applied g e o a silent =
-      let key = own_key_there o (own_is_untyped e o a) silent in
-      let operand = own_operand e o a in
-      Applied o key.0 a (ap (option_and_then own_key) a ∙ key.1) tt operand.0 operand.1 operand.2 refl
+  applied g _ o a silent = absurd cc
 
   zeroed : (g : Group) (e : Expression) (ty : ℕ) → e ≡ expression.ZeroValue ty → Call g e (Spelled (run_word (constructor (group_context m info g) (Handle ty) 0)))
   zeroed g e ty is = Zeroed ty (λ f. ap (wanted_type m f g.known) is) (ap expression_operands is) refl
