@@ -110,13 +110,12 @@ part_is_written m es base index =
     known_passes m.types es (has_parts m.types) base &&
     option_map_or (part_is_written_at m index) (whole_known m.types es base) true
 
--- An operator is written where it has a word. What it takes beside operands is written too: a type
--- that it spells has a form and names no struct that no text declares, a known index is that of
--- what has parts, and of such a struct that of a member that a text can name. What applies no
--- operator is written but for literals without a form, variables that the module has not, and a
--- step of a ray query; a constant without a name is written as its initialiser is, and the result
--- of a statement by its name alone. Anything else has no form: it is refused by name where it is
--- written, and let be where it is not.
+-- An operator is written where it has a word. A type that an expression spells has a form and names
+-- no struct that no text declares; a known index is that of what has parts, and of such a struct
+-- that of a member that a text can name. A constant without a name is written as its initialiser
+-- is, a literal where it has a form, a variable where the module has it, and the result of a
+-- statement, but of a step of a ray query, by its name. What has no form is refused by name where
+-- it is written, and let be where it is not.
 abbrev pub expression_is_written : Module → List ExpressionInfo → Expression → Bool
 expression_is_written m es (Literal value) = is_written_literal value
 expression_is_written m es (Constant handle) = constant_is_written m handle

@@ -5,8 +5,7 @@
 -- the bodies, and c, d and e what its constructor tells.
 use Rattle.std.specs.Prelude.{ℕ, zero, suc, ℤ, Bool, true, false, cond, List, [], ◌∷◌}
 use Rattle.std.specs.Prelude.{length, Option, Some, None, ◌||◌, nat_eq, get_or, slice_get}
-use Rattle.std.specs.Prelude.{◌&&◌}
-use Rattle.std.specs.Prelude.{drop}
+use Rattle.std.specs.Prelude.{drop, ◌&&◌}
 use Rattle.shader_runs.specs.Value.{Bytes, PartTypes, Selector, Value, ValueType, BooleanType}
 use Rattle.shader_runs.specs.Value.{PointerType, type_at}
 use Rattle.shader_runs.specs.Value.{ShortCircuit}
@@ -152,7 +151,7 @@ is_pure (Some (Logical j l r)) = true
 is_pure (Some (Swizzle w v)) = true
 is_pure _ = false
 
--- an Emit of a result, or of what is in scope everywhere, is refused
+-- an Emit may give it: it is no result, and not in scope everywhere
 abbrev pub is_emittable : Option Expression → Bool
 is_emittable (Some (Load p)) = true
 is_emittable (Some (Request w xs es)) = true
