@@ -3,7 +3,6 @@
 ghost use Rattle.std.specs.Prelude.{◌≡◌, ◌||◌, false, slice_get};
 ghost use Rattle.std.specs.List.{enumerate_from, list_any};
 ghost use Rattle.std.specs.Option.{option_map_or};
-ghost use Rattle.module_meaning.specs.Conversions.{converted_scalar};
 ghost use Rattle.module_meaning.specs.ExpressionForms.{known_passes};
 ghost use Rattle.module_meaning.specs.Halves.{converts_to_halves, function_spells_halves};
 ghost use Rattle.module_meaning.specs.Halves.{is_half, is_over_halves, makes_halves};
@@ -16,7 +15,7 @@ ghost use Rattle.module_meaning.specs.Subgroups.{statement_has_one};
 ghost use Rattle.naga_info.specs.Resolution.{inner_of};
 ghost use Rattle.naga_ir.specs.StatementViews.{cases_of, tree_of};
 
-use crate::type_parts::inner_of;
+use crate::type_parts::{converted_scalar, inner_of};
 use bitflags::Flags;
 use naga_info::{ExpressionInfo, FunctionInfo, ModuleInfo, TypeResolution};
 use naga_ir::{
@@ -288,16 +287,6 @@ fn makes_halves(inner: &TypeInner, kind: ScalarKind, convert: Option<u8>) -> boo
         TypeInner::Vector { scalar, .. } => is_half(converted_scalar(*scalar, kind, convert)),
         TypeInner::Matrix { scalar, .. } => is_half(converted_scalar(*scalar, kind, convert)),
         _ => false,
-    }
-}
-
-/// The scalar that one is converted to: of this kind, and of the width that is told or its own.
-pub fn converted_scalar(scalar: Scalar, kind: ScalarKind, convert: Option<u8>) -> Scalar
-    ensures { result ≡ converted_scalar scalar kind convert }
-{
-    Scalar {
-        kind,
-        width: convert.unwrap_or(scalar.width),
     }
 }
 

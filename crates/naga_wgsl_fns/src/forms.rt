@@ -19,15 +19,13 @@ ghost use Rattle.naga_wgsl_fns.specs.Refusals.{NamesItemsOf, pointed_scalar};
 use crate::error::{Error, custom, unimplemented};
 use crate::formless_constants::constant_without_form;
 use crate::lacking::lacking_scalar;
-use module_meaning::type_parts::known_has_parts;
+use module_meaning::type_parts::{converted_scalar, known_has_parts};
 use naga_info::{FunctionInfo, TypeResolution};
 use naga_ir::{
     Expression, Handle, Literal, MathFunction, Module, SampleLevel, Scalar, ScalarKind,
     SwizzleComponent, Type_, TypeInner, UniqueArena,
 };
-use naga_scope::{
-    FormlessStatement, ModuleTables, converted_scalar, sampling_has_form, scalar_behind,
-};
+use naga_scope::{FormlessStatement, ModuleTables, sampling_has_form, scalar_behind};
 use std::alloc::Global;
 use wgsl_words::TryToWgsl;
 
