@@ -14,6 +14,7 @@ mod known_function;
 mod named;
 pub mod plan;
 pub mod points;
+mod scope_faults;
 pub mod single_types;
 mod spelled;
 pub mod statements;
@@ -27,5 +28,6 @@ pub use forms::{converted_scalar, sampling_has_form, scalar_behind, whole_known}
 pub use functions::function_of;
 pub use plan::{Plan, PlanError};
 pub use points::{Availability, BoundName, Scope};
+pub use scope_faults::ScopeFault;
 pub use statements::FormlessStatement;
 pub use tables::ModuleTables;

@@ -2,13 +2,14 @@ use Rattle.std.proofs.Common.{◌≡◌, ◌+◌, ◌-◌, ◌≤◌, length}
 use Rattle.naga_scope.specs.KnownFunctions.{IsPointOf, handles_at, naming_of, shape_of}
 use Rattle.naga_scope.specs.Log.{Extends}
 use Rattle.shader_runs.specs.Program.{from}
-use Rattle.shader_runs.specs.Scope.{after_emit, may_emit_all, named_after_all}
-use Rattle.naga_scope.proofs.check.emit_holds.Given as goal
+use Rattle.shader_runs.specs.Scope.{after_emit, named_after_all}
+use Rattle.naga_scope.specs.ScopeChecks.{check_emit}
+use Rattle.naga_scope.proofs.check.check_emit.Given as goal
 
 abbrev pub invariant-loop-index : goal.invariant-loop-index
 invariant-loop-index l = record {
-  holds : may_emit_all (naming_of l.known) l.scope.named (from l.index (l.fn.range.end - l.index)) (handles_at l.scope)
-      ≡ may_emit_all (naming_of l.known) l.initial.scope.named (from l.fn.range.first (l.fn.range.end - l.fn.range.first)) (handles_at l.initial.scope);
+  check : check_emit (naming_of l.known) l.scope.named l.number (from l.index (l.fn.range.end - l.index)) (handles_at l.scope)
+      ≡ check_emit (naming_of l.known) l.initial.scope.named l.number (from l.fn.range.first (l.fn.range.end - l.fn.range.first)) (handles_at l.initial.scope);
   behind : after_emit (naming_of l.known) l.scope.named (from l.index (l.fn.range.end - l.index)) (handles_at l.scope)
       ≡ after_emit (naming_of l.known) l.initial.scope.named (from l.fn.range.first (l.fn.range.end - l.fn.range.first)) (handles_at l.initial.scope);
   named : named_after_all (shape_of l.known) (from l.index (l.fn.range.end - l.index)) l.scope.named
