@@ -2,6 +2,7 @@ pub mod Appends
 pub mod Attributes
 pub mod Bindings
 pub mod Constants
+pub mod Constructs
 pub mod DeclarationRefusals
 pub mod Errors
 pub mod Expressions

@@ -10,6 +10,7 @@ pub mod attributes;
 pub mod bindings;
 mod blocks;
 mod constants;
+pub mod construct;
 mod conversions;
 pub mod error;
 mod expressions;
@@ -40,13 +41,16 @@ pub mod undeclared;
 mod variables;
 
 pub use bindings::write_binding;
+pub use construct::Construct;
 pub use error::Error;
-pub use formless_declarations::{declaration_without_form, head_without_form};
+pub use formless_declarations::{
+    declaration_without_form, formless_construct, head_without_form,
+};
 pub use functions::write_planned;
 pub use global_expressions::write_global_expression;
 pub use implemented::to_wgsl_if_implemented;
 pub use items::write_function;
 pub use literal::write_literal;
-pub use plans::plan_of;
+pub use plans::{construct_of_names, construct_of_plan, plan_of};
 pub use sinks::put;
 pub use undeclared::names_undeclared;

@@ -15,17 +15,21 @@ ghost use Rattle.naga_scope.specs.Plans.{IsPlanOf};
 ghost use Rattle.naga_scope.specs.Tables.{AreTablesOf};
 ghost use Rattle.naga_back.specs.Flags.{annotates_types};
 ghost use Rattle.naga_wgsl_fns.specs.Refusals.{IsOfPlan, IsPlanRefusal, NamesItemsOf};
-ghost use Rattle.naga_wgsl_fns.specs.Refusals.{TellsPlanError};
+ghost use Rattle.naga_wgsl_fns.specs.Constructs.{Tells};
+ghost use Rattle.naga_wgsl_fns.specs.Refusals.{IsErrorOfNames, TellsPlanError};
+ghost use Rattle.naga_wgsl_fns.specs.declared.error.Error.TheVariants.{Memory};
+ghost use Rattle.naga_names.specs.declared.error.NamerError.TheVariants as namer_error;
 
-use crate::error::{Error, custom, names_error};
+use crate::construct::Construct;
+use crate::error::Error;
 use crate::forms::{statement_without_form, type_without_form, without_form};
 use naga_back::{FunctionType, WriterFlags, annotates_types};
 use naga_info::{FunctionInfo, ModuleInfo, TypeResolution};
 use naga_ir::{Function, Module};
-use naga_names::NameKey;
+use naga_names::{NameKey, NamerError};
 use naga_names::namer::Namer;
 use naga_scope::{ModuleTables, Plan, PlanError, function_of};
-use std::alloc::Global;
+use std::alloc::{AllocError, Global};
 use std::collections::HashMap;
 
 /// The plan of a function of an accepted module, by what is looked up of the module and the
@@ -96,19 +100,56 @@ fn error_of_plan(
     requires formless { IsOfPlan «module».now function.now info.now error }
     ensures { TellsPlanError «module».now function.now info.now error result }
 {
+    match construct_of_plan(module, tables, function, info, error) {
+        Ok(construct) => construct.to_error(alloc),
+        Err(error) => Error::Memory(error),
+    }
+}
+
+/// Why there is no plan of this function, or want of memory.
+pub fn construct_of_plan(
+    module: &Module,
+    tables: &ModuleTables,
+    function: &Function,
+    info: &FunctionInfo,
+    error: PlanError,
+) -> Result<Construct, AllocError>
+    requires known { AreKnownIn «module».now.types info.now }
+    requires ordered { GlobalsStandInOrder «module».now }
+    requires tables { AreTablesOf «module».now tables.now }
+    requires named { (h : ℕ) (e : Expression) → slice_get function.now.expressions h ≡ Some e →
+        NamesItemsOf «module».now e }
+    requires formless { IsOfPlan «module».now function.now info.now error }
+    ensures ok { IfOk result (λ it.
+        Tells it (TellsPlanError «module».now function.now info.now error)) }
+    ensures err { IfErr result (λ e.
+        TellsPlanError «module».now function.now info.now error (Memory e)) }
+{
     match error {
-        PlanError::OutOfScope => custom(alloc, "operand out of scope"),
-        PlanError::StatementWithoutForm(statement) => statement_without_form(alloc, statement),
+        PlanError::OutOfScope(_) => Ok(Construct::OutOfScope),
+        PlanError::StatementWithoutForm(_, statement) => Ok(statement_without_form(statement)),
         PlanError::WithoutForm(handle) => {
-            without_form(alloc, module, tables, info, &function.expressions[handle])
+            Ok(without_form(module, tables, info, &function.expressions[handle]))
         }
         PlanError::TypeWithoutForm(ty) => {
-            type_without_form(alloc, module, tables, &TypeResolution::Handle(ty))
+            Ok(type_without_form(module, tables, &TypeResolution::Handle(ty)))
         }
         PlanError::LetWithoutForm(handle) => {
-            type_without_form(alloc, module, tables, &info[handle].ty)
+            Ok(type_without_form(module, tables, &info[handle].ty))
         }
-        PlanError::Unnamed(error) => names_error(alloc, error),
-        PlanError::Memory(error) => Error::Memory(error),
+        PlanError::Unnamed(error) => construct_of_names(error),
+        PlanError::Memory(error) => Err(error),
+    }
+}
+
+/// Why a module is refused of which an item or a label gets no name, or want of memory.
+pub fn construct_of_names(error: NamerError) -> Result<Construct, AllocError>
+    ensures ok { IfOk result (λ it. Tells it (IsErrorOfNames error)) }
+    ensures err { IfErr result (λ e. error ≡ namer_error.Memory e) }
+{
+    match error {
+        NamerError::Full => Ok(Construct::FullNamer),
+        NamerError::KeyFull => Ok(Construct::NameKey),
+        NamerError::Memory(error) => Err(error),
     }
 }

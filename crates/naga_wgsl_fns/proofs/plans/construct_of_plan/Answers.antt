@@ -1,4 +1,4 @@
-use Rattle.naga_wgsl_fns.proofs.plans.error_of_plan.Goals as goal
+use Rattle.naga_wgsl_fns.proofs.plans.construct_of_plan.Goals as goal
 
 pub without_form-requires-clause-named : goal.without_form-requires-clause-named
 without_form-requires-clause-named c =
