@@ -84,6 +84,10 @@ use Rattle.naga_ir.specs.declared.module.Constant as constant
 use Rattle.naga_ir.specs.declared.expression.Expression.TheVariants.{CooperativeLoad}
 use Rattle.naga_ir.specs.declared.types.Scalar.{Scalar}
 use Rattle.naga_wgsl_fns.specs.Refusals.{TellsPlanError}
+use Rattle.naga_wgsl_fns.specs.Constructs.{IsToldAs}
+use Rattle.naga_wgsl_fns.specs.Unplanned.{IsRefusedFor}
+use Rattle.naga_wgsl_fns.specs.declared.construct.Construct.{Construct}
+use Rattle.naga_wgsl_fns.specs.declared.plans.FunctionPart.{FunctionPart}
 
 -- ---- functions with a plan
 -- what holds of the shape of each function that there is holds of the shape with its handle
@@ -418,6 +422,14 @@ module _ (explicit : Bool) (m : Module) (info : ModuleInfo) (accepted : IsTrue (
             for_form reported (inr (inl (type_named es at reported k.ty here.0 here.1 is)))
     plan_refusal es at namer words has (plan_error.Memory e) reported refusal is =
         subst (IsPlanRefusal explicit m info earlier i) (sym is) tt
+
+    -- what is told of a construct for which it has no plan
+    pub unplanned_refusal : (namer : Names) → HasOtherUses wgsl_names namer → HasNamed namer earlier →
+        (it : Construct) (at : FunctionPart) → IsRefusedFor explicit m info i namer it at →
+        (reported : Error) → IsToldAs it reported → IsPlanRefusal explicit m info earlier i reported
+    unplanned_refusal namer words has it at r reported told =
+        plan_refusal known.0 known.1 namer words has r.error reported r.refused
+        (r.told f known.0 stands known.1 reported told)
 
 -- each constant and variable that an expression of an accepted function names is there
 pub items_there : (m : Module) (info : ModuleInfo) → IsTrue (is_accepted m info) → (i : ℕ)

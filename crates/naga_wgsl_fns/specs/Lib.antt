@@ -18,3 +18,4 @@ pub mod Refusals
 pub mod Stages
 pub mod Statements
 pub mod Types
+pub mod Unplanned

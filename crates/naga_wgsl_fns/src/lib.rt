@@ -51,6 +51,6 @@ pub use global_expressions::write_global_expression;
 pub use implemented::to_wgsl_if_implemented;
 pub use items::write_function;
 pub use literal::write_literal;
-pub use plans::{construct_of_names, construct_of_plan, plan_of};
+pub use plans::{FunctionPart, Unplanned, construct_of_names, plan_of, plan_or_refusal};
 pub use sinks::put;
 pub use undeclared::names_undeclared;
