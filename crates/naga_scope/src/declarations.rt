@@ -20,8 +20,8 @@ ghost use Rattle.naga_scope.specs.Tables.{AreTablesOf};
 use crate::tables::ModuleTables;
 use naga_back::FunctionType;
 use naga_ir::{
-    Arena, Binding, BuiltIn, Constant, EntryPoint, Expression, Function, FunctionArgument, Handle,
-    Module, ShaderStage, StructMember, Type_, TypeInner,
+    Arena, Binding, BuiltIn, Constant, EntryPoint, Expression, Function, FunctionArgument,
+    GlobalVariable, Handle, Module, Override, ShaderStage, StructMember, Type_, TypeInner,
 };
 use wgsl_layout::Misplaced;
 use wgsl_words::TryToWgsl;

@@ -337,7 +337,7 @@ module _ (explicit : Bool) (m : Module) (info : ModuleInfo) (accepted : IsTrue (
     labels_are : expression_labels f ≡ labels_named_in m i
     labels_are = sym (ap (λ o. option_map_or expression_labels o []) stands)
 
-    full_is : (namer : Names) → HasOtherUses wgsl_names namer →
+    pub full_is : (namer : Names) → HasOtherUses wgsl_names namer →
         SomeLabelIsFull namer earlier (expression_labels f) → ExpressionNamesAreFullIn m earlier i
     full_is namer words full = record {
       named = full.named;
