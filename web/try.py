@@ -54,7 +54,8 @@ def questions():
     """What the page is asked, with the status and the text that it must show."""
     examples = sorted((TOP / "examples").glob("*.json"))
     answers = map(json.loads, (TOP / "crates/yorwethul/stdout").read_text().splitlines())
-    for example, answer in zip(examples, answers):
+    # the second line of each example asks for its plain text, as the page does
+    for example, answer in zip(examples, list(answers)[1::2]):
         wanted = ("refused", answer["refused"]) if "refused" in answer else ("done", answer["text"])
         yield {"example": example.stem}, wanted
     struct = {"name": "One", "inner": {"Struct": {"span": 4, "members": [{"name": "a", "ty": 0, "offset": 0}]}}}

@@ -45,6 +45,7 @@ LAYERS = [
     ("meanings", LAWS, [
         ("text_meaning", "what a syntax tree means"),
         ("module_meaning", "what a module means"),
+        ("told_floats", "floats get numerals"),
     ]),
     ("the form", LAWS, [("naga_form", "which syntax tree is written for a module, and the laws of the square")]),
     ("the writer", CODE, [

@@ -95,8 +95,8 @@ TYPE = Struct("Type_", ("name", NAME), ("inner", TYPE_INNER))
 DECIMAL = Struct("Decimal", ("negative", TRUTH), ("digits", U64), ("exponent", signed(64)))
 LITERAL = Enum(
     "Literal", ("F64", Double()), ("F32", Single()), ("F16", Half()), ("DecimalF64", DECIMAL), ("DecimalF32", DECIMAL),
-    ("DecimalF16", DECIMAL), ("U16", U16), ("I16", signed(16)), ("U32", U32), ("I32", signed(32)), ("U64", U64), ("I64", signed(64)), ("Bool", TRUTH), ("AbstractInt", signed(64)),
-    ("AbstractFloat", Double()))
+    ("DecimalF16", DECIMAL), ("U16", U16), ("I16", signed(16)), ("U32", U32), ("I32", signed(32)), ("U64", U64),
+    ("I64", signed(64)), ("Bool", TRUTH), ("AbstractInt", signed(64)), ("AbstractFloat", Double()))
 UNARY_OPERATOR = Enum("UnaryOperator", "Negate", "LogicalNot", "BitwiseNot")
 BINARY_OPERATOR = Enum("BinaryOperator", *words("""
 Add Subtract Multiply Divide Modulo Equal NotEqual Less LessEqual Greater GreaterEqual And ExclusiveOr InclusiveOr

@@ -39,6 +39,7 @@ def main():
         *differences("yorwethul.h", numbers_of_header(header), "crates/yorwethul_c", numbers_of_crate()),
         *differences("yorwethul.h", in_rust(declared(header)), "bindings/rust", declared_in_rust()),
         *rust_numbers_differ(numbers_of_header(header)),
+        *unknown_flags_differ(),
         *page_differs(numbers_of_header(header)),
         *versions_differ(numbers_of_header(header)["VERSION"]),
     ]
@@ -110,8 +111,21 @@ def numbers_of_crate():
     answers = (CRATE / "answers.rt").read_text()
     numbers["VERSION"] = int(re.search(r"fn yorwethul_version.*?\{\n    ([\d_]+)\n\}", (CRATE / "lib.rt").read_text(), re.DOTALL)[1])
     numbers["LONGEST_TEXT"] = int(re.search(r"LONGEST_TEXT: usize = ([\d_]+);", answers)[1])
-    numbers["EXPLICIT_TYPES"] = int(re.search(r"flags_for\(flags == (\d+)\)", answers)[1])
-    return numbers
+    return {**numbers, **flags_of_calls()}
+
+
+def flags_of_calls():
+    """The writer's flags, and the one by which floats are told, which is the calls' own."""
+    told = re.findall(r"const (\w+) = (\d+);", (TOP / "crates/naga_back/src/flags.rt").read_text())
+    told += re.findall(r"const (TELL_FLOATS): u32 = (\d+);", (CRATE / "answers.rt").read_text())
+    return {name: int(number) for name, number in told}
+
+
+def unknown_flags_differ():
+    """Where a call takes more flags than there are, or less."""
+    most = int(re.search(r"ALL_FLAGS: u32 = (\d+);", (CRATE / "answers.rt").read_text())[1])
+    known = sum(flags_of_calls().values())
+    return [] if most == known else [f"crates/yorwethul_c knows flags up to {most}, and there are those up to {known}"]
 
 
 def rust_numbers_differ(wanted):
@@ -123,11 +137,17 @@ def rust_numbers_differ(wanted):
 
 
 def page_differs(wanted):
-    """Where the page in web/ names another status, by its place in a list."""
-    told = re.search(r"const statuses = \[(.*?)\];", (TOP / "web/index.html").read_text())[1]
+    """Where the page in web/ names another status, by its place in a list, or has other flags."""
+    page = (TOP / "web/index.html").read_text()
+    told = re.search(r"const statuses = \[(.*?)\];", page)[1]
     names = [name.upper().replace(" ", "_") for name in re.findall(r'"([^"]*)"', told)]
-    statuses = {name: number for name, number in wanted.items() if name not in ("VERSION", "LONGEST_TEXT", "EXPLICIT_TYPES")}
-    return differences("yorwethul.h", statuses, "web/index.html", {name: number for number, name in enumerate(names)})
+    left_out = {"VERSION", "LONGEST_TEXT", *flags_of_calls()}
+    statuses = {name: number for name, number in wanted.items() if name not in left_out}
+    bits = sorted(map(int, re.findall(r"\d+", re.search(r"const bitOf = {(.*?)}", page)[1])))
+    known = sorted(flags_of_calls().values())
+    return [
+        *differences("yorwethul.h", statuses, "web/index.html", {name: number for number, name in enumerate(names)}),
+        *([] if bits == known else [f"web/index.html has the flags {bits}, the calls {known}"])]
 
 
 def versions_differ(number):

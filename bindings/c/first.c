@@ -1,4 +1,4 @@
-/* first FILE [explicit]: prints the text of a module. */
+/* first FILE [explicit] [portable]: prints the text of a module. */
 #include <stdio.h>
 #include <stdlib.h>
 #include <string.h>
@@ -12,7 +12,12 @@ int main(int count, char **words) {
     while (json && (got = fread(json + length, 1, room - length, file)) > 0)
         if ((length += got) == room) json = realloc(json, room *= 2);
     if (!json) return 2;
-    uint32_t flags = count > 2 && !strcmp(words[2], "explicit") ? YORWETHUL_EXPLICIT_TYPES : 0;
+    uint32_t flags = 0;
+    for (int at = 2; at < count; at++) {
+        if (!strcmp(words[at], "explicit")) flags |= YORWETHUL_EXPLICIT_TYPES;
+        if (!strcmp(words[at], "portable")) flags |= YORWETHUL_PORTABLE;
+        if (!strcmp(words[at], "floats")) flags |= YORWETHUL_TELL_FLOATS;
+    }
     /* a text is nearly always shorter than its JSON, so that one call is enough */
     size_t out_length = length + 256, needed;
     uint8_t *out = malloc(out_length);

@@ -1,12 +1,12 @@
 #!/usr/bin/env python3
-"""first.py LIBRARY FILE [explicit]: prints the text of a module, by the calls of LIBRARY, a libyorwethul.so."""
+"""first.py LIBRARY FILE [explicit] [portable] [floats]: prints the text of a module, by the calls of LIBRARY, a libyorwethul.so."""
 
 import ctypes
 import sys
 from pathlib import Path
 
 DONE = 0
-EXPLICIT_TYPES = 1
+FLAGS = {"explicit": 1, "portable": 2, "floats": 4}
 
 
 class Yorwethul:
@@ -27,8 +27,9 @@ class Yorwethul:
 
 
 def main():
-    library, file, *explicit = sys.argv[1:]
-    status, text = Yorwethul(library).write(Path(file).read_bytes(), EXPLICIT_TYPES if explicit else 0)
+    library, file, *words = sys.argv[1:]
+    flags = sum(number for word, number in FLAGS.items() if word in words)
+    status, text = Yorwethul(library).write(Path(file).read_bytes(), flags)
     (sys.stdout if status == DONE else sys.stderr).write(text if status == DONE else f"{text} (status {status})\n")
     sys.exit(status != DONE)
 

@@ -27,6 +27,7 @@ CRATES = TOP / "crates"
 EXAMPLES = sorted((TOP / "examples").glob("*.json"))
 WARNINGS = ["-Wall", "-Wextra", "-pedantic"]
 DONE, REFUSED, NOT_ACCEPTED, NO_MODULE, UNKNOWN_FLAG, OUT_OF_MEMORY, TOO_DEEP = range(7)
+EXPLICIT_TYPES, PORTABLE, TELL_FLOATS, ALL_FLAGS = 1, 2, 4, 7
 
 # What `hammer` is told: so many calls, on so many threads, so many lengths and changes of each file.
 SHORT = {"calls": 20_000, "threads": 1_000, "cut": 300, "flip": 400}
@@ -187,7 +188,7 @@ def test_names(folder, _):
 
 
 def test_programs(folder, room):
-    """The programs to copy print of the examples what the program yorwethul prints."""
+    """The programs to copy print of the examples what the program yorwethul prints with --plain."""
     programs = [[compile_c(room, folder / "libyorwethul.a")]]
     if find("c++"):
         programs.append([compile_cpp(room, folder / "libyorwethul.a")])
@@ -200,12 +201,17 @@ def test_programs(folder, room):
         told = run("pkg-config", "--cflags", "--libs", "yorwethul", env={**os.environ, "PKG_CONFIG_PATH": str(folder)}).split()
         run("cc", BINDINGS / "c/first.c", *told, "-o", room / "first_by_name")
         programs.append([room / "first_by_name"])
-    answers = (CRATES / "yorwethul/stdout").read_text().splitlines()
-    for example, answer in zip(EXAMPLES, map(json.loads, answers)):
+    for example, answer in plain_answers():
         is_written = "refused" not in answer
         for program in programs:
             told = run(*program, example, wanted=0 if is_written else 1)
             must(told == (answer["text"] if is_written else ""), f"{program}: another text of {example.name}")
+
+
+def plain_answers():
+    """Each example, with what the program answers to its second line, which asks for a plain text."""
+    answers = (CRATES / "yorwethul/stdout").read_text().splitlines()
+    return zip(EXAMPLES, map(json.loads, answers[1::2]))
 
 
 def test_lines(folder, _):
@@ -213,9 +219,10 @@ def test_lines(folder, _):
     library = Library(folder / "libyorwethul.so")
     lines = zip((CRATES / "yorwethul/stdin").read_bytes().splitlines(), (CRATES / "yorwethul/stdout").read_text().splitlines())
     for line, answer in ((line, json.loads(answer)) for line, answer in lines):
-        if answer.get("error", "").startswith("explicit_types"):
+        is_plain = b'"plain":true' in line
+        if answer.get("error", "").endswith(": no truth value"):
             continue
-        explicit = b'"explicit_types":true' in line
+        flags = (EXPLICIT_TYPES if b'"explicit_types":true' in line else 0) | (0 if is_plain else PORTABLE | TELL_FLOATS)
         if "refused" in answer:
             wanted = (REFUSED, answer["refused"])
         elif "text" in answer:
@@ -224,15 +231,15 @@ def test_lines(folder, _):
             wanted = (NOT_ACCEPTED, "{place}: {fault}".format(**answer["not_accepted"]))
         else:
             wanted = (NO_MODULE, answer["error"])
-        told = library.call("write", line, int(explicit))
+        told = library.call("write", line, flags)
         must(told == wanted, f"{told} of {line[:200]}, by the program {wanted}")
         checked = library.call("check", line)
         must(checked == (wanted if wanted[0] in (NOT_ACCEPTED, NO_MODULE) else (DONE, "")), f"check: {checked} of {line[:200]}")
-    must(library.call("write", b"{}", 2) == (UNKNOWN_FLAG, "a bit is set that no flag has"), "an unknown flag")
+    must(library.call("write", b"{}", ALL_FLAGS + 1) == (UNKNOWN_FLAG, "a bit is set that no flag has"), "an unknown flag")
 
 
 def test_cases(folder, _):
-    """The library answers all cases of wgsl_cases as it is told there, with either setting of the flags."""
+    """The library answers all cases of wgsl_cases as it is told there, with each setting of the flags."""
     library = Library(folder / "libyorwethul.so")
     cases = [(json.loads(line), line) for line in (CRATES / "wgsl_cases/stdin").read_bytes().splitlines()]
     answers = cut_answers((CRATES / "wgsl_cases/stdout").read_text(), [case["name"] for case, _ in cases])
@@ -240,23 +247,28 @@ def test_cases(folder, _):
     for (case, line), wanted in zip(cases, answers):
         if case.get("counted"):
             continue
-        for explicit in (0, 1):
-            status, text = library.call("write", line, explicit)
-            must((status, text) == wanted_of(wanted[explicit], text), f"{case['name']}: {status} {text!r}, wanted {wanted[explicit]!r}")
+        for flags, answer in wanted.items():
+            status, text = library.call("write", line, flags)
+            must((status, text) == wanted_of(answer, text), f"{case['name']}: {status} {text!r}, wanted {answer!r}")
             count += 1
     return f"{count} answers"
 
 
 def cut_answers(output, names):
-    """Of each case the answer without and with types."""
+    """Of each case the answers by the flags, of which each that is not told is that without types."""
     at, answers = 0, []
     for name, following in zip(names, [*names[1:], None]):
         head = f"== {name}\n"
         must(output.startswith(head, at), f"stdout of wgsl_cases has no {name} there")
         end = output.find(f"\n== {following}\n", at + len(head) - 1) + 1 if following else len(output)
         told = output[at + len(head):end]
+        told, _, portable = told.partition(f"== {name}, portable\n")
         plain, typed, with_types = told.partition(f"== {name}, with types\n")
-        answers.append((plain, with_types if typed else plain))
+        wanted = {0: plain, EXPLICIT_TYPES: with_types if typed else plain}
+        if portable:
+            portable, typed, with_types = portable.partition(f"== {name}, portable with types\n")
+            wanted |= {PORTABLE: portable, PORTABLE | EXPLICIT_TYPES: with_types if typed else portable}
+        answers.append(wanted)
         at = end
     return answers
 
@@ -277,7 +289,7 @@ def test_memory(folder, _):
     library = Library(folder / "libyorwethul.so")
     for example in EXAMPLES:
         data = example.read_bytes()
-        for name, flags in (("write", [0]), ("write", [1]), ("layout", []), ("check", [])):
+        for name, flags in (("write", [0]), ("write", [ALL_FLAGS]), ("layout", []), ("check", [])):
             status, text = library.call(name, data, *flags)
             length = len(text.encode())
             must(library.call(name, data, *flags, room=length) == (status, text), f"{name} of {example.name} with just enough")
@@ -330,8 +342,7 @@ def test_rust(folder, room):
     crate = copy_crates(room) / "rust"
     environment = cargo_environment(room, folder)
     run("cargo", "test", "--offline", "--quiet", cwd=crate, env=environment)
-    answers = (CRATES / "yorwethul/stdout").read_text().splitlines()
-    for example, answer in zip(EXAMPLES, map(json.loads, answers)):
+    for example, answer in plain_answers():
         is_written = "refused" not in answer
         told = run("cargo", "run", "--offline", "--quiet", "--example", "write", "--", example, cwd=crate, env=environment, wanted=0 if is_written else 1)
         must(told == (answer["text"] if is_written else ""), f"the Rust example prints another text of {example.name}")

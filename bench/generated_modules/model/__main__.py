@@ -2,7 +2,8 @@
 
 The model was written from the rules, apart from the writer: which modules are accepted, the names of labels, the
 count of uses, what a `let` binds, what is in scope, which members of structs get sizes, the text, and for which
-constructs a module is refused. It reads each text and compares what it declares, and where the members of its structs
+constructs a module is refused. Each module is written plainly and for standard compilers, where floats that it holds
+as bits are told by their numerals, without and with the types of its `let`s. It reads each text and compares what it declares, and where the members of its structs
 stand by the words of their types, with what the module has. It runs each module and each text, from each function
 and entry point, over terms in which each operator stands for any function, in worlds that tell of each condition
 whether it holds, and compares the events, the endings and the results. It does so too under one meaning of whole
@@ -32,6 +33,7 @@ sys.path.append(str(Path(__file__).resolve().parents[3] / "crates/wgsl_cases/run
 from acceptance import is_accepted, is_read
 from declaration_rows import MOST, check_declaration_rows, many
 from generator import generate, generate_structs
+from numerals import told
 from refusals import refusal
 from rows import check_rows
 from serde import line_of
@@ -40,6 +42,9 @@ from tally import Tally
 from texts import answers_of
 
 BATCH = 5000
+# whether a text is plain, without what only standard compilers ask for and with floats as they are; and whether its
+# `let`s tell types
+STYLES = [(is_plain, explicit) for is_plain in (True, False) for explicit in (False, True)]
 NOT_ACCEPTED, NOT_READ = "not accepted", "not read"
 
 
@@ -66,29 +71,33 @@ def main():
 def check_many(program):
     """How many of two modules differ."""
     modules, texts = zip(many(MOST), many(MOST + 1))
-    differ = sum(given != text for given, text in zip(texts_of(program, modules)[::2], texts))
+    differ = sum(given != text for given, text in zip(texts_of(program, modules)[::len(STYLES)], texts))
     print(f"{differ:8} differ")
     return differ
 
 
 def texts_of(program, samples):
-    """What the program says of each module, without and with types told, one behind another."""
+    """What the program says of each module in each style, one after another."""
     if program == "-":
-        return [own_text(module, explicit) for module in samples for explicit in (False, True)]
-    lines = [line_of(module, explicit) for module in samples for explicit in (False, True)]
+        return [own_text(module, *style) for module in samples for style in STYLES]
+    lines = [line_of(module, explicit, is_plain) for module in samples for is_plain, explicit in STYLES]
     answer = subprocess.run([program, "--lines"], input="".join(lines).encode(), stdout=subprocess.PIPE, check=True)
     answers = answer.stdout.decode().split("\n")[:-1]
     assert len(answers) == len(lines), (len(answers), len(lines))
     return [text_in(json.loads(answer)) for answer in answers]
 
 
-def own_text(module, explicit):
+def own_text(module, is_plain, explicit):
     """What the model says of a module."""
     # naga's form of each module can be made
-    line_of(module, explicit)
+    line_of(module, explicit, is_plain)
     if not is_read(module):
         return NOT_READ
-    return min(answers_of(module, explicit)[1]) if is_accepted(module) else NOT_ACCEPTED
+    return min(styled_answers(module, is_plain, explicit)[1]) if is_accepted(module) else NOT_ACCEPTED
+
+
+def styled_answers(module, is_plain, explicit):
+    return answers_of(module, explicit) if is_plain else answers_of(told(module), explicit, True)
 
 
 def text_in(answer):
@@ -101,21 +110,24 @@ def text_in(answer):
 
 
 def compare(module, number, texts, tally):
-    given = texts.pop(0), texts.pop(0)
+    given = [texts.pop(0) for _ in STYLES]
     for name, is_so in ((NOT_READ, is_read), (NOT_ACCEPTED, is_accepted)):
         if not is_so(module):
             for text in given:
                 tally.check(number, module, text, {name})
             tally.add(name)
             return
-    for explicit, text in enumerate(given):
-        is_written, answers = answers_of(module, bool(explicit))
+    for (is_plain, explicit), text in zip(STYLES, given):
+        in_style = module if is_plain else told(module)
+        is_written, answers = answers_of(in_style, explicit, not is_plain)
         if tally.check(number, module, text, answers) and is_written:
-            tally.run(number, module, text)
+            tally.run(number, in_style, text, not is_plain)
+            tally.add(f"written, {'plain' if is_plain else 'for standard compilers'}")
+    # the last style refuses the least
     if is_written:
-        tally.add_written(module)
+        tally.add_written(in_style, not is_plain)
     elif "refused: " in text:
-        tally.add_refused(module, text)
+        tally.add_refused(in_style, text)
 
 
 main()

@@ -1,6 +1,9 @@
 """Types and labels by chance."""
 
+import struct
+
 from layouts import Layouts
+from numerals import FORMS
 from operators import NUMERALS, numeral_fits
 from spelling import (
     ATOMIC, BOOL, F16, F32, F64, FUNCTION, HALVES, HANDLE, I32, I64, LOAD, SPACES, STORE, U32, U64, pointer_to)
@@ -138,3 +141,15 @@ def some_numeral(r, scalar):
         value = r.random() < 0.4, digits, r.randint(least, greatest)
         if numeral_fits(number, value) or r.random() < 0.01:
             return value
+
+
+def some_bits(r, scalar):
+    """The bits of a float, most often of a usual number; of another type 0 or 1."""
+    if scalar not in FORMS:
+        return r.randint(0, 1)
+    whole, real = FORMS[scalar]
+    number = r.choice([r.randint(-99, 99), r.randint(-999, 999) / 8, r.random(), r.randint(-2000, 2000) / 100])
+    usual, = struct.unpack(whole, struct.pack(real, number))
+    infinity, = struct.unpack(whole, struct.pack(real, float("inf")))
+    odd = r.choice([0, 1, infinity - 1, infinity, r.randrange(256 ** scalar[1])])
+    return odd if r.random() < 0.3 else usual

@@ -4,7 +4,7 @@ Most declarations have a form and are accepted; of others, a module has one faul
 """
 
 from bindings import some_binding
-from chance import some_label, some_number, some_numeral
+from chance import some_bits, some_label, some_number, some_numeral
 from functions import RANGES, FunctionMaker
 from modules import Constant, EntryPoint, Expression, Override, Variable, statements_in
 from operators import LITERALS, NUMERALS
@@ -306,7 +306,7 @@ class FaultMaker:
     def literal(self, number):
         ty = ("scalar", LITERALS[number])
         self.module.handle_of(ty)
-        return ty, self.own.put("literal", ty, [number, self.r.choice([0, 1, 5])])
+        return ty, self.own.put("literal", ty, [number, some_bits(self.r, LITERALS[number])])
 
     def float(self):
         self.replaced(*self.within(*self.literal(self.r.choice([5, 5, 6, 9]))))

@@ -1,12 +1,14 @@
 """The extensions that a module's text enables."""
 
+from modules import statements_in
+from operators import barrier_words
 from spelling import F16, I16, U16, scalar_of
 from words import BUILTIN_NAMES, words_of
 
 # in the order of a text
 EXTENSIONS = words_of("""
 f16 wgpu_int16 dual_source_blending clip_distances wgpu_mesh_shader wgpu_binding_array draw_index primitive_index
-wgpu_cooperative_matrix wgpu_ray_tracing_pipeline wgpu_per_vertex
+wgpu_cooperative_matrix wgpu_ray_tracing_pipeline wgpu_per_vertex subgroups
 """)
 
 
@@ -19,6 +21,7 @@ BUILTINS = {
     "ClipDistances": "clip_distances", "DrawIndex": "draw_index", "PrimitiveIndex": "primitive_index",
     **dict.fromkeys(names_between("MeshTaskSize", "CullPrimitive"), "wgpu_mesh_shader"),
     **dict.fromkeys(names_between("RayInvocationId", "WorldToObject"), "wgpu_ray_tracing_pipeline")}
+SUBGROUP_BUILTINS = ("NumSubgroups", "SubgroupId", "SubgroupSize", "SubgroupInvocationId")
 KINDS = {
     "binding array": "wgpu_binding_array", "cooperative": "wgpu_cooperative_matrix",
     "acceleration": "wgpu_ray_tracing_pipeline"}
@@ -68,8 +71,40 @@ def needed_for(module):
     return needed
 
 
-def enables_text(module):
+def asked_for(module):
+    """What standard compilers ask for besides: wherever a type is spelled over `f16`, if only by a `let` or a
+    conversion, and wherever something of subgroups stands."""
+    asked = set()
+    bodies = module.bodies()
+    types = [*module.types, *(e.type for f in bodies for e in f.expressions)]
+    if any(scalar_over(ty) == F16 for ty in types):
+        asked.add("f16")
+    bindings = [*module.bindings.values(), *(b for p in module.entry_points for b in p.bindings.values())]
+    if any(b is not None and b[0] == "builtin" and b[1] in SUBGROUP_BUILTINS for b in bindings):
+        asked.add("subgroups")
+    if any(is_of_subgroups(s) for f in bodies for s in statements_in(f.body)):
+        asked.add("subgroups")
+    return asked
+
+
+def scalar_over(ty):
+    """The scalar of a type, of an atomic, or of what a pointer by itself or a cooperative matrix is of."""
+    at = {"value pointer": 2, "cooperative": 3, "atomic": 1}
+    return ty[at[ty[0]]] if ty[0] in at else scalar_of(ty)
+
+
+def is_of_subgroups(s):
+    if s.kind == "barrier":
+        return "subgroupBarrier" in barrier_words(s)
+    return s.kind in ("ballot", "gather", "collective")
+
+
+def enabled(module, is_portable):
+    words = needed_for(module) | (asked_for(module) if is_portable else set())
+    return [word for word in EXTENSIONS if word in words]
+
+
+def enables_text(module, is_portable=False):
     """The lines in front of a module's declarations."""
-    needed = needed_for(module)
-    lines = [f"enable {word};\n" for word in EXTENSIONS if word in needed]
+    lines = [f"enable {word};\n" for word in enabled(module, is_portable)]
     return "".join(lines) + ("\n" if lines else "")

@@ -2,7 +2,7 @@
 
 from bindings import some_binding
 from bodies import BodyMaker, spoil
-from chance import some_label, some_numeral, some_scalar, some_tile, some_type
+from chance import some_bits, some_label, some_numeral, some_scalar, some_tile, some_type
 from modules import CONSTANTS, LEAVES, RESULTS, Expression, Function, Sampling, emit, returns, store
 from operators import LITERALS, NUMERALS, conversion_word, is_numeral, wanted_scalar
 from refusals import formless_own
@@ -129,7 +129,7 @@ class FunctionMaker:
         for _ in range(r.randint(0, 3)):
             number = r.randrange(5) if self.chance(0.88) else r.randrange(5, len(LITERALS))
             number = r.choice(list(NUMERALS.values())) if number > 4 and self.chance(0.6) else number
-            value = some_numeral(r, LITERALS[number]) if is_numeral(number) else r.randint(0, 1)
+            value = some_numeral(r, LITERALS[number]) if is_numeral(number) else some_bits(r, LITERALS[number])
             if LITERALS[number] in RANGES:
                 low, high = RANGES[LITERALS[number]]
                 value = r.choice([low, high, 0, 1, r.randint(max(low, -9), 9)])

@@ -2,7 +2,7 @@
 what functions and entry points take and give. Absent words are told, and an initialiser by its value."""
 
 from bindings import meant
-from enables import EXTENSIONS, needed_for
+from enables import enabled
 from layouts import Layouts
 from naming import Names, member_names
 from reading_layouts import TextLayouts
@@ -11,10 +11,10 @@ from spelling import ATOMIC, STORE, spelled
 
 
 # ---- of a module
-def module_interface(module):
+def module_interface(module, is_portable=False):
     names, layouts = Names(module), Layouts(module)
     return {
-        "enables": [word for word in EXTENSIONS if word in needed_for(module)],
+        "enables": enabled(module, is_portable),
         "structs": [struct(module, layouts, names, h) for h in module.declared_structs()],
         **items(module, names),
         "functions": [function(f, names, number) for number, f in enumerate(module.bodies())],

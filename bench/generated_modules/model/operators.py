@@ -17,7 +17,8 @@ NUMERALS = {F32: 12, F64: 13, F16: 14}
 # where the numbers that are nearest to an infinity begin, halfway from the greatest to what would be the next
 TOO_GREAT = {F16: 65520, F32: (2**25 - 1) * 2**103, F64: (2**54 - 1) * 2**970}
 SUFFIX = {I32: "i", U32: "u", I64: "li", U64: "lu", F32: "f", F64: "lf", F16: "h"}
-LEVEL_ZERO = "0.0"
+# of an image of depths a portable text has a whole number
+LEVEL_ZERO, WHOLE_LEVEL_ZERO = "0.0", "0"
 
 
 def is_numeral(number):
@@ -25,10 +26,11 @@ def is_numeral(number):
 
 
 def numeral_fits(number, value):
-    """Whether the power of ten is near, and the number nearest to no infinity: it is below what is as far from the
+    """Whether the power of ten is near, zero has none above 0, and the number is nearest to no infinity: it is below what is as far from the
     greatest number as the next one would be."""
     _, digits, exponent = value
-    return -400 <= exponent < 400 and digits * Fraction(10) ** exponent < TOO_GREAT[LITERALS[number]]
+    is_plain = digits or exponent <= 0
+    return bool(is_plain) and -400 <= exponent < 400 and digits * Fraction(10) ** exponent < TOO_GREAT[LITERALS[number]]
 
 
 def digits_text(digits, exponent):
@@ -173,16 +175,16 @@ def barrier_words(s):
     return [word for bit, word in enumerate(BARRIERS) if s.what[1] >> bit & 1]
 
 
-def numbers_around(f, e):
+def numbers_around(f, e, is_portable=False):
     """What is written in front of the operands of a sampling, and in front of its offset: the number of a gathered
     component, but of an image of depths, and level zero where neither a depth nor an edge says so."""
     how = e.what[0]
+    image = f.type_of(e.operands[0])
+    of_depths = image[0] == "image" and image[3][0] == "depth"
     if how.gather is not None:
-        image = f.type_of(e.operands[0])
-        of_depths = image[0] == "image" and image[3][0] == "depth"
         return [] if of_depths else [str(how.gather)], []
     is_told = how.level == "zero" and not how.depth and not how.clamp
-    return [], [LEVEL_ZERO] if is_told else []
+    return [], [WHOLE_LEVEL_ZERO if of_depths and is_portable else LEVEL_ZERO] if is_told else []
 
 
 def offset_of(e):

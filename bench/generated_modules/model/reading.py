@@ -6,7 +6,7 @@ An expression is a tuple: `literal TEXT`, `name X`, `address E` and `target E` f
 
 import re
 
-from operators import LEAST
+from operators import LEAST, LEVEL_ZERO, WHOLE_LEVEL_ZERO
 from words import ASKING, KEYWORDS
 
 
@@ -267,6 +267,9 @@ def read_call(word, s):
         e, s = read(s)
         operands.append(e)
         s = s[2:] if s.startswith(", ") else s
+    if word == "textureSampleLevel":
+        # level zero may be whole
+        operands = [("literal", LEVEL_ZERO) if e == ("literal", WHOLE_LEVEL_ZERO) else e for e in operands]
     return ("call", word, *operands), s[1:]
 
 

@@ -61,7 +61,7 @@ def stage_has_form(p):
 
 
 # ---- functions
-def standing_in(f, names, explicit):
+def standing_in(f, names, explicit, is_portable=False):
     """What stands in a function, and its text where nothing does."""
     standing = set()
     for h in written_of(f):
@@ -71,7 +71,7 @@ def standing_in(f, names, explicit):
     for s in statements_in(f.body):
         standing |= formless_statement(s)
     try:
-        text = Writer(f, names, explicit).write()
+        text = Writer(f, names, explicit, is_portable).write()
     except Refused:
         return standing | {OUT_OF_SCOPE}, None
     return standing, text

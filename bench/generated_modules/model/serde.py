@@ -56,9 +56,11 @@ LEAF_NAMES = {
     "global": "GlobalVariable"}
 
 
-def line_of(module, explicit):
-    """The module with what is known of it, in a line, as one whose `let`s are to tell types or not."""
-    return json.dumps({**module.json(), "explicit_types": explicit}, separators=(",", ":"), allow_nan=False) + "\n"
+def line_of(module, explicit, is_plain=True):
+    """The module with what is known of it, in a line, as one whose `let`s are to tell types or not, in a plain text or
+    in one that tells floats and has what standard compilers ask for."""
+    asked = {**module.json(), "plain": is_plain, "explicit_types": explicit}
+    return json.dumps(asked, separators=(",", ":"), allow_nan=False) + "\n"
 
 
 class Serde:

@@ -54,7 +54,7 @@ class Tally:
         if kind not in self.smallest or len(line) < self.smallest[kind][1]:
             self.smallest[kind] = f"module {number} {what}\n{line}---- given\n{given}{told}", len(line)
 
-    def run(self, number, module, text):
+    def run(self, number, module, text, is_portable):
         """Whether the text offers what the module does, and each function's text does what the function does."""
         try:
             program = Program(text)
@@ -64,7 +64,7 @@ class Tally:
         except UNREADABLE as error:
             self.tell(number, module, "has no reading", text, repr(error))
             return
-        wanted = module_interface(module)
+        wanted = module_interface(module, is_portable)
         if offered != wanted:
             self.tell(number, module, "offers otherwise than its text", text, f"{offered}\n", f"{wanted}\n")
         if stand != kept:
@@ -108,7 +108,7 @@ class Tally:
         self.add("refused, where several stand in declarations", len(standing) > 1)
 
     # ---- what is written
-    def add_written(self, module):
+    def add_written(self, module, is_portable):
         self.add("written")
         self.add("written, of several functions", len(module.bodies()) > 1)
         statements = [s for f in module.bodies() for s in statements_in(f.body)]
@@ -119,7 +119,7 @@ class Tally:
         self.add("written, with joined labels", any(falls for _, falls in labels))
         emitted = [(f, h) for f in module.bodies() for h in emitted_in(f)]
         self.add("written, with labels of front ends that are bound", any(h in f.labels for f, h in emitted))
-        for line in enables_text(module).split("\n")[:-2]:
+        for line in enables_text(module, is_portable).split("\n")[:-2]:
             self.add(f"written, with {line}")
         self.add_expressions(module)
         self.add_splits(module)

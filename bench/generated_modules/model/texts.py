@@ -9,7 +9,7 @@ from spelling import ATOMIC, STORE, spelled
 from writer import own_text
 
 
-def answers_of(module, explicit):
+def answers_of(module, explicit, is_portable=False):
     """Whether the module is written, and its text; or all that may be told of it, since which of the constructs that
     stand in it is told is open. What the module declares is looked at before there is any text, and each function
     before its text, so that those in front of the first one that is refused stand in front of the refusal."""
@@ -17,14 +17,14 @@ def answers_of(module, explicit):
     if standing:
         return False, set(map(refusal, standing))
     names = Names(module)
-    text = enables_text(module) + declarations_text(module, names)
+    text = enables_text(module, is_portable) + declarations_text(module, names)
     for f in module.functions:
-        standing, own = standing_in(f, names, explicit)
+        standing, own = standing_in(f, names, explicit, is_portable)
         if standing:
             return False, {names.in_text(text) + refusal(name) for name in standing}
         text += own + "\n"
     for number, p in enumerate(module.entry_points):
-        standing, own = standing_in(p, names, explicit)
+        standing, own = standing_in(p, names, explicit, is_portable)
         parted = text + "\n" if number else text
         if standing:
             # whether the line between two entry points stands behind the first one is open

@@ -94,8 +94,9 @@ def is_constant_text(f, h):
 class Writer:
     """Writes a function under its module's names; the namer goes on behind the labels of front ends."""
 
-    def __init__(self, f, names, explicit):
-        self.f, self.module_names, self.explicit = f, names, explicit
+    def __init__(self, f, names, explicit, is_portable=False):
+        self.f, self.module_names = f, names
+        self.explicit, self.is_portable = explicit, is_portable
         self.names = names.bodies[f.module.number_of(f)]
         self.uses = uses_of(f)
         self.constants = constants_of(f)
@@ -228,7 +229,7 @@ class Writer:
     def called(self, e):
         if e.kind != "sample":
             return list(map(self.operand, e.operands))
-        component, level = numbers_around(self.f, e)
+        component, level = numbers_around(self.f, e, self.is_portable)
         offset = offset_of(e)
         if offset is None:
             return component + list(map(self.operand, e.operands)) + level

@@ -8,6 +8,14 @@ impl Flags {
     /// Each `let` tells its type.
     pub const EXPLICIT_TYPES: Flags = Flags(crate::sys::EXPLICIT_TYPES);
 
+    /// The text has what standard compilers ask for, as `enable subgroups;` where something of
+    /// subgroups stands in it.
+    pub const PORTABLE: Flags = Flags(crate::sys::PORTABLE);
+
+    /// Floats are written, by the digits that Rust's formatting gives them. Without this flag a
+    /// module with a literal of a float is refused, as `float literal`.
+    pub const TELL_FLOATS: Flags = Flags(crate::sys::TELL_FLOATS);
+
     /// No flag.
     pub const fn empty() -> Flags {
         Flags(0)

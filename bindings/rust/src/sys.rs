@@ -35,3 +35,5 @@ pub const TOO_DEEP: u32 = 6;
 pub const TOO_LONG: u32 = 7;
 
 pub const EXPLICIT_TYPES: u32 = 1;
+pub const PORTABLE: u32 = 2;
+pub const TELL_FLOATS: u32 = 4;

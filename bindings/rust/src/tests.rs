@@ -128,4 +128,7 @@ fn flags_are_bits() {
     flags |= Flags::EXPLICIT_TYPES;
     assert_eq!(flags | Flags::empty(), Flags::EXPLICIT_TYPES);
     assert_eq!((flags.bits(), flags.contains(Flags::empty())), (1, true));
+    flags |= Flags::PORTABLE;
+    assert_eq!((flags.bits(), flags.contains(Flags::PORTABLE)), (3, true));
+    assert_eq!((flags | Flags::TELL_FLOATS).bits(), 7);
 }

@@ -54,6 +54,27 @@ fn a_module_is_written() {
 }
 
 #[test]
+fn a_portable_text_has_what_compilers_ask_for() {
+    let votes = r#"{
+        "module": {
+            "types": [{"inner": {"Vector": {
+                "size": "Quad", "scalar": {"kind": "Uint", "width": 4}}}}],
+            "functions": [{
+                "name": "votes", "result": {"ty": 0}, "expressions": ["SubgroupBallotResult"],
+                "body": [
+                    {"SubgroupBallot": {"result": 0, "predicate": null}}, {"Return": {"value": 0}}]
+            }]
+        },
+        "info": {"functions": [[0]]}
+    }"#;
+    let text = write_json(votes, Flags::empty()).unwrap();
+    assert_eq!(
+        write_json(votes, Flags::PORTABLE),
+        Ok(format!("enable subgroups;\n\n{text}"))
+    );
+}
+
+#[test]
 fn an_empty_module_has_an_empty_text() {
     assert_eq!(
         write_json(r#"{"module":{},"info":{}}"#, Flags::empty()).as_deref(),
@@ -66,6 +87,8 @@ fn a_refused_module_tells_the_construct() {
     let half = DOUBLE
         .replace("\"Sint\"", "\"Float\"")
         .replace(r#"{"FunctionArgument": 0}"#, r#"{"Literal": {"F32": 0.5}}"#);
+    let told = write_json(&half, Flags::TELL_FLOATS).unwrap();
+    assert!(told.contains("0.5f"), "{told}");
     let error = write_json(&half, Flags::empty()).unwrap_err();
     assert_eq!(error.construct(), Some("float literal"));
     assert_eq!(error.to_string(), "refused: float literal");

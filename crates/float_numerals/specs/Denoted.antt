@@ -3,7 +3,8 @@
 -- (roundTiesToEven). The standard library's `round` computes it over whole numbers alone.
 --
 -- Throughout, f is a format (binary32 or binary64), d a numeral, and e a power of ten.
-use Rattle.std.specs.Prelude.{ℕ, suc, ◌+◌, ◌*◌, ◌%◌, ◌^◌, Bool, ◌&&◌, nat_lt, ℤ, pos, negsuc}
+use Rattle.std.specs.Prelude.{ℕ, suc, ◌+◌, ◌*◌, ◌%◌, ◌^◌, Bool, true, not, ◌&&◌, ◌||◌, ◌==◌, nat_lt}
+use Rattle.std.specs.Prelude.{ℤ, pos, negsuc}
 use Rattle.std.specs.Prelude.{List, ◌++◌, length, to_bits}
 use Rattle.std.specs.Float.{Float, Format, binary32, binary64}
 use Rattle.std.specs.Float.Ieee.{round}
@@ -27,9 +28,16 @@ abbrev pub has_near_power : ℤ → Bool
 has_near_power (pos e) = nat_lt e 400
 has_near_power (negsuc e) = nat_lt e 400
 
--- the digits have 64 bits, and the power of ten is near
+-- The digit 0 has no zeros after it, as a positive power of ten would have it written: no numeral of
+-- WGSL begins so (the specification, "Numeric Literals").
+abbrev pub has_plain_zero : (digits : ℕ) → ℤ → Bool
+has_plain_zero digits (pos e) = not (digits == 0) || (e == 0)
+has_plain_zero digits (negsuc e) = true
+
+-- the digits have 64 bits, the power of ten is near, and zero is plain
 abbrev pub is_in_range : Decimal → Bool
-is_in_range d = nat_lt d.digits (2 ^ 64) && has_near_power d.exponent
+is_in_range d =
+    nat_lt d.digits (2 ^ 64) && (has_near_power d.exponent && has_plain_zero d.digits d.exponent)
 
 -- it is in range, and denotes an `f32` that is no infinity: without its sign, its bits are below
 -- those of an infinity

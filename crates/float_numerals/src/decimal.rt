@@ -65,16 +65,19 @@ impl Decimal {
         let size = half_size(self.digits, self.exponent);
         if self.negative { 0x8000 + size } else { size }
     }
-    /// Whether its power of ten is from -400 on and below 400. All floats have numerals that are;
-    /// the text of one beyond would be long.
+
+    /// Whether its power of ten is from -400 on and below 400, and not above 0 where the digits are
+    /// 0. All floats have numerals that are in range; the text of one beyond would be long, or begin
+    /// with two zeros, as none does in WGSL.
     ///
     /// ```text
-    /// Decimal { negative: false, digits: 0, exponent: 400 }.is_in_range() // false
+    /// Decimal { negative: false, digits: 1, exponent: 400 }.is_in_range() // false
+    /// Decimal { negative: false, digits: 0, exponent: 1 }.is_in_range() // false
     /// ```
     pub fn is_in_range(self) -> bool
         ensures { result ≡ is_in_range self }
     {
-        self.exponent >= -400 && self.exponent < 400
+        self.exponent >= -400 && self.exponent < 400 && (self.digits != 0 || self.exponent <= 0)
     }
 
     /// Whether it is in range, and the nearest `f32` is no infinity.

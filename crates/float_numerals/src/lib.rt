@@ -10,6 +10,8 @@ mod choice;
 mod decimal;
 mod half;
 mod laws;
+#[cfg(test)]
+mod tests;
 mod text;
 
 pub use choice::{double_decimal, half_decimal, single_decimal};

@@ -8,4 +8,4 @@ mod writing;
 
 pub use layouts::layout_table;
 pub use places::JsonPlace;
-pub use writing::{Written, flags_for, write};
+pub use writing::{Written, flags_for, write, write_told};

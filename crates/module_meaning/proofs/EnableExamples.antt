@@ -355,12 +355,19 @@ module _ (m : Module) (members : Vec StructMember Global) (v : GlobalVariable) (
   abbrev asked : Module → List (List ℕ)
   asked given =
       enables true (record given { functions = [] })
-      (record info { functions = none info.functions; entry_points = none info.entry_points })
+      (record info {
+        functions = none info.functions;
+        entry_points = none info.entry_points;
+        const_expression_types = none info.const_expression_types;
+      })
 
   -- an entry point that does nothing
   abbrev resting : EntryPoint → EntryPoint
   resting point =
       record point { function = record point.function { expressions = []; body = no_statements } }
+
+  abbrev wide : TypeInner
+  wide = inner.Scalar (record { kind = kind.Float; width = 4 })
 
   abbrev f16_alone : List (List ℕ)
   f16_alone = codes "f16" ∷ []
@@ -380,6 +387,21 @@ module _ (m : Module) (members : Vec StructMember Global) (v : GlobalVariable) (
 
   an_atomic_integer : asked (of_type (inner.Atomic unsigned)) ≡ []
   an_atomic_integer = refl
+
+  -- one of the module's own expressions, as a literal in a constant of another type
+  an_own_half : enables true
+      (record m {
+        types = bare wide ∷ [];
+        global_variables = [];
+        functions = [];
+        entry_points = none m.entry_points;
+      })
+      (record info {
+        functions = none info.functions;
+        entry_points = none info.entry_points;
+        const_expression_types = one info.const_expression_types (resolution.Value (inner.Scalar half));
+      }) ≡ f16_alone
+  an_own_half = refl
 
   -- builtin values of subgroups, of members, arguments and results
   abbrev AskedFor : Binding → Type 0
@@ -420,10 +442,8 @@ module _ (m : Module) (members : Vec StructMember Global) (v : GlobalVariable) (
   knowing types = record info {
     functions = one info.functions (map (λ r. record { ref_count = 0; ty = r }) types);
     entry_points = none info.entry_points;
+    const_expression_types = none info.const_expression_types;
   }
-
-  abbrev wide : TypeInner
-  wide = inner.Scalar (record { kind = kind.Float; width = 4 })
 
   -- ---- what is spelled in a function
   abbrev of_conversion : ScalarKind → Option ℕ → TypeInner → List (List ℕ)

@@ -1,7 +1,8 @@
--- Where the text of a module spells a type that is over `f16`: by one of the module's types, by the
--- type of a `let`, and by a conversion, which is called by the type that it makes of its operand's.
--- Whatever else a function calls by a type is called by one of the module's, or by one over the
--- scalars that a pointer leads to, whose type is known.
+-- Where the text of a module may spell a type that is over `f16`, or have a literal of one: by one of
+-- the module's types, by the type that is known of an expression, as a `let` tells it, and by a
+-- conversion, which is called by the type that it makes of its operand's. Whatever else a function
+-- calls by a type is called by one of the module's, or by one over the scalars that a pointer leads
+-- to, whose type is known. It is asked of all of these, of those too that no text has.
 --
 -- Throughout, types are those of a module m, of which info is known, it is a type by itself, s a
 -- scalar, k what is known of an expression, f a function and known what is known of its
@@ -73,13 +74,14 @@ abbrev pub spells_known_halves :
     List Type_ → Function → (known : Option (List ExpressionInfo)) → Bool
 spells_known_halves types f known = option_map_or (function_spells_halves types f) known false
 
--- a module: by one of its types, or by a function or an entry point
+-- a module: by one of its types, by one of its own expressions, or by a function or an entry point
 abbrev pub spells_halves : Module → ModuleInfo → Bool
 spells_halves m info =
     list_any (λ p. is_over_halves p.1.inner) (enumerate_from 0 m.types)
+    || (list_any value_is_over_halves info.const_expression_types.items
     || (list_any
     (λ p. spells_known_halves m.types p.1 (slice_get info.functions.items p.0))
     (enumerate_from 0 m.functions)
     || list_any
     (λ p. spells_known_halves m.types p.1.function (slice_get info.entry_points.items p.0))
-    (enumerate_from 0 m.entry_points.items))
+    (enumerate_from 0 m.entry_points.items)))

@@ -1,4 +1,4 @@
--- What of a module a standard compiler asks the extension `subgroups` for: builtin values, and
+-- What of a module a text for standard compilers enables `subgroups` for: builtin values, and
 -- statements, wherever they stand in a function or an entry point.
 --
 -- Throughout, m is a module, p a function beside its handle, or an entry point, test says of a

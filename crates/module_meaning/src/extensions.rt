@@ -1,9 +1,8 @@
 //! What standard compilers ask for extensions.
 
-ghost use Rattle.std.specs.Prelude.{◌≡◌, slice_get};
+ghost use Rattle.std.specs.Prelude.{◌≡◌, ◌||◌, false, slice_get};
 ghost use Rattle.std.specs.List.{enumerate_from, list_any};
 ghost use Rattle.std.specs.Option.{option_map_or};
-ghost use Rattle.module_meaning.specs.Conversions.{converted_scalar};
 ghost use Rattle.module_meaning.specs.ExpressionForms.{known_passes};
 ghost use Rattle.module_meaning.specs.Halves.{converts_to_halves, function_spells_halves};
 ghost use Rattle.module_meaning.specs.Halves.{is_half, is_over_halves, makes_halves};
@@ -16,7 +15,7 @@ ghost use Rattle.module_meaning.specs.Subgroups.{statement_has_one};
 ghost use Rattle.naga_info.specs.Resolution.{inner_of};
 ghost use Rattle.naga_ir.specs.StatementViews.{cases_of, tree_of};
 
-use crate::type_parts::inner_of;
+use crate::type_parts::{converted_scalar, inner_of};
 use bitflags::Flags;
 use naga_info::{ExpressionInfo, FunctionInfo, ModuleInfo, TypeResolution};
 use naga_ir::{
@@ -115,11 +114,14 @@ fn keeps_subgroups(barrier: Barrier) -> bool
     barrier.contains(Barrier::SUB_GROUP)
 }
 
-/// Whether the text of the module spells a type that is over `f16`.
+/// Whether the text of the module may spell a type that is over `f16`, or have a literal of one.
 pub fn spells_halves(module: &Module, info: &ModuleInfo) -> bool
     ensures { result ≡ spells_halves «module».now info.now }
 {
     if are_over_halves(&module.types) {
+        return true;
+    }
+    if values_over_halves(&info.const_expression_types) {
         return true;
     }
     functions_spell_halves(module, info) || entry_points_spell_halves(module, info)
@@ -130,6 +132,17 @@ fn are_over_halves(types: &UniqueArena<Type_>) -> bool
 {
     for (_, ty) in types.iter() {
         if is_over_halves(&ty.inner) {
+            return true;
+        }
+    }
+    false
+}
+
+fn values_over_halves(known: &[TypeResolution]) -> bool
+    ensures { result ≡ list_any value_is_over_halves known.now }
+{
+    for ty in known {
+        if value_is_over_halves(ty) {
             return true;
         }
     }
@@ -274,15 +287,6 @@ fn makes_halves(inner: &TypeInner, kind: ScalarKind, convert: Option<u8>) -> boo
         TypeInner::Vector { scalar, .. } => is_half(converted_scalar(*scalar, kind, convert)),
         TypeInner::Matrix { scalar, .. } => is_half(converted_scalar(*scalar, kind, convert)),
         _ => false,
-    }
-}
-
-fn converted_scalar(scalar: Scalar, kind: ScalarKind, convert: Option<u8>) -> Scalar
-    ensures { result ≡ converted_scalar scalar kind convert }
-{
-    Scalar {
-        kind,
-        width: convert.unwrap_or(scalar.width),
     }
 }
 

@@ -1,14 +1,15 @@
-//! Which types are made of parts.
+//! Which types are made of parts, and what their scalars are converted to.
 
 ghost use Rattle.std.specs.Prelude.{◌≡◌, false};
 ghost use Rattle.std.specs.Option.{option_copied, option_map_or};
+ghost use Rattle.module_meaning.specs.Conversions.{converted_scalar};
 ghost use Rattle.module_meaning.specs.ExpressionOperators.{has_parts, is_composite};
 ghost use Rattle.module_meaning.specs.ExpressionForms.{known_passes};
 ghost use Rattle.module_meaning.specs.TypeParts.{inner_at};
 ghost use Rattle.naga_info.specs.Resolution.{inner_of};
 
 use naga_info::{ExpressionInfo, TypeResolution};
-use naga_ir::{Expression, Handle, Type_, TypeInner, UniqueArena};
+use naga_ir::{Expression, Handle, Scalar, ScalarKind, Type_, TypeInner, UniqueArena};
 
 /// The type of the module with this handle, if there is one.
 pub fn inner_at<'a>(types: &'a UniqueArena<Type_>, handle: Handle<Type_>) -> Option<&'a TypeInner>
@@ -79,5 +80,15 @@ fn is_composite(inner: &TypeInner) -> bool
         | TypeInner::BindingArray { .. }
         | TypeInner::Struct { .. } => true,
         _ => false,
+    }
+}
+
+/// The scalar that one is converted to: of this kind, and of the width that is told or its own.
+pub fn converted_scalar(scalar: Scalar, kind: ScalarKind, convert: Option<u8>) -> Scalar
+    ensures { result ≡ converted_scalar scalar kind convert }
+{
+    Scalar {
+        kind,
+        width: convert.unwrap_or(scalar.width),
     }
 }

@@ -12,11 +12,12 @@ ghost use Rattle.module_meaning.specs.AgreeingOperators.{constructor_key, conver
 ghost use Rattle.module_meaning.specs.AgreeingOperators.{formless_key, letter_number, one_key};
 ghost use Rattle.module_meaning.specs.AgreeingOperators.{operator_key, swizzle_key, target_key};
 ghost use Rattle.module_meaning.specs.AgreeingOperators.{typed_key, width_number, word_key};
-ghost use Rattle.module_meaning.specs.Conversions.{conversion_target, converted_scalar, keeps_bits};
+ghost use Rattle.module_meaning.specs.Conversions.{conversion_target, keeps_bits};
 
 use crate::alike::{are_alike, inferred_identity, inferred_is_spelled};
 use crate::parts::{InferredType, Known, known_inner, vector_number};
 use crate::type_numbers::{Level, is_same_level, kind_number, level_of, truth_number};
+use module_meaning::type_parts::converted_scalar;
 use naga_ir::{
     Expression, Handle, Scalar, ScalarKind, SwizzleComponent, Type_, TypeInner, UniqueArena,
     VectorSize,
@@ -73,16 +74,6 @@ fn formless_key(kind: ScalarKind, convert: Option<u8>) -> Key
     ensures { (types : List ir_type.Type_) → key types result ≡ formless_key kind convert }
 {
     Key::Word(level_of(1, kind_number(kind), width_number(convert), 0, 0, 0))
-}
-
-/// The scalar that one is converted to: of this kind, and of the width that is told or its own.
-pub(crate) fn converted_scalar(scalar: Scalar, kind: ScalarKind, convert: Option<u8>) -> Scalar
-    ensures { result ≡ converted_scalar scalar kind convert }
-{
-    Scalar {
-        kind,
-        width: convert.unwrap_or(scalar.width),
-    }
 }
 
 /// What a value of this type is converted to, if it is converted.

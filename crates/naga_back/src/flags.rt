@@ -15,8 +15,8 @@ bitflag_items! {
         const EXPLICIT_TYPES = 1;
 
         /// The text has what standard compilers ask for: `enable subgroups;` where something of
-        /// subgroups stands in it, `enable f16;` wherever a type is spelled that is over `f16`, and
-        /// level zero of an image of depths as the whole number `0`.
+        /// subgroups stands in it, `enable f16;` wherever a type over `f16` may be spelled or a
+        /// literal of one stand, and level zero of an image of depths as the whole number `0`.
         const PORTABLE = 2;
     }
 }

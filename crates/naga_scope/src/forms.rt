@@ -2,7 +2,6 @@
 
 ghost use Rattle.std.specs.Prelude.{◌≡◌, List, Some};
 ghost use Rattle.std.specs.Option.{is_some, option_and_then};
-ghost use Rattle.module_meaning.specs.Conversions.{converted_scalar};
 ghost use Rattle.module_meaning.specs.ExpressionForms.{converts, expression_is_written};
 ghost use Rattle.module_meaning.specs.ExpressionForms.{is_written_literal};
 ghost use Rattle.module_meaning.specs.ExpressionOperators.{scalar_behind, scalar_in};
@@ -21,7 +20,7 @@ ghost use Rattle.wgsl_text.specs.Words.{stands_in};
 ghost use Rattle.wgsl_words.specs.Words.{scalar_word};
 
 use crate::tables::ModuleTables;
-use module_meaning::type_parts::known_has_parts;
+use module_meaning::type_parts::{converted_scalar, known_has_parts};
 use naga_info::{FunctionInfo, TypeResolution};
 use naga_ir::{
     CooperativeRole, CooperativeSize, Expression, Handle, Literal, Module, RelationalFunction,
@@ -340,14 +339,4 @@ pub(crate) fn has_word(scalar: Scalar) -> bool
     ensures { result ≡ is_some (scalar_word scalar) }
 {
     scalar.try_to_wgsl().is_some()
-}
-
-/// The scalar that one is converted to: of this kind, and of the width that is told or its own.
-pub fn converted_scalar(scalar: Scalar, kind: ScalarKind, convert: Option<u8>) -> Scalar
-    ensures { result ≡ converted_scalar scalar kind convert }
-{
-    Scalar {
-        kind,
-        width: convert.unwrap_or(scalar.width),
-    }
 }

@@ -26,7 +26,7 @@ pub use continues::split_at_continue;
 pub use declarations::{
     DeclarationPlace, FormlessDeclaration, FormlessHead, formless_declaration, formless_head,
 };
-pub use forms::{converted_scalar, sampling_has_form, scalar_behind, whole_known};
+pub use forms::{sampling_has_form, scalar_behind, whole_known};
 pub use functions::function_of;
 pub use plan::{Plan, PlanError};
 pub use points::{Availability, BoundName, Scope};

@@ -1,4 +1,4 @@
--- The texts of integers, from what is written of them in turn.
+-- The texts of integers and of numerals, from what is written of them in turn.
 use Rattle.std.proofs.Common.{◌≡◌, ◌++◌, ℕ, ℤ, pos, negsuc, false, codes, decimal, refl, ap, ◌==◌}
 use Rattle.std.proofs.Common.{ne_eqb, append_assoc, sym, ◌∙◌, Bool, true, List, [], ◌∷◌, zero, suc}
 use Rattle.std.specs.Fmt.{digits, sign_text, signed_decimal}

@@ -13,9 +13,10 @@ ghost use Rattle.naga_wgsl_fns.specs.FunctionText.{CanWrite, IsInText};
 ghost use Rattle.naga_words.specs.Output.{Writes};
 
 use crate::functions::FunctionText;
+use module_meaning::type_parts::converted_scalar;
 use naga_info::TypeResolution;
 use naga_ir::{Expression, Handle, ScalarKind, TypeInner};
-use naga_scope::{Scope, converted_scalar};
+use naga_scope::Scope;
 use naga_words::{Output, TextSink};
 use std::alloc::Global;
 

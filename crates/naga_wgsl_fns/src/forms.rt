@@ -20,15 +20,13 @@ ghost use Rattle.naga_wgsl_fns.specs.Refusals.{NamesItemsOf, pointed_scalar};
 use crate::construct::Construct;
 use crate::formless_constants::formless_constant;
 use crate::lacking::lacking_scalar;
-use module_meaning::type_parts::known_has_parts;
+use module_meaning::type_parts::{converted_scalar, known_has_parts};
 use naga_info::{FunctionInfo, TypeResolution};
 use naga_ir::{
     Expression, Handle, Literal, Module, SampleLevel, ScalarKind, SwizzleComponent, Type_, TypeInner,
     UniqueArena,
 };
-use naga_scope::{
-    FormlessStatement, ModuleTables, converted_scalar, sampling_has_form, scalar_behind,
-};
+use naga_scope::{FormlessStatement, ModuleTables, sampling_has_form, scalar_behind};
 
 /// What an expression that has no form among the others of its function is.
 pub(crate) fn without_form(

@@ -66,6 +66,21 @@ member_of_unary = found_expression _ (Member (Unary Negate (Name (codes "v"))) (
 plain_number : IsNoExpression (codes "1")
 plain_number = no_expression _ refl
 
+plain_fraction : IsNoExpression (codes "1.5")
+plain_fraction = no_expression _ refl
+
+power_of_single : IsNoExpression (codes "1e5f")
+unfolding is_reserved is_builtin
+power_of_single = no_expression _ refl
+
+hexadecimal : IsNoExpression (codes "0x1f")
+unfolding is_reserved is_builtin
+hexadecimal = no_expression _ refl
+
+open_fraction : IsNoExpression (codes "1.f")
+unfolding is_reserved is_builtin
+open_fraction = no_expression _ refl
+
 plain_argument : IsNoExpression (codes "f(x, 1)")
 unfolding is_reserved is_builtin
 plain_argument = found_expression _ (Call (Named (codes "f")) (Argument (Name (codes "x")) (NumberArgument 1 NoArguments))) refl (λ r. false≢true r.form.2)
@@ -141,6 +156,10 @@ unfolding is_reserved is_builtin
 refused = record {
   member_of_unary = member_of_unary;
   plain_number = plain_number;
+  plain_fraction = plain_fraction;
+  power_of_single = power_of_single;
+  hexadecimal = hexadecimal;
+  open_fraction = open_fraction;
   plain_argument = plain_argument;
   level_elsewhere = level_elsewhere;
   level_first = level_first;

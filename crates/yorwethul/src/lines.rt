@@ -1,10 +1,11 @@
 //! Many modules: each line of the input is answered by a line of the output.
 
 use crate::failure::Failure;
-use module_answers::{JsonPlace, Written, flags_for, write};
+use crate::texts::{Style, write_in};
+use module_answers::{JsonPlace, Written};
 use naga_json::{Known, ReadError, known_of};
 use naga_wgsl_out::info::Unaccepted;
-use naga_wgsl_out::wgsl::{Error, WriterFlags};
+use naga_wgsl_out::wgsl::Error;
 use serde_json::{Map, Value};
 use std::alloc::{AllocError, Global};
 use std::fmt::Display;
@@ -18,12 +19,12 @@ pub fn answer_lines<'a, B: BufRead + Drop, W: Write>(
     alloc: Global,
     name: &'a str,
     input: B,
-    explicit_types: bool,
+    style: Style,
     out: &mut W,
 ) -> Result<(), Failure<'a>> {
     for line in input.split(alloc, b'\n') {
         match line {
-            Ok(line) => answer_line(alloc, line.as_slice(), explicit_types, out)?,
+            Ok(line) => answer_line(alloc, line.as_slice(), style, out)?,
             Err(error) => return Err(Failure::Input(name, error)),
         }
     }
@@ -33,10 +34,10 @@ pub fn answer_lines<'a, B: BufRead + Drop, W: Write>(
 fn answer_line<'a, W: Write>(
     alloc: Global,
     line: &[u8],
-    explicit_types: bool,
+    style: Style,
     out: &mut W,
 ) -> Result<(), Failure<'a>> {
-    let Ok(text) = line_answer(alloc, line, explicit_types) else {
+    let Ok(text) = line_answer(alloc, line, style) else {
         return Err(Failure::Memory);
     };
     match write_line(text.as_str(), out) {
@@ -55,10 +56,10 @@ fn write_line<W: Write>(text: &str, out: &mut W) -> io::Result<()> {
 type Members = Map<String, Value>;
 
 /// The answer to a line.
-fn line_answer(alloc: Global, line: &[u8], explicit_types: bool) -> Result<String, AllocError> {
+fn line_answer(alloc: Global, line: &[u8], style: Style) -> Result<String, AllocError> {
     let mut members = Map::new(alloc);
     match Value::from_slice(alloc, line) {
-        Ok(mut request) => answer_request(alloc, &mut request, explicit_types, &mut members)?,
+        Ok(mut request) => answer_request(alloc, &mut request, style, &mut members)?,
         Err(error) => tell_unread(alloc, ReadError::from(error), &mut members)?,
     }
     Value::Object(members).to_string(alloc)
@@ -68,12 +69,12 @@ fn line_answer(alloc: Global, line: &[u8], explicit_types: bool) -> Result<Strin
 fn answer_request(
     alloc: Global,
     request: &mut Value,
-    explicit_types: bool,
+    style: Style,
     members: &mut Members,
 ) -> Result<(), AllocError> {
-    match flags_in(request, explicit_types) {
-        Some(flags) => answer_module(alloc, request, flags, members)?,
-        None => tell(alloc, "error", "explicit_types: no truth value", members)?,
+    match style_in(request, style) {
+        Ok(style) => answer_module(alloc, request, style, members)?,
+        Err(error) => tell(alloc, "error", error, members)?,
     }
     if let Some(id) = request.get_mut("id") {
         put(alloc, "id", id.take(), members)?;
@@ -81,22 +82,37 @@ fn answer_request(
     Ok(())
 }
 
-/// The flags that are asked for, unless what tells them is no truth value.
-fn flags_in(request: &Value, explicit_types: bool) -> Option<WriterFlags> {
-    match request.get("explicit_types") {
-        Some(told) => Some(flags_for(told.as_bool()?)),
-        None => Some(flags_for(explicit_types)),
+/// The style that is asked for: what the request doesn't tell is as in this one. It is an error
+/// where what tells it is no truth value.
+fn style_in(request: &Value, style: Style) -> Result<Style, &'static str> {
+    let Some(explicit_types) = truth_in(request, "explicit_types", style.explicit_types) else {
+        return Err("explicit_types: no truth value");
+    };
+    let Some(plain) = truth_in(request, "plain", style.plain) else {
+        return Err("plain: no truth value");
+    };
+    Ok(Style {
+        explicit_types,
+        plain,
+    })
+}
+
+/// The truth value that a member has, or this one where there is no such member.
+fn truth_in(request: &Value, name: &str, absent: bool) -> Option<bool> {
+    match request.get(name) {
+        Some(told) => told.as_bool(),
+        None => Some(absent),
     }
 }
 
 fn answer_module(
     alloc: Global,
     request: &Value,
-    flags: WriterFlags,
+    style: Style,
     members: &mut Members,
 ) -> Result<(), AllocError> {
     match known_of(alloc, request) {
-        Ok(mut known) => tell_known(alloc, &mut known, flags, members),
+        Ok(mut known) => tell_known(alloc, &mut known, style, members),
         Err(error) => tell_unread(alloc, error, members),
     }
 }
@@ -104,16 +120,10 @@ fn answer_module(
 fn tell_known(
     alloc: Global,
     known: &mut Known,
-    flags: WriterFlags,
+    style: Style,
     members: &mut Members,
 ) -> Result<(), AllocError> {
-    match write(
-        alloc,
-        &known.module,
-        &mut known.info,
-        flags,
-        String::new(alloc),
-    ) {
+    match write_in(alloc, style, known) {
         Ok(written) => tell_written(alloc, written, members),
         Err(unaccepted) => tell_unaccepted(alloc, unaccepted, members),
     }

@@ -1,13 +1,15 @@
 //! Reads modules from JSON, and prints their WGSL texts.
 //!
-//! `yorwethul MODULE.json` prints the text of one module, `yorwethul --layout MODULE.json` tells where
-//! the members of its structs stand, and `yorwethul --lines` answers many, one a line.
+//! `yorwethul MODULE.json` prints the text of one module, with its floats told by numerals and with
+//! what standard compilers ask for; `--plain` leaves both out. `yorwethul --layout MODULE.json` tells
+//! where the members of its structs stand, and `yorwethul --lines` answers many, one a line.
 #![tactic(auto)]
 
 mod failure;
 mod inputs;
 mod lines;
 mod program;
+mod texts;
 mod words;
 
 use std::io;

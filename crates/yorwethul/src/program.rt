@@ -3,8 +3,9 @@
 use crate::failure::Failure;
 use crate::inputs::known_of;
 use crate::lines::answer_lines;
+use crate::texts::write_in;
 use crate::words::{Request, Task, request_of};
-use module_answers::{JsonPlace, Written, flags_for, layout_table, write};
+use module_answers::{JsonPlace, Written, layout_table};
 use naga_json::Known;
 use naga_wgsl_out::info::{Unaccepted, unaccepted};
 use naga_wgsl_out::wgsl::Error;
@@ -98,7 +99,7 @@ fn read_lines<'a, I: Read + Drop, O: Write>(
 ) -> Result<(), Failure<'a>> {
     let name = request.module;
     match buffered(alloc, input) {
-        Ok(input) => answer_lines(alloc, name, input, request.explicit_types, out),
+        Ok(input) => answer_lines(alloc, name, input, request.style, out),
         Err(error) => Err(Failure::Input(name, error)),
     }
 }
@@ -130,14 +131,7 @@ fn print_text<O: Write, E: Write>(
     out: &mut O,
     err: &mut E,
 ) -> u8 {
-    let flags = flags_for(request.explicit_types);
-    match write(
-        alloc,
-        &known.module,
-        &mut known.info,
-        flags,
-        String::new(alloc),
-    ) {
+    match write_in(alloc, request.style, known) {
         Ok(written) => print_written(written, out, err),
         Err(unaccepted) => refuse_unaccepted(unaccepted, err),
     }

@@ -1,5 +1,6 @@
 //! The words that the program is called with.
 
+use crate::texts::Style;
 use clap::{Arg, ArgAction, ArgMatches, Command, Error};
 use std::alloc::{AllocError, Global};
 
@@ -21,8 +22,8 @@ pub enum Task {
 pub struct Request<'a> {
     /// What is done.
     pub task: Task,
-    /// Whether each `let` tells its type.
-    pub explicit_types: bool,
+    /// How texts are written.
+    pub style: Style,
     /// The file with the module, or `-` for the standard input.
     pub module: &'a str,
     /// The file with what is known of the module, where it does not stand beside the module.
@@ -39,7 +40,10 @@ pub fn request_of(alloc: Global, words: &[String]) -> Result<Request<'_>, Error>
 fn request_in<'a>(matches: &ArgMatches<'a>) -> Request<'a> {
     Request {
         task: task_in(matches),
-        explicit_types: matches.get_flag("explicit-types"),
+        style: Style {
+            explicit_types: matches.get_flag("explicit-types"),
+            plain: matches.get_flag("plain"),
+        },
         module: matches.get_str("module").unwrap_or("-"),
         info: matches.get_str("info"),
     }
@@ -62,10 +66,14 @@ const ABOUT: &str =
 
 const AFTER_HELP: &str = "\
 The file holds an object with the members module and info, as serde writes naga's Module and
-ModuleInfo. With --lines each line is such an object, which may have the members explicit_types
-and id beside; explicit_types, true or false, holds in place of --explicit-types. It is answered
-before the next line is read, by one line, an object with the same id and with one of the members
-text, refused, not_accepted and error.
+ModuleInfo. With --lines each line is such an object, which may have the members explicit_types,
+plain and id beside; explicit_types and plain, true or false, hold in place of --explicit-types
+and --plain. It is answered before the next line is read, by one line, an object with the same id
+and with one of the members text, refused, not_accepted and error.
+
+Literals of floats are written by the digits that Rust's formatting gives, and the text has what
+standard compilers ask for, as enable subgroups. With --plain neither is so, as by the library
+without flags: a literal of a float that the module has not as a numeral is then refused.
 
 With --layout each struct that the text declares has a line, and so has each of its members, with
 its offset and what WGSL gives to its type, in bytes, or why the member can't stay where it is.
@@ -80,6 +88,7 @@ fn command<'a>(alloc: Global) -> Result<Command<'a>, AllocError> {
         .about(ABOUT)
         .after_help(AFTER_HELP)
         .arg(flag(alloc, "explicit-types", "Has each let tell its type"))?
+        .arg(plain(alloc))?
         .arg(check(alloc)?)?
         .arg(layout(alloc)?)?
         .arg(lines(alloc)?)?
@@ -94,16 +103,24 @@ fn flag<'a>(alloc: Global, name: &'a str, help: &'a str) -> Arg<'a> {
         .help(help)
 }
 
+fn plain<'a>(alloc: Global) -> Arg<'a> {
+    let help = "Refuses literals of floats, and has nothing that only standard compilers ask for";
+    flag(alloc, "plain", help)
+}
+
 fn check<'a>(alloc: Global) -> Result<Arg<'a>, AllocError> {
     let help = "Only says whether the module is accepted, and else where it is not and why";
-    flag(alloc, "check", help).conflicts_with("explicit-types")
+    flag(alloc, "check", help)
+        .conflicts_with("explicit-types")?
+        .conflicts_with("plain")
 }
 
 fn layout<'a>(alloc: Global) -> Result<Arg<'a>, AllocError> {
     let help = "Tells where the members of the module's structs stand, or why they can't";
     flag(alloc, "layout", help)
         .conflicts_with("check")?
-        .conflicts_with("explicit-types")
+        .conflicts_with("explicit-types")?
+        .conflicts_with("plain")
 }
 
 fn lines<'a>(alloc: Global) -> Result<Arg<'a>, AllocError> {

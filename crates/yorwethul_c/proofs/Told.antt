@@ -1,6 +1,8 @@
 -- What a call tells, from what its steps say.
-use Rattle.std.proofs.Common.{◌≡◌, ◌≤◌, ◌∙◌, ℕ, List, [], Err, None, Ok, Option, Result, Some, ap, inl, inr, is_none, refl, subst, sym}
-use Rattle.std.specs.Prelude.{◌⊎◌, IfErr, IfSome, IsTrue}
+use Rattle.std.proofs.Common.{◌≡◌, ◌≤◌, ◌∙◌, ℕ, List, [], Err, None, Ok, Option, Result, Some, ap, inl, inr, is_none, refl, subst, sym, arith}
+use Rattle.std.proofs.lemmas.Bool.{le-leb, lt-leb}
+use Rattle.told_floats.specs.Told.{IsToldModule}
+use Rattle.std.specs.Prelude.{◌<◌, ◌%◌, ◌⊎◌, IfErr, IfSome, IsTrue}
 use Rattle.naga_ir.specs.declared.module.Module.{Module}
 use Rattle.naga_info.specs.declared.info.ModuleInfo.{ModuleInfo}
 use Rattle.module_meaning.specs.Accepted.{is_accepted}
@@ -15,7 +17,7 @@ use Rattle.naga_acceptance.specs.Faults.{Fails}
 use Rattle.naga_acceptance.specs.declared.faults.Unaccepted.{Unaccepted}
 use Rattle.yorwethul_c.specs.Answers.{IsAccepted, IsNotAccepted, IsStopped, IsWritten, LacksMemory, Says, SaysOfError, SaysOfWritten}
 use Rattle.yorwethul_c.specs.Answers.{TellsOfChecking, TellsOfLayouts, TellsOfReading, TellsOfWriting}
-use Rattle.yorwethul_c.specs.Answers.{status_of_error}
+use Rattle.yorwethul_c.specs.Answers.{IsAsAsked, status_of_error, tells_floats}
 use Rattle.yorwethul_c.specs.declared.status.Status.{Status}
 use Rattle.yorwethul_c.specs.declared.status.Status.TheVariants as status
 
@@ -105,24 +107,37 @@ stopped json flags (error.UnsupportedRelationalFunction e) told text is says =
 stopped json flags (error.Unsupported kind value) told text is says =
     said (TellsOfWriting json flags) status.Refused told text is refl says.0
 
-pub wrote : (json : List ℕ) (flags : ℕ) (writer : WriterFlags) (m : Module) (read info : ModuleInfo)
+pub at_most_seven : (flags : ℕ) → flags < 4 → flags ≤ 7
+at_most_seven flags less = omega arith
+
+-- what is asked of floats, without the flag and with it
+pub as_given : (flags : ℕ) (m : Module) → flags < 4 → IsAsAsked (tells_floats flags) m m
+as_given flags m less = subst (λ told. IsAsAsked told m m) (sym (lt-leb 4 flags less)) refl
+
+pub with_floats_told : (flags : ℕ) (given m : Module) → 4 ≤ flags → IsToldModule given m →
+    IsAsAsked (tells_floats flags) given m
+with_floats_told flags given m more told =
+    subst (λ asked. IsAsAsked asked given m) (sym (le-leb 4 flags more)) told
+
+pub wrote : (json : List ℕ) (flags : ℕ) (writer : WriterFlags) (given m : Module) (read info : ModuleInfo)
     (answer : Result Unit Error) (content : List ℕ) (failures : ℕ) (told : Status) (text : List ℕ) →
-    flags ≤ 3 → bits_of writer ≡ flags → IsTrue (is_accepted m read) → IsCounted m read info →
+    flags ≤ 7 → bits_of writer ≡ flags % 4 → IsAsAsked (tells_floats flags) given m →
+    IsTrue (is_accepted given read) → IsCounted m read info →
     FaithfulWriting writer m info answer [] content 0 failures →
     AppendsItsText m info writer answer [] content →
     SaysOfWritten answer content told text → TellsOfWriting json flags told text
-wrote json flags writer m read info (Ok tt) content failures told text known bits accepted counted faithful
+wrote json flags writer given m read info (Ok tt) content failures told text known bits asked accepted counted faithful
     appends (inl is) =
     let moved : FaithfulWriting writer m info (Ok tt) [] text 0 0 =
     subst (λ now. FaithfulWriting writer m info (Ok tt) [] now 0 0) (sym is.1)
     (no_failures writer m info content failures faithful) in
     let done : IsWritten flags text =
-    record { flags_are_known = known; writer = writer; has_bits = bits; m = m; read = read; info = info; accepted = accepted; counted = counted; faithful = moved; text_is = is.1 ∙ appends } in
+    record { flags_are_known = known; writer = writer; has_bits = bits; given = given; m = m; is_as_asked = asked; read = read; info = info; accepted = accepted; counted = counted; faithful = moved; text_is = is.1 ∙ appends } in
     subst (λ s. TellsOfWriting json flags s text) (sym is.0) done
-wrote json flags writer m read info (Ok tt) content failures told text known bits accepted counted faithful
+wrote json flags writer given m read info (Ok tt) content failures told text known bits asked accepted counted faithful
     appends (inr less) = lacking (TellsOfWriting json flags) told text refl less
-wrote json flags writer m read info (Err e) content failures told text known bits accepted counted faithful
+wrote json flags writer given m read info (Err e) content failures told text known bits asked accepted counted faithful
     appends says =
     stopped json flags e told text
-    (record { flags_are_known = known; writer = writer; has_bits = bits; m = m; read = read; info = info; error = e; beginning = content; failures = failures; accepted = accepted; counted = counted; faithful = faithful; told_is = refl })
+    (record { flags_are_known = known; writer = writer; has_bits = bits; given = given; m = m; is_as_asked = asked; read = read; info = info; error = e; beginning = content; failures = failures; accepted = accepted; counted = counted; faithful = faithful; told_is = refl })
     says

@@ -2,7 +2,8 @@
 --
 -- Throughout, m is a module, read is what is known of it, info is the same with the uses counted, and
 -- json is the bytes that a call was given.
-use Rattle.std.specs.Prelude.{◌≡◌, ◌≤◌, ⊤, ℕ, ◌++◌, ◌⊎◌, IsTrue, List, [], length}
+use Rattle.std.specs.Prelude.{◌≡◌, ◌≤◌, ⊤, ℕ, ◌%◌, ◌++◌, ◌⊎◌, Bool, true, false, IsTrue}
+use Rattle.std.specs.Prelude.{List, [], length}
 use Rattle.std.specs.Prelude.{drop, if◌then◌else◌, nat_le, Result, Ok, Err}
 use Rattle.naga_ir.specs.declared.module.Module.{Module}
 use Rattle.naga_info.specs.declared.info.ModuleInfo.{ModuleInfo}
@@ -17,6 +18,7 @@ use Rattle.naga_wgsl_fns.specs.declared.error.Error.{Error}
 use Rattle.naga_wgsl_fns.specs.declared.error.Error.TheVariants as error
 use Rattle.naga_wgsl_out.specs.Checked.{IsCounted}
 use Rattle.naga_wgsl_out.specs.Headline.{FaithfulWriting}
+use Rattle.told_floats.specs.Told.{IsToldModule}
 use Rattle.yorwethul_c.specs.Nesting.{nest_past}
 use Rattle.yorwethul_c.specs.declared.nesting.Within.TheVariants as within
 use Rattle.yorwethul_c.specs.declared.status.Status.{Status}
@@ -59,16 +61,26 @@ status_of_error (error.Memory e) = status.OutOfMemory
 status_of_error (error.FmtError e) = status.TooLong
 status_of_error _ = status.Refused
 
--- The text is that of an accepted module, faithfully written. The flags in yorwethul.h are the
--- writer's own.
+-- Of the flags in yorwethul.h the two lowest bits are the writer's own. The next one asks that the
+-- floats of a module are told before it is written; else it is written as it is given.
+abbrev pub IsAsAsked : (floats_are_told : Bool) → (given m : Module) → Type 0
+IsAsAsked true given m = IsToldModule given m
+IsAsAsked false given m = m ≡ given
+
+abbrev pub tells_floats : (flags : ℕ) → Bool
+tells_floats flags = nat_le 4 flags
+
+-- The text is that of an accepted module, written as asked, and faithfully.
 pub record IsWritten (flags : ℕ) (text : List ℕ) : Type 0 where
-  pub flags_are_known : flags ≤ 3
+  pub flags_are_known : flags ≤ 7
   pub writer : WriterFlags
-  pub has_bits : bits_of writer ≡ flags
+  pub has_bits : bits_of writer ≡ flags % 4
+  pub given : Module
   pub m : Module
+  pub is_as_asked : IsAsAsked (tells_floats flags) given m
   pub read : ModuleInfo
   pub info : ModuleInfo
-  pub accepted : IsTrue (is_accepted m read)
+  pub accepted : IsTrue (is_accepted given read)
   pub counted : IsCounted m read info
   pub faithful : FaithfulWriting writer m info (Ok tt) [] text 0 0
   pub text_is : text ≡ layout (written_program m info writer)
@@ -76,16 +88,18 @@ pub record IsWritten (flags : ℕ) (text : List ℕ) : Type 0 where
 -- The writer stopped at an accepted module, by an error of this status. So a refusal is for a
 -- listed construct that stands in the module.
 pub record IsStopped (flags : ℕ) (told : Status) : Type 0 where
-  pub flags_are_known : flags ≤ 3
+  pub flags_are_known : flags ≤ 7
   pub writer : WriterFlags
-  pub has_bits : bits_of writer ≡ flags
+  pub has_bits : bits_of writer ≡ flags % 4
+  pub given : Module
   pub m : Module
+  pub is_as_asked : IsAsAsked (tells_floats flags) given m
   pub read : ModuleInfo
   pub info : ModuleInfo
   pub error : Error
   pub beginning : List ℕ
   pub failures : ℕ
-  pub accepted : IsTrue (is_accepted m read)
+  pub accepted : IsTrue (is_accepted given read)
   pub counted : IsCounted m read info
   pub faithful : FaithfulWriting writer m info (Err error) [] beginning 0 failures
   pub told_is : status_of_error error ≡ told
@@ -117,7 +131,7 @@ TellsOfWriting json flags status.Done text = IsWritten flags text
 TellsOfWriting json flags status.Refused text = IsStopped flags status.Refused
 TellsOfWriting json flags status.TooLong text = IsStopped flags status.TooLong
 TellsOfWriting json flags status.NotAccepted text = IsNotAccepted
-TellsOfWriting json flags status.UnknownFlag text = 4 ≤ flags
+TellsOfWriting json flags status.UnknownFlag text = 8 ≤ flags
 TellsOfWriting json flags told text = TellsOfReading json told text
 
 -- of one that is only asked whether it is accepted: then there is no text

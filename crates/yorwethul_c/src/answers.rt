@@ -1,6 +1,7 @@
 //! What becomes of a module, as a status and a text.
 
-ghost use Rattle.std.specs.Prelude.{◌≡◌, ◌≤◌, ℕ, IfErr, IfOk, List, string_bytes};
+ghost use Rattle.std.specs.Prelude.{◌≡◌, ◌<◌, ◌≤◌, ◌%◌, ℕ, IfErr, IfOk, List, string_bytes};
+ghost use Rattle.naga_back.specs.Flags.{bits_of};
 ghost use Rattle.yorwethul_c.specs.Answers.{LacksMemory, Says, SaysOfError, SaysOfWritten};
 ghost use Rattle.yorwethul_c.specs.Answers.{TellsOfChecking, TellsOfLayouts, TellsOfReading};
 ghost use Rattle.yorwethul_c.specs.Answers.{TellsOfWriting};
@@ -8,7 +9,7 @@ ghost use Rattle.yorwethul_c.specs.Answers.{TellsOfWriting};
 use crate::nesting::nests_past;
 use crate::status::{Status, status_of};
 use bitflags::Flags;
-use module_answers::{JsonPlace, Written, layout_table, write};
+use module_answers::{JsonPlace, Written, layout_table, write, write_told};
 use naga_json::{Known, ReadError, read_known};
 use naga_wgsl_out::info::{Unaccepted, unaccepted};
 use naga_wgsl_out::sinks::Limited;
@@ -19,6 +20,12 @@ use std::fmt::Display;
 /// How many bytes a text may have. Shaders have shorter ones by far, and a hostile module of a few
 /// kilobytes can ask for a text without end.
 const LONGEST_TEXT: usize = 67_108_864;
+
+/// The flag by which floats are told. Those below it are the writer's own.
+const TELL_FLOATS: u32 = 4;
+
+/// All flags.
+const ALL_FLAGS: u32 = 7;
 
 /// How deep lists and objects may nest, for the reader of JSON.
 const DEEPEST: usize = 127;
@@ -36,7 +43,7 @@ pub struct Answer {
 pub fn written(alloc: Global, json: &[u8], flags: u32) -> Answer
     ensures { TellsOfWriting json.now flags result.status (string_bytes result.text) }
 {
-    if flags > 3 {
+    if flags > ALL_FLAGS {
         return told(alloc, Status::UnknownFlag, "a bit is set that no flag has");
     }
     match known_in(alloc, json) {
@@ -96,7 +103,18 @@ fn unread(alloc: Global, json: &[u8], error: ReadError) -> Answer
 }
 
 fn written_known(alloc: Global, known: &mut Known, flags: u32) -> Answer
-    requires known { flags ≤ 3 }
+    requires known { flags ≤ 7 }
+    ensures { (json : List ℕ) → TellsOfWriting json flags result.status (string_bytes result.text) }
+{
+    if flags < TELL_FLOATS {
+        written_as_given(alloc, known, flags)
+    } else {
+        written_told(alloc, known, flags)
+    }
+}
+
+fn written_as_given(alloc: Global, known: &mut Known, flags: u32) -> Answer
+    requires known { flags < 4 }
     ensures { (json : List ℕ) → TellsOfWriting json flags result.status (string_bytes result.text) }
 {
     let sink = Limited::new(alloc, LONGEST_TEXT);
@@ -104,12 +122,37 @@ fn written_known(alloc: Global, known: &mut Known, flags: u32) -> Answer
         alloc,
         &known.module,
         &mut known.info,
-        WriterFlags::from_bits_retain(flags),
+        writer_flags(flags),
         sink,
     ) {
         Ok(written) => told_written(alloc, written),
         Err(fault) => not_accepted(alloc, fault),
     }
+}
+
+fn written_told(alloc: Global, known: &mut Known, flags: u32) -> Answer
+    requires told { 4 ≤ flags }
+    requires known { flags ≤ 7 }
+    ensures { (json : List ℕ) → TellsOfWriting json flags result.status (string_bytes result.text) }
+{
+    let sink = Limited::new(alloc, LONGEST_TEXT);
+    match write_told(
+        alloc,
+        &mut known.module,
+        &mut known.info,
+        writer_flags(flags),
+        sink,
+    ) {
+        Ok(written) => told_written(alloc, written),
+        Err(fault) => not_accepted(alloc, fault),
+    }
+}
+
+/// The writer's own flags.
+fn writer_flags(flags: u32) -> WriterFlags
+    ensures { bits_of result ≡ flags % 4 }
+{
+    WriterFlags::from_bits_retain(flags % TELL_FLOATS)
 }
 
 fn told_written(alloc: Global, written: Written<Limited>) -> Answer

@@ -57,6 +57,12 @@ const FLOAT_LITERAL: &str = r#"{
     "info": {"functions": [[0]]}
 }"#;
 
+/// `fn meet()`, with a barrier of subgroups.
+const SUBGROUP_BARRIER: &str = r#"{
+    "module": {"functions": [{"name": "meet", "body": [{"ControlBarrier": "SUB_GROUP"}]}]},
+    "info": {"functions": [[]]}
+}"#;
+
 /// A struct of one member.
 const STRUCT: &str = r#"{
     "module": {
@@ -85,8 +91,23 @@ const NESTED: &str = concat!(
 const CALLS: &[(Call, &str, u32, &str)] = &[
     (Call::Write(0), DOUBLE, 0, DOUBLE_TEXT),
     (Call::Write(1), DOUBLE, 0, DOUBLE_TEXT),
-    (Call::Write(4), DOUBLE, 4, "a bit is set that no flag has"),
+    (Call::Write(7), DOUBLE, 0, DOUBLE_TEXT),
+    (Call::Write(8), DOUBLE, 4, "a bit is set that no flag has"),
     (Call::Write(0), FLOAT_LITERAL, 1, "float literal"),
+    (Call::Write(3), FLOAT_LITERAL, 1, "float literal"),
+    (
+        Call::Write(4),
+        FLOAT_LITERAL,
+        0,
+        "fn half() -> f32 {\n    return 0.5f;\n}\n",
+    ),
+    (Call::Write(5), SUBGROUP_BARRIER, 0, "fn meet() {\n"),
+    (
+        Call::Write(2),
+        SUBGROUP_BARRIER,
+        0,
+        "enable subgroups;\n\nfn meet() {\n",
+    ),
     (
         Call::Write(0),
         ITS_OWN_OPERAND,

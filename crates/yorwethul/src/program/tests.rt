@@ -1,4 +1,5 @@
 use super::{FAILED, REFUSED, answer, run};
+use crate::texts::Style;
 use crate::words::{Request, Task};
 use naga_json::read_known;
 use std::alloc::{AllocError, Global};
@@ -106,6 +107,30 @@ const WORDS: &[(&[&str], Told)] = &[
             "error: the argument '--check' cannot be used with '--explicit-types'",
         ),
     ),
+    (
+        &["--check", "--plain"],
+        (
+            FAILED,
+            "",
+            "error: the argument '--check' cannot be used with '--plain'",
+        ),
+    ),
+    (
+        &["--layout", "--plain"],
+        (
+            FAILED,
+            "",
+            "error: the argument '--layout' cannot be used with '--plain'",
+        ),
+    ),
+    (
+        &["--plain", "--explicit-types", "no/such.json"],
+        (
+            FAILED,
+            "",
+            "no/such.json: No such file or directory (os error 2)\n",
+        ),
+    ),
     (&["--info", "-"], (FAILED, "", ONE_INPUT)),
     (&["--info", "-", "-"], (FAILED, "", ONE_INPUT)),
     (
@@ -172,6 +197,34 @@ const FLOAT_LITERAL: &str = r#"{
     "info": {"functions": [[0]]}
 }"#;
 
+/// `fn endless() -> f32`, with a literal of an infinity, which no numeral tells.
+const INFINITE_LITERAL: &str = r#"{
+    "module": {
+        "types": [{"inner": {"Scalar": {"kind": "Float", "width": 4}}}],
+        "functions": [{
+            "name": "endless", "result": {"ty": 0},
+            "expressions": [{"Literal": {"F32": {"bits": 2139095040}}}],
+            "body": [{"Return": {"value": 0}}]
+        }]
+    },
+    "info": {"functions": [[0]]}
+}"#;
+
+/// A stage that takes the size of a subgroup.
+const SUBGROUP: &str = r#"{
+    "module": {
+        "types": [{"inner": {"Scalar": {"kind": "Uint", "width": 4}}}],
+        "entry_points": [{
+            "name": "count", "stage": "Compute", "workgroup_size": [1, 1, 1],
+            "function": {
+                "arguments": [{"name": "size", "ty": 0, "binding": {"BuiltIn": "SubgroupSize"}}],
+                "expressions": [{"FunctionArgument": 0}], "body": [{"Return": {"value": null}}]
+            }
+        }]
+    },
+    "info": {"entry_points": [[0]]}
+}"#;
+
 /// Structs: with a gap, with a member at no multiple of its alignment, with an array of another stride,
 /// and with a member that is bound.
 const STRUCTS: &str = r#"{
@@ -227,34 +280,92 @@ struct Out: no layout
 const OPERAND_FAULT: &str = "not accepted: module.functions[0].expressions[1]: \
     an operand does not stand before the expression\n";
 
-/// Modules, with what is done and what is told.
-const MODULES: &[(&str, Task, Told)] = &[
-    (
-        DOUBLE,
-        Task::Write,
-        (
-            0,
-            "fn double(x: i32) -> i32 {\n    return (x + x);\n}\n\n",
-            "",
-        ),
-    ),
-    (DOUBLE, Task::Check, (0, "accepted\n", "")),
+/// The style of texts by default.
+const STANDARD: Style = Style {
+    explicit_types: false,
+    plain: false,
+};
+
+/// That of plain texts.
+const PLAIN: Style = Style {
+    explicit_types: false,
+    plain: true,
+};
+
+const DOUBLE_TEXT: &str = "fn double(x: i32) -> i32 {\n    return (x + x);\n}\n\n";
+
+/// Modules, with what is done, in which style, and what is told.
+const MODULES: &[(&str, Task, Style, Told)] = &[
+    (DOUBLE, Task::Write, STANDARD, (0, DOUBLE_TEXT, "")),
+    (DOUBLE, Task::Write, PLAIN, (0, DOUBLE_TEXT, "")),
+    (DOUBLE, Task::Check, STANDARD, (0, "accepted\n", "")),
     (
         FLOAT_LITERAL,
         Task::Write,
+        STANDARD,
+        (0, "fn half() -> f32 {\n    return 0.5f;\n}\n\n", ""),
+    ),
+    (
+        FLOAT_LITERAL,
+        Task::Write,
+        PLAIN,
         (REFUSED, "", "refused: float literal\n"),
     ),
-    (FLOAT_LITERAL, Task::Check, (0, "accepted\n", "")),
-    (ITS_OWN_OPERAND, Task::Write, (REFUSED, "", OPERAND_FAULT)),
-    (ITS_OWN_OPERAND, Task::Check, (REFUSED, "", OPERAND_FAULT)),
-    (ITS_OWN_OPERAND, Task::Layout, (REFUSED, "", OPERAND_FAULT)),
-    (STRUCTS, Task::Check, (0, "accepted\n", "")),
+    (
+        INFINITE_LITERAL,
+        Task::Write,
+        STANDARD,
+        (REFUSED, "", "refused: float literal\n"),
+    ),
+    (FLOAT_LITERAL, Task::Check, STANDARD, (0, "accepted\n", "")),
+    (
+        SUBGROUP,
+        Task::Write,
+        STANDARD,
+        (
+            0,
+            "enable subgroups;\n\n@compute @workgroup_size(1, 1, 1) \nfn count(",
+            "",
+        ),
+    ),
+    (
+        SUBGROUP,
+        Task::Write,
+        PLAIN,
+        (0, "@compute @workgroup_size(1, 1, 1) \nfn count(", ""),
+    ),
+    (
+        ITS_OWN_OPERAND,
+        Task::Write,
+        STANDARD,
+        (REFUSED, "", OPERAND_FAULT),
+    ),
+    (
+        ITS_OWN_OPERAND,
+        Task::Write,
+        PLAIN,
+        (REFUSED, "", OPERAND_FAULT),
+    ),
+    (
+        ITS_OWN_OPERAND,
+        Task::Check,
+        STANDARD,
+        (REFUSED, "", OPERAND_FAULT),
+    ),
+    (
+        ITS_OWN_OPERAND,
+        Task::Layout,
+        STANDARD,
+        (REFUSED, "", OPERAND_FAULT),
+    ),
+    (STRUCTS, Task::Check, STANDARD, (0, "accepted\n", "")),
     (
         STRUCTS,
         Task::Write,
+        STANDARD,
         (REFUSED, "", "refused: member off its alignment\n"),
     ),
-    (STRUCTS, Task::Layout, (0, LAYOUTS, "")),
+    (STRUCTS, Task::Layout, STANDARD, (0, LAYOUTS, "")),
 ];
 
 /// The status where this is done with a module, or none where it cannot be read.
@@ -262,12 +373,13 @@ fn status_of<O: Write, E: Write>(
     alloc: Global,
     json: &str,
     task: Task,
+    style: Style,
     out: &mut O,
     err: &mut E,
 ) -> Option<u8> {
     let request = Request {
         task,
-        explicit_types: false,
+        style,
         module: "-",
         info: None,
     };
@@ -277,10 +389,10 @@ fn status_of<O: Write, E: Write>(
     }
 }
 
-fn module_gives(alloc: Global, json: &str, task: Task, told: Told) -> bool {
+fn module_gives(alloc: Global, json: &str, task: Task, style: Style, told: Told) -> bool {
     let mut out = Vec::new(alloc);
     let mut err = Vec::new(alloc);
-    match status_of(alloc, json, task, &mut out, &mut err) {
+    match status_of(alloc, json, task, style, &mut out, &mut err) {
         Some(status) => is_told(told, status, out.as_slice(), err.as_slice()),
         None => false,
     }
@@ -288,10 +400,10 @@ fn module_gives(alloc: Global, json: &str, task: Task, told: Told) -> bool {
 
 #[test]
 fn modules_are_answered(rt: HostRuntime) -> Result<(), Fail> {
-    for (json, task, told) in MODULES {
+    for (json, task, style, told) in MODULES {
         assert!(rt;
-            module_gives(rt.alloc(), *json, *task, *told),
-            "{json}, {task:?}"
+            module_gives(rt.alloc(), *json, *task, *style, *told),
+            "{json}, {task:?}, {style:?}"
         );
     }
     Ok(())
@@ -313,8 +425,9 @@ impl Write for Broken {
 
 #[test]
 fn broken_outputs_are_told(rt: HostRuntime) -> Result<(), Fail> {
-    let mut err = Vec::new(rt.alloc());
-    let status = status_of(rt.alloc(), DOUBLE, Task::Write, &mut Broken, &mut err);
+    let alloc = rt.alloc();
+    let mut err = Vec::new(alloc);
+    let status = status_of(alloc, DOUBLE, Task::Write, STANDARD, &mut Broken, &mut err);
     assert_eq!(rt; status, Some(FAILED));
     assert_eq!(rt;
         err.as_slice(),

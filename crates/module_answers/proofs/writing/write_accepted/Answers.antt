@@ -1,12 +1,12 @@
 use Rattle.std.proofs.Common.{subst, sym}
 use Rattle.naga_wgsl_out.specs.Headline.{FaithfulWriting}
-use Rattle.module_answers.proofs.writing.write.Goals as goal
+use Rattle.module_answers.proofs.writing.write_accepted.Goals as goal
 
 -- The writer has these flags and this sink, and ends with its sink.
 pub returns-clause-faithful : goal.returns-clause-faithful
 returns-clause-faithful g c =
     let m = c.args.«module».now in
-    let info = c.count.new.info in
+    let info = c.args.info.now in
     let answer = c.write-answer.result in
     let text = g.W.TextSink.text in
     let failures = g.W.TextSink.failures in

@@ -1,0 +1,4 @@
+pub mod Literals
+pub mod Lists
+pub mod ToldItems
+pub mod Acceptance
