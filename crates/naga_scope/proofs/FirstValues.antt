@@ -29,7 +29,8 @@ use Rattle.naga_form.proofs.WellFormed.{applied_any}
 use Rattle.naga_info.specs.declared.info.ModuleInfo.{ModuleInfo}
 use Rattle.shader_runs.specs.Value.{Selector}
 use Rattle.naga_scope.specs.Availabilities.{names_earlier, is_earlier}
-use Rattle.naga_scope.specs.ScopeChecks.{Checked, check_first, check_first_values}
+use Rattle.naga_scope.specs.ScopeChecks.{Checked, check_first, check_first_values, unless}
+use Rattle.naga_scope.specs.declared.scope_faults.ScopeFault.TheVariants.{FirstValue}
 
 -- each local with its index: the first fault of their first values
 abbrev pub all_checked : Function → List (ℕ × LocalVariable) → Checked
@@ -42,6 +43,13 @@ all_listed f i [] = refl
 all_listed f i (l ∷ ls) =
     ap (result_and (check_first f i l.init))
     (all_listed f (i + 1) ls ∙ ap (λ k. check_first_values f k (map (λ l. l.init) ls)) (add-one i))
+
+-- the first value of a local is checked by whether it is in scope in front of the local
+pub first_checked : (f : Function) (i h : ℕ) (s : Handles) (o : Option ℕ) (b : Bool) → o ≡ Some h → s ≡ at_start f →
+    b ≡ usable_if (before_local f i) s o → unless b (FirstValue i h) ≡ check_first f i o
+first_checked f i h s o b is start holds =
+    ap (λ b. unless b (FirstValue i h)) (holds ∙ (λ k. usable_if (before_local f i) (start k) (is k)))
+    ∙ sym (ap (check_first f i) is)
 
 below_both : (j i n : ℕ) → (nat_lt j n && nat_lt j i) ≡ nat_lt j (min i n)
 below_both j i n =

@@ -6,7 +6,7 @@ use Rattle.std.proofs.Common.{refl, sym, subst, ap, ◌∙◌, true≢false, ari
 use Rattle.std.proofs.Math.Nat.{mod-add-mod}
 use Rattle.std.specs.Prelude.{IsTrue, IsFalse, slice_get, Result, Ok, Err}
 use Rattle.std.specs.Hash.DefaultHasher.{wrapping_add}
-use Rattle.std.specs.Result.{is_ok, result_and}
+use Rattle.std.specs.Result.{IsErrAnd, is_ok, result_and}
 use Rattle.std.proofs.lemmas.Option.{same_Some}
 use Rattle.naga_scope.specs.ScopeChecks.{Checked, unless, onward, next_number, check_use, check_uses}
 use Rattle.naga_scope.specs.ScopeChecks.{check_use_if, check_operands, check_bound, check_emitted}
@@ -220,7 +220,7 @@ next_is n m is = ap (λ n. wrapping_add n 1) is ∙ mod-add-mod m (2 ^ 64) 1 ∙
 further_is : (n m j : ℕ) → m ≡ j → IsNumber n m → IsNumber n j
 further_is n m j same is = subst (IsNumber n) same is
 
-abbrev answer : ℕ → Result ℕ ScopeFault
+abbrev pub answer : ℕ → Result ℕ ScopeFault
 answer n = Ok n
 
 same_ok : (n j : ℕ) → answer n ≡ answer j → n ≡ j
@@ -708,3 +708,13 @@ fault_breaks f (Operand k h) x = in_the_body f (Operand k h) x
 fault_breaks f (EmittedOperand k y h) x = in_the_body f (EmittedOperand k y h) x
 fault_breaks f (GivenBefore k h) x = in_the_body f (GivenBefore k h) x
 fault_breaks f (NeedsNoEmit k h) x = in_the_body f (NeedsNoEmit k h) x
+
+-- ---- in code
+-- what a `?` gives back
+pub given_back : {X : Type 0} (r : Result X ScopeFault) (e : ScopeFault) → IsErrAnd r (λ y. y ≡ e) → r ≡ Err e
+given_back (Ok x) e is = absurd is
+given_back (Err y) e is = λ i. Err (is i)
+
+pub not_ok : {X A : Type 0} (r : Result X ScopeFault) (e : ScopeFault) → IsErrAnd r (λ y. y ≡ e) → IsTrue (is_ok r) → A
+not_ok (Ok x) e is holds = absurd is
+not_ok (Err y) e is holds = absurd (true≢false (sym holds))

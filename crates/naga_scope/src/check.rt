@@ -360,7 +360,7 @@ fn check_act(
 /// The first fault of these statements, the first of which has this number, or the number of the
 /// statement after them. Where there is none, the scope is then after them.
 #[cycle(check)]
-#[tactic(auto, using(crate::proofs::Logs::extends_refl, crate::proofs::Logs::extends_then, crate::proofs::KeptPoints::point_kept, crate::proofs::Listed::first_of, crate::proofs::Listed::none_of))]
+#[tactic(auto, using(crate::proofs::Logs::extends_refl, crate::proofs::Logs::extends_then, crate::proofs::KeptPoints::point_kept, crate::proofs::Listed::first_of, crate::proofs::Listed::none_of, crate::proofs::ScopeChecks::given_back))]
 fn check_lines(
     scope: &mut Scope,
     known: &KnownFunction<'_>,
@@ -416,7 +416,7 @@ fn check_block(
 /// The first fault of the statement with this number and those in its blocks, or the number of the
 /// statement after it. Where there is none, the scope is then after it.
 #[cycle(check)]
-#[tactic(auto, using(crate::proofs::Logs::extends_refl, crate::proofs::Logs::extends_same))]
+#[tactic(auto, using(crate::proofs::Logs::extends_refl, crate::proofs::Logs::extends_same, crate::proofs::ScopeChecks::given_back))]
 fn check_statement(
     scope: &mut Scope,
     known: &KnownFunction<'_>,
@@ -437,12 +437,13 @@ fn check_statement(
         (statement_in known.now (tree_of statement.now)) scope.old.named }
     ensures counted { Counted scope.old scope.new (statement_changes (tree_of statement.now)) }
 {
+    let next = number.wrapping_add(1);
     match statement {
         Statement::Emit(range) => {
             check_emit(scope, known, number, *range)?;
-            Ok(number.wrapping_add(1))
+            Ok(next)
         }
-        Statement::Block(block) => check_block(scope, known, number.wrapping_add(1), block),
+        Statement::Block(block) => check_block(scope, known, next, block),
         Statement::If {
             condition,
             accept,
@@ -458,13 +459,14 @@ fn check_statement(
         } => check_loop(scope, known, number, body, continuing, *break_if),
         _ => {
             check_act(scope, known, number, statement)?;
-            Ok(number.wrapping_add(1))
+            Ok(next)
         }
     }
 }
 
 /// The same of an `if`. The scope stays.
 #[cycle(check)]
+#[tactic(auto, using(crate::proofs::ScopeChecks::given_back))]
 fn check_if(
     scope: &mut Scope,
     known: &KnownFunction<'_>,
@@ -493,6 +495,7 @@ fn check_if(
 
 /// The same of a `switch`. The scope stays.
 #[cycle(check)]
+#[tactic(auto, using(crate::proofs::ScopeChecks::given_back))]
 fn check_switch(
     scope: &mut Scope,
     known: &KnownFunction<'_>,
@@ -517,6 +520,7 @@ fn check_switch(
 /// The first fault of these cases, the first statement of which has this number, or the number of
 /// the statement after them. The scope stays.
 #[cycle(check)]
+#[tactic(auto, using(crate::proofs::ScopeChecks::given_back))]
 fn check_cases(
     scope: &mut Scope,
     known: &KnownFunction<'_>,
@@ -572,7 +576,7 @@ fn check_loop(
 
 /// The same of a turn of the loop, of which the scope is left inside.
 #[cycle(check)]
-#[tactic(auto, using(crate::proofs::Logs::reverts_then))]
+#[tactic(auto, using(crate::proofs::Logs::reverts_then, crate::proofs::ScopeChecks::given_back))]
 fn check_turn(
     scope: &mut Scope,
     known: &KnownFunction<'_>,
@@ -604,7 +608,7 @@ fn check_turn(
 /// number, or the number of the statement after it. Where there is none, the scope is then what that
 /// leaves to `continuing`, or to `break if`.
 #[cycle(check)]
-#[tactic(auto, using(crate::proofs::Turns::bodies, crate::proofs::Logs::reverts, crate::proofs::Logs::reverts_then, crate::proofs::KeptPoints::point_kept, crate::proofs::Results::halves))]
+#[tactic(auto, using(crate::proofs::Turns::bodies, crate::proofs::Logs::reverts, crate::proofs::Logs::reverts_then, crate::proofs::KeptPoints::point_kept, crate::proofs::Results::halves, crate::proofs::ScopeChecks::given_back))]
 fn check_body(
     scope: &mut Scope,
     known: &KnownFunction<'_>,
@@ -636,7 +640,7 @@ fn check_body(
 /// The first fault of the function where an expression is out of scope where it is used, or an
 /// `Emit` or a result is not allowed. The scope is that of the function's start, and then that of
 /// some point inside.
-#[tactic(auto, using(crate::proofs::Logs::extends_refl))]
+#[tactic(auto, using(crate::proofs::Logs::extends_refl, crate::proofs::ScopeChecks::given_back))]
 pub(crate) fn check_function(
     scope: &mut Scope,
     known: &KnownFunction<'_>,

@@ -18,7 +18,8 @@ use Rattle.naga_ir.specs.declared.module.Function.{Function}
 use Rattle.naga_ir.specs.declared.module.Module.{Module}
 use Rattle.naga_names.proofs.Refusal.{element}
 use Rattle.naga_names.specs.Keys.{NameMap}
-use Rattle.naga_names.specs.Naming.{HasNamed, Names}
+use Rattle.naga_names.specs.Naming.{Names}
+use Rattle.naga_names.specs.Refusal.{IsResetRefusal}
 use Rattle.naga_names.specs.declared.error.NamerError.{NamerError}
 use Rattle.naga_names.specs.declared.error.NamerError.TheVariants as namer_error
 use Rattle.naga_scope.specs.ExpressionNames.{IsRefusalOfLabels}
@@ -27,14 +28,14 @@ use Rattle.naga_scope.specs.declared.plan.PlanError.{PlanError}
 use Rattle.naga_scope.specs.declared.plan.PlanError.TheVariants as plan_error
 use Rattle.naga_wgsl_fns.proofs.PlanRefusals.{full_is}
 use Rattle.naga_wgsl_fns.specs.Constructs.{Tells}
-use Rattle.naga_wgsl_fns.specs.Refusals.{HasNamedLabels, NamesExpression, NamesType, TellsPlanError}
-use Rattle.naga_wgsl_fns.specs.Unplanned.{IsRefusedFor, is_want, part_of}
+use Rattle.naga_wgsl_fns.specs.Refusals.{IsErrorOfNames, NamesExpression, NamesType, TellsPlanError}
+use Rattle.naga_wgsl_fns.specs.Unplanned.{IsRefusedFor, is_names_want, is_want, part_of}
 use Rattle.naga_wgsl_fns.specs.declared.construct.Construct.{Construct}
 use Rattle.naga_wgsl_fns.specs.declared.plans.FunctionPart.{FunctionPart}
 use Rattle.naga_wgsl_out.proofs.ExpressionNames.{none_past}
 use Rattle.naga_wgsl_out.proofs.ModuleScopes.{all_planned_formed, all_planned_hold}
 use Rattle.naga_wgsl_out.specs.ModuleRefusals.{HasAllNames, HasNamedBefore, NamerIsFull, NothingIsRefused}
-use Rattle.naga_wgsl_out.specs.Unwritable.{IsUnspelled, IsWritable, StandsAtPart, StandsInFunction}
+use Rattle.naga_wgsl_out.specs.Unwritable.{IsUnspelled, IsWritable, StandsAtPart, StandsInFunction, StandsInLabels}
 use Rattle.naga_wgsl_out.specs.Writing.{HasPlan}
 
 -- ---- a function that is refused
@@ -131,3 +132,11 @@ all_writable explicit m info names n namer declarations has is all = record {
         by : (o : Option Function) → slice_get (all_functions m) full.0 ≡ o → ⊥
         by None past = none_past m full.0 past full.1
         by (Some f) at = (planned full.0 (slice_get_within (all_functions m) full.0 f at)).nameable full.1
+
+-- ---- labels of items
+-- why the items of a module get no names
+pub labels_stand : (m : Module) (error : NamerError) (it : Construct) → IsResetRefusal wgsl_names m error →
+    Tells it (IsErrorOfNames error) → is_names_want error ≡ false → StandsInLabels m it
+labels_stand m namer_error.Full it refused told other = inl (refused, told)
+labels_stand m namer_error.KeyFull it refused told other = inr (refused, told)
+labels_stand m (namer_error.Memory e) it refused told other = absurd cc
