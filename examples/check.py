@@ -1,11 +1,12 @@
 #!/usr/bin/env python3
-"""Says which examples are not the first lines of crates/yorwethul/stdin, in the order of their names, which texts beside
-them are not what becomes of them, and where README shows another text of its first example.
+"""Says which examples are not the first lines of crates/yorwethul/stdin, in the order of their names, which texts
+beside them are missing or not what becomes of them, and where README shows another text of its first example.
 
-Each example stands in two lines, of which the second asks for its plain text. So the gate runs the program on each of them
-in both ways, and crates/yorwethul/stdout has what becomes of it. A line may have other members beside. Where each example
-stands, each `NAME.wgsl` is the text of the first line of `NAME.json`, and README shows the end of one, it says nothing, and
-its status is 0. Run it from anywhere.
+Each example stands in two lines, of which the second asks for its plain text, and neither for types of `let`s. So the
+gate runs the program on each of them in both ways, and crates/yorwethul/stdout has what becomes of it. A line may have
+other members beside. Where each example stands, each `NAME.wgsl` is the text of the first line of `NAME.json`, each
+example that is refused as a plain text alone has one, and README shows the end of one, it says nothing, and its status
+is 0. Run it from anywhere.
 """
 
 import json
@@ -20,7 +21,7 @@ LINES, ANSWERS = (TOP / "crates/yorwethul" / name for name in ("stdin", "stdout"
 
 
 def main():
-    faults = [*missing_lines(), *other_texts(), *other_words_of_readme()]
+    faults = [*missing_lines(), *missing_texts(), *other_texts(), *other_words_of_readme()]
     for fault in faults:
         print(fault)
     sys.exit(1 if faults else 0)
@@ -43,7 +44,15 @@ def missing_lines():
 def stands_in(example, is_plain, line):
     """Whether this line of JSON has the example's module and info, and asks for such a text."""
     wanted, told = json.loads(example.read_text()), object_of(line)
-    return all(told.get(member) == wanted[member] for member in ("module", "info")) and told.get("plain", False) is is_plain
+    has_module = all(told.get(member) == wanted[member] for member in ("module", "info"))
+    return has_module and told.get("plain", False) is is_plain and told.get("explicit_types", False) is False
+
+
+def missing_texts():
+    """Examples without a text beside them that have one, but no plain one: it shows how their floats are told."""
+    for example, plain in zip(examples(), answers()[1::2]):
+        if example.stem in texts() and "refused" in plain and not example.with_suffix(".wgsl").exists():
+            yield f"examples/{example.stem}.wgsl is missing"
 
 
 def other_texts():
@@ -55,8 +64,12 @@ def other_texts():
 
 def texts():
     """What the program gives of each example, where that is a text."""
-    answers = map(object_of, ANSWERS.read_text().splitlines()[::2])
-    return {example.stem: answer["text"] for example, answer in zip(examples(), answers) if "refused" not in answer}
+    told = zip(examples(), answers()[::2])
+    return {example.stem: answer["text"] for example, answer in told if "refused" not in answer}
+
+
+def answers():
+    return list(map(object_of, ANSWERS.read_text().splitlines()))
 
 
 def other_words_of_readme():

@@ -1,9 +1,10 @@
 #!/usr/bin/env python3
-"""try.py [FOLDER]: opens the page that web/make.sh made in FOLDER (web/out) in a headless Chromium, and compares what it shows
-with what the program answers: the texts of examples/, a refusal, a fault, what is no module, and layouts.
+"""try.py [FOLDER]: opens the page that web/make.sh made in FOLDER (web/out) in a headless Chromium, and compares what
+it shows with what the program answers: the texts of examples/ and their plain ones, some of which are refused, `let`s
+that tell their types, a fault, what is no module, and layouts.
 
-Where there is no Chromium, or no page, it says so, and its status is 0. Of the browser's own verdict on each text it prints what
-there is: nothing is asked of that.
+Where there is no Chromium, or no page, it says so, and its status is 0. Of the browser's own verdict on each text it
+prints what there is: nothing is asked of that.
 """
 
 import functools
@@ -22,7 +23,10 @@ from pathlib import Path
 HERE = Path(__file__).resolve().parent
 TOP = HERE.parent
 BROWSERS = ("chromium", "chromium-browser", "google-chrome", "chromium-headless-shell")
-WORDS = ["--headless", "--no-sandbox", "--disable-extensions", "--enable-unsafe-webgpu", "--use-webgpu-adapter=swiftshader"]
+WORDS = [
+    "--headless", "--no-sandbox", "--disable-extensions", "--enable-unsafe-webgpu", "--use-webgpu-adapter=swiftshader",
+    "--virtual-time-budget=60000", "--timeout=60000",
+]
 
 
 def main():
@@ -52,12 +56,16 @@ class Quiet(http.server.SimpleHTTPRequestHandler):
 
 def questions():
     """What the page is asked, with the status and the text that it must show."""
-    examples = sorted((TOP / "examples").glob("*.json"))
-    answers = map(json.loads, (TOP / "crates/yorwethul/stdout").read_text().splitlines())
-    # the second line of each example asks for its plain text, as the page does
-    for example, answer in zip(examples, list(answers)[1::2]):
-        wanted = ("refused", answer["refused"]) if "refused" in answer else ("done", answer["text"])
-        yield {"example": example.stem}, wanted
+    examples = [example.stem for example in sorted((TOP / "examples").glob("*.json"))]
+    lines, answers = ((TOP / "crates/yorwethul" / name).read_text().splitlines() for name in ("stdin", "stdout"))
+    answers = list(map(json.loads, answers))
+    # each example has two lines, and the second asks for its plain text: without the boxes that are checked at first
+    for example, standard, plain in zip(examples, answers[0::2], answers[1::2]):
+        yield {"example": example}, shown_of(standard)
+        yield {"example": example, "portable": "no", "floats": "no"}, shown_of(plain)
+    for line, answer in zip(lines, answers):
+        if '"explicit_types":true' in line:
+            yield {"json": line, "explicit": "yes"}, shown_of(answer)
     struct = {"name": "One", "inner": {"Struct": {"span": 4, "members": [{"name": "a", "ty": 0, "offset": 0}]}}}
     types = [{"inner": {"Scalar": {"kind": "Uint", "width": 4}}}, struct]
     known = json.dumps({"module": {"types": types}, "info": {}})
@@ -67,17 +75,23 @@ def questions():
     yield {"json": "[" * 200}, ("too deep", "lists and objects nest more than 127 deep")
 
 
+def shown_of(answer):
+    """The status and the text by which the page shows what the program answers."""
+    return ("refused", answer["refused"]) if "refused" in answer else ("done", answer["text"])
+
+
 def ask(browser, port, words, wanted):
     """Where the page shows something else."""
     title = ", ".join(f"{name} {value[:60]}" for name, value in words.items())
     address = f"http://127.0.0.1:{port}/?{urllib.parse.urlencode(words)}"
     with tempfile.TemporaryDirectory() as profile:
-        command = [browser, *WORDS, f"--user-data-dir={profile}", "--virtual-time-budget=60000", "--timeout=60000", "--dump-dom", address]
+        command = [browser, *WORDS, f"--user-data-dir={profile}", "--dump-dom", address]
         try:
             page = subprocess.run(command, capture_output=True, text=True, timeout=180).stdout
         except subprocess.TimeoutExpired:
             return [f"{title}: no answer in 180 s"]
-    shown = {name: html.unescape(text) for name, text in re.findall(r'<(?:pre|b) id="(\w+)"[^>]*>(.*?)</(?:pre|b)>', page, re.DOTALL)}
+    told = re.findall(r'<(?:pre|b) id="(\w+)"[^>]*>(.*?)</(?:pre|b)>', page, re.DOTALL)
+    shown = {name: html.unescape(text) for name, text in told}
     status, text = wanted
     if shown.get("status") != status or (text is not None and shown.get("text") != text):
         return [f"{title}: {shown}, wanted {wanted}"]

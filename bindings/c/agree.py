@@ -1,8 +1,8 @@
 #!/usr/bin/env python3
-"""Says where yorwethul.h, the exports of crates/yorwethul_c and the bindings differ.
+"""Says where yorwethul.h, the exports of crates/yorwethul_c and what calls them differ.
 
-It compares the calls with their parameters, the statuses and flags with their numbers, the version and the longest text. Where
-it finds nothing it is quiet, and its status is 0. It reads sources alone. Run it from anywhere.
+It compares the calls with their parameters, the statuses and flags with their numbers, the version and the longest
+text. Where it finds nothing it is quiet, and its status is 0. It reads sources alone. Run it from anywhere.
 """
 
 import re
@@ -30,6 +30,8 @@ IN_RUST = {
     "size_t *": "*mut usize",
     "uint32_t": "u32",
 }
+# By which word the page and the programs to copy ask for a flag.
+ASKED_BY = {"explicit": "EXPLICIT_TYPES", "portable": "PORTABLE", "floats": "TELL_FLOATS"}
 
 
 def main():
@@ -40,7 +42,8 @@ def main():
         *differences("yorwethul.h", in_rust(declared(header)), "bindings/rust", declared_in_rust()),
         *rust_numbers_differ(numbers_of_header(header)),
         *unknown_flags_differ(),
-        *page_differs(numbers_of_header(header)),
+        *statuses_differ(numbers_of_header(header)),
+        *flags_differ(numbers_of_header(header)),
         *versions_differ(numbers_of_header(header)["VERSION"]),
     ]
     for fault in faults:
@@ -89,7 +92,11 @@ def declared_in_rust():
     """The calls that the Rust crate declares."""
     source = (RUST / "src/sys.rs").read_text()
     calls = re.findall(r"pub fn (\w+)\(([^)]*)\) -> u32;", source)
-    return {name: [tuple(word.strip() for word in part.split(":")) for part in parts.split(",") if part.strip()] for name, parts in calls}
+    return {name: [declared_parameter(part) for part in parts.split(",") if part.strip()] for name, parts in calls}
+
+
+def declared_parameter(part):
+    return tuple(word.strip() for word in part.split(":"))
 
 
 def in_rust(calls):
@@ -109,7 +116,8 @@ def numbers_of_crate():
     told = dict(re.findall(r"Status::(\w+) => (\d+),", (CRATE / "status.rt").read_text()))
     numbers = {re.sub(r"(?<=.)(?=[A-Z])", "_", name).upper(): int(number) for name, number in told.items()}
     answers = (CRATE / "answers.rt").read_text()
-    numbers["VERSION"] = int(re.search(r"fn yorwethul_version.*?\{\n    ([\d_]+)\n\}", (CRATE / "lib.rt").read_text(), re.DOTALL)[1])
+    version = re.search(r"fn yorwethul_version.*?\{\n    ([\d_]+)\n\}", (CRATE / "lib.rt").read_text(), re.DOTALL)
+    numbers["VERSION"] = int(version[1])
     numbers["LONGEST_TEXT"] = int(re.search(r"LONGEST_TEXT: usize = ([\d_]+);", answers)[1])
     return {**numbers, **flags_of_calls()}
 
@@ -136,18 +144,54 @@ def rust_numbers_differ(wanted):
     return differences("yorwethul.h", ours, "bindings/rust", {name: int(number) for name, number in told})
 
 
-def page_differs(wanted):
-    """Where the page in web/ names another status, by its place in a list, or has other flags."""
-    page = (TOP / "web/index.html").read_text()
-    told = re.search(r"const statuses = \[(.*?)\];", page)[1]
-    names = [name.upper().replace(" ", "_") for name in re.findall(r'"([^"]*)"', told)]
+def statuses_differ(wanted):
+    """Where the page in web/ or the library's test names another status, by its place in a list."""
     left_out = {"VERSION", "LONGEST_TEXT", *flags_of_calls()}
     statuses = {name: number for name, number in wanted.items() if name not in left_out}
-    bits = sorted(map(int, re.findall(r"\d+", re.search(r"const bitOf = {(.*?)}", page)[1])))
-    known = sorted(flags_of_calls().values())
     return [
-        *differences("yorwethul.h", statuses, "web/index.html", {name: number for number, name in enumerate(names)}),
-        *([] if bits == known else [f"web/index.html has the flags {bits}, the calls {known}"])]
+        *differences("yorwethul.h", statuses, "web/index.html", numbered(statuses_of_page())),
+        *differences("yorwethul.h", statuses, "bindings/tests/test.py", numbered(statuses_of_test())),
+    ]
+
+
+def numbered(names):
+    return {name: number for number, name in enumerate(names)}
+
+
+def statuses_of_page():
+    told = re.search(r"const statuses = \[(.*?)\];", source_of("web/index.html"))[1]
+    return [name.upper().replace(" ", "_") for name in re.findall(r'"([^"]*)"', told)]
+
+
+def statuses_of_test():
+    return re.search(r"(?m)^(DONE, .*) = range\(\d+\)$", source_of("bindings/tests/test.py"))[1].split(", ")
+
+
+def flags_differ(wanted):
+    """Where the page, the Python program to copy or the library's test gives another number to a flag."""
+    flags = {name: number for name, number in wanted.items() if name in flags_of_calls()}
+    told = {
+        "web/index.html": asked_flags("web/index.html", r"const bitOf = {(.*)};"),
+        "bindings/python/first.py": asked_flags("bindings/python/first.py", r"FLAGS = {(.*)}"),
+        "bindings/tests/test.py": flags_of_test(),
+    }
+    return [fault for path, numbers in told.items() for fault in differences("yorwethul.h", flags, path, numbers)]
+
+
+def asked_flags(path, table):
+    """The flags in a table of words and numbers. A word by which none is to be asked for stands for itself."""
+    told = re.findall(r'"?(\w+)"?: (\d+)', re.search(table, source_of(path))[1])
+    return {ASKED_BY.get(word, word): int(number) for word, number in told}
+
+
+def flags_of_test():
+    table = r"(?m)^(EXPLICIT_TYPES, .*) = ([\d, ]+)$"
+    names, numbers = re.search(table, source_of("bindings/tests/test.py")).groups()
+    return dict(zip(names.split(", "), map(int, numbers.split(", "))))
+
+
+def source_of(path):
+    return (TOP / path).read_text()
 
 
 def versions_differ(number):

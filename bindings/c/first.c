@@ -1,4 +1,4 @@
-/* first FILE [explicit] [portable]: prints the text of a module. */
+/* first FILE [explicit] [portable] [floats]: prints the text of a module, by these flags. */
 #include <stdio.h>
 #include <stdlib.h>
 #include <string.h>

@@ -1,4 +1,4 @@
-// first FILE: prints the text of a module, from C++.
+// first FILE [explicit] [portable] [floats]: prints the text of a module, by these flags, from C++.
 #include <fstream>
 #include <iostream>
 #include <iterator>
@@ -22,9 +22,18 @@ static std::string write_wgsl(const std::string &json, uint32_t flags = 0) {
     }
 }
 
+static uint32_t flag_of(const std::string &word) {
+    if (word == "explicit") return YORWETHUL_EXPLICIT_TYPES;
+    if (word == "portable") return YORWETHUL_PORTABLE;
+    if (word == "floats") return YORWETHUL_TELL_FLOATS;
+    return 0;
+}
+
 int main(int count, char **words) try {
     std::ifstream file(count > 1 ? words[1] : "/dev/stdin", std::ios::binary);
-    std::cout << write_wgsl(std::string(std::istreambuf_iterator<char>(file), {}));
+    uint32_t flags = 0;
+    for (int at = 2; at < count; at++) flags |= flag_of(words[at]);
+    std::cout << write_wgsl(std::string(std::istreambuf_iterator<char>(file), {}), flags);
 } catch (const std::exception &error) {
     std::cerr << error.what() << '\n';
     return 1;

@@ -1,5 +1,8 @@
 #!/usr/bin/env python3
-"""first.py LIBRARY FILE [explicit] [portable] [floats]: prints the text of a module, by the calls of LIBRARY, a libyorwethul.so."""
+"""first.py LIBRARY FILE [explicit] [portable] [floats]: prints the text of a module, by these flags.
+
+LIBRARY is a libyorwethul.so, whose calls are made.
+"""
 
 import ctypes
 import sys

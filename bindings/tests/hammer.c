@@ -49,8 +49,11 @@ void __wrap_free(void *block) {
 
 /* ---- calls */
 
-enum call { WRITE, WRITE_EXPLICIT, CHECK, LAYOUT, CALLS };
-static const char *const names[CALLS] = {"write", "write with types", "check", "layout"};
+enum call { WRITE, WRITE_EXPLICIT, WRITE_ALL_FLAGS, CHECK, LAYOUT, CALLS };
+static const char *const names[CALLS] = {"write", "write with types", "write with all flags",
+                                         "check", "layout"};
+static const uint32_t all_flags =
+    YORWETHUL_EXPLICIT_TYPES | YORWETHUL_PORTABLE | YORWETHUL_TELL_FLOATS;
 
 struct answer {
     uint32_t status;
@@ -65,6 +68,9 @@ static struct answer call(enum call which, const uint8_t *json, size_t length, u
     case WRITE: it.status = yorwethul_write(json, length, 0, out, room, &it.needed); break;
     case WRITE_EXPLICIT:
         it.status = yorwethul_write(json, length, YORWETHUL_EXPLICIT_TYPES, out, room, &it.needed);
+        break;
+    case WRITE_ALL_FLAGS:
+        it.status = yorwethul_write(json, length, all_flags, out, room, &it.needed);
         break;
     case CHECK: it.status = yorwethul_check(json, length, out, room, &it.needed); break;
     default: it.status = yorwethul_layout(json, length, out, room, &it.needed); break;

@@ -1,13 +1,13 @@
 /* A library that stands for Yorwethul's in tests of what calls it, where none has been built. It
  * gives what it is told: the input "3 2 abc" has the status 3 and the text "abcabc". Any other
- * input has the status 3 and the text "stub". */
+ * input has the status 3 and the text "stub". With flags the text comes that many times more. */
 #include <stdio.h>
 #include <stdlib.h>
 #include <string.h>
 #include "yorwethul.h"
 
-static uint32_t answer(const uint8_t *json, size_t json_length, uint8_t *out, size_t out_length,
-                       size_t *needed) {
+static uint32_t answer(const uint8_t *json, size_t json_length, uint32_t flags, uint8_t *out,
+                       size_t out_length, size_t *needed) {
     unsigned status = YORWETHUL_NO_MODULE, times = 1;
     int from = 0;
     const char *text = "stub";
@@ -20,6 +20,7 @@ static uint32_t answer(const uint8_t *json, size_t json_length, uint8_t *out, si
     order[json_length] = 0;
     if (sscanf(order, "%u %u %n", &status, &times, &from) == 2 && from) text = order + from;
     size_t length = strlen(text);
+    times += flags;
     *needed = length * times;
     if (*needed <= out_length)
         for (unsigned i = 0; i < times; i++) memcpy(out + i * length, text, length);
@@ -29,18 +30,17 @@ static uint32_t answer(const uint8_t *json, size_t json_length, uint8_t *out, si
 
 uint32_t yorwethul_write(const uint8_t *json, size_t json_length, uint32_t flags, uint8_t *out,
                          size_t out_length, size_t *needed) {
-    (void)flags;
-    return answer(json, json_length, out, out_length, needed);
+    return answer(json, json_length, flags, out, out_length, needed);
 }
 
 uint32_t yorwethul_check(const uint8_t *json, size_t json_length, uint8_t *out, size_t out_length,
                          size_t *needed) {
-    return answer(json, json_length, out, out_length, needed);
+    return answer(json, json_length, 0, out, out_length, needed);
 }
 
 uint32_t yorwethul_layout(const uint8_t *json, size_t json_length, uint8_t *out, size_t out_length,
                           size_t *needed) {
-    return answer(json, json_length, out, out_length, needed);
+    return answer(json, json_length, 0, out, out_length, needed);
 }
 
 uint32_t yorwethul_version(void) { return YORWETHUL_VERSION; }

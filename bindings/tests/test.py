@@ -26,8 +26,18 @@ TOP = BINDINGS.parent
 CRATES = TOP / "crates"
 EXAMPLES = sorted((TOP / "examples").glob("*.json"))
 WARNINGS = ["-Wall", "-Wextra", "-pedantic"]
-DONE, REFUSED, NOT_ACCEPTED, NO_MODULE, UNKNOWN_FLAG, OUT_OF_MEMORY, TOO_DEEP = range(7)
-EXPLICIT_TYPES, PORTABLE, TELL_FLOATS, ALL_FLAGS = 1, 2, 4, 7
+# as yorwethul.h numbers them; bindings/c/agree.py compares the two
+DONE, REFUSED, NOT_ACCEPTED, NO_MODULE, UNKNOWN_FLAG, OUT_OF_MEMORY, TOO_DEEP, TOO_LONG = range(8)
+EXPLICIT_TYPES, PORTABLE, TELL_FLOATS = 1, 2, 4
+ALL_FLAGS = EXPLICIT_TYPES | PORTABLE | TELL_FLOATS
+
+# By which words the programs to copy ask for flags.
+FLAGS_BY_WORDS = {
+    ("explicit",): EXPLICIT_TYPES,
+    ("portable",): PORTABLE,
+    ("floats",): TELL_FLOATS,
+    ("portable", "floats", "explicit"): ALL_FLAGS,
+}
 
 # What `hammer` is told: so many calls, on so many threads, so many lengths and changes of each file.
 SHORT = {"calls": 20_000, "threads": 1_000, "cut": 300, "flip": 400}
@@ -86,7 +96,7 @@ def test_header(room):
 
 
 def test_stubs(room):
-    """The programs to copy, by the stub: a text, one that is longer than the first guess, and an error."""
+    """The programs to copy, by the stub: a text, one that is longer than the first guess, an error, and each flag."""
     stub = make_stub(room)
     programs = [[compile_c(room, stub / "libyorwethul.a")]]
     if find("c++"):
@@ -96,6 +106,9 @@ def test_stubs(room):
         for order, text, status in (("0 1 abc", "abc", 0), ("0 200 abc", "abc" * 200, 0), ("0 0 ", "", 0), ("2 1 wrong", "", 1), ("", "", 1)):
             told = run(*program, write(room / "order", order), wanted=status)
             must(told == text, f"{program}: {told!r} of {order!r}")
+        for words, flags in FLAGS_BY_WORDS.items():
+            told = run(*program, write(room / "order", "0 1 abc"), *words)
+            must(told == "abc" * (1 + flags), f"{program} asks for other flags by {words}")
 
 
 def make_stub(room):
@@ -188,7 +201,7 @@ def test_names(folder, _):
 
 
 def test_programs(folder, room):
-    """The programs to copy print of the examples what the program yorwethul prints with --plain."""
+    """The programs to copy print of the examples what the program yorwethul prints, and with --plain."""
     programs = [[compile_c(room, folder / "libyorwethul.a")]]
     if find("c++"):
         programs.append([compile_cpp(room, folder / "libyorwethul.a")])
@@ -201,17 +214,18 @@ def test_programs(folder, room):
         told = run("pkg-config", "--cflags", "--libs", "yorwethul", env={**os.environ, "PKG_CONFIG_PATH": str(folder)}).split()
         run("cc", BINDINGS / "c/first.c", *told, "-o", room / "first_by_name")
         programs.append([room / "first_by_name"])
-    for example, answer in plain_answers():
-        is_written = "refused" not in answer
-        for program in programs:
-            told = run(*program, example, wanted=0 if is_written else 1)
-            must(told == (answer["text"] if is_written else ""), f"{program}: another text of {example.name}")
+    for is_plain, words in ((False, ["portable", "floats"]), (True, [])):
+        for example, status, text in printed_examples(is_plain):
+            for program in programs:
+                told = run(*program, example, *words, wanted=status)
+                must(told == text, f"{program} with the words {words}: another text of {example.name}")
 
 
-def plain_answers():
-    """Each example, with what the program answers to its second line, which asks for a plain text."""
-    answers = (CRATES / "yorwethul/stdout").read_text().splitlines()
-    return zip(EXAMPLES, map(json.loads, answers[1::2]))
+def printed_examples(is_plain):
+    """Each example, with the status and the text of the program: of its two lines the second asks for a plain text."""
+    answers = (CRATES / "yorwethul/stdout").read_text().splitlines()[1 if is_plain else 0::2]
+    for example, answer in zip(EXAMPLES, map(json.loads, answers)):
+        yield (example, 1, "") if "refused" in answer else (example, 0, answer["text"])
 
 
 def test_lines(folder, _):
@@ -219,10 +233,8 @@ def test_lines(folder, _):
     library = Library(folder / "libyorwethul.so")
     lines = zip((CRATES / "yorwethul/stdin").read_bytes().splitlines(), (CRATES / "yorwethul/stdout").read_text().splitlines())
     for line, answer in ((line, json.loads(answer)) for line, answer in lines):
-        is_plain = b'"plain":true' in line
         if answer.get("error", "").endswith(": no truth value"):
             continue
-        flags = (EXPLICIT_TYPES if b'"explicit_types":true' in line else 0) | (0 if is_plain else PORTABLE | TELL_FLOATS)
         if "refused" in answer:
             wanted = (REFUSED, answer["refused"])
         elif "text" in answer:
@@ -231,11 +243,18 @@ def test_lines(folder, _):
             wanted = (NOT_ACCEPTED, "{place}: {fault}".format(**answer["not_accepted"]))
         else:
             wanted = (NO_MODULE, answer["error"])
-        told = library.call("write", line, flags)
+        told = library.call("write", line, flags_of_line(line))
         must(told == wanted, f"{told} of {line[:200]}, by the program {wanted}")
         checked = library.call("check", line)
         must(checked == (wanted if wanted[0] in (NOT_ACCEPTED, NO_MODULE) else (DONE, "")), f"check: {checked} of {line[:200]}")
-    must(library.call("write", b"{}", ALL_FLAGS + 1) == (UNKNOWN_FLAG, "a bit is set that no flag has"), "an unknown flag")
+    told = library.call("write", b"{}", ALL_FLAGS + 1)
+    must(told == (UNKNOWN_FLAG, "a bit is set that no flag has"), f"{told} of an unknown flag")
+
+
+def flags_of_line(line):
+    """The flags by which a call writes the module of a line as the program does."""
+    explicit = EXPLICIT_TYPES if b'"explicit_types":true' in line else 0
+    return explicit | (0 if b'"plain":true' in line else PORTABLE | TELL_FLOATS)
 
 
 def test_cases(folder, _):
@@ -342,10 +361,10 @@ def test_rust(folder, room):
     crate = copy_crates(room) / "rust"
     environment = cargo_environment(room, folder)
     run("cargo", "test", "--offline", "--quiet", cwd=crate, env=environment)
-    for example, answer in plain_answers():
-        is_written = "refused" not in answer
-        told = run("cargo", "run", "--offline", "--quiet", "--example", "write", "--", example, cwd=crate, env=environment, wanted=0 if is_written else 1)
-        must(told == (answer["text"] if is_written else ""), f"the Rust example prints another text of {example.name}")
+    for example, status, text in printed_examples(is_plain=False):
+        words = ["cargo", "run", "--offline", "--quiet", "--example", "write", "--", example]
+        told = run(*words, cwd=crate, env=environment, wanted=status)
+        must(told == text, f"the Rust example prints another text of {example.name}")
 
 
 def test_rust_naga(folder, room):

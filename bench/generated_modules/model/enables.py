@@ -72,17 +72,17 @@ def needed_for(module):
 
 
 def asked_for(module):
-    """What standard compilers ask for besides: wherever a type is spelled over `f16`, if only by a `let` or a
-    conversion, and wherever something of subgroups stands."""
+    """What standard compilers ask for besides: wherever a type is spelled over `f16`, if only by a `let`, a conversion
+    or a literal, and wherever something of subgroups stands."""
     asked = set()
-    bodies = module.bodies()
-    types = [*module.types, *(e.type for f in bodies for e in f.expressions)]
+    types = [*module.types, *(e.type for f in module.groups() for e in f.expressions)]
     if any(scalar_over(ty) == F16 for ty in types):
         asked.add("f16")
-    bindings = [*module.bindings.values(), *(b for p in module.entry_points for b in p.bindings.values())]
+    bindings = [b for (ty, _), b in module.bindings.items() if ty in module.types]
+    bindings += [b for p in module.entry_points for b in p.bindings.values()]
     if any(b is not None and b[0] == "builtin" and b[1] in SUBGROUP_BUILTINS for b in bindings):
         asked.add("subgroups")
-    if any(is_of_subgroups(s) for f in bodies for s in statements_in(f.body)):
+    if any(is_of_subgroups(s) for f in module.bodies() for s in statements_in(f.body)):
         asked.add("subgroups")
     return asked
 

@@ -31,15 +31,16 @@ def shortest(scalar, number):
     """Of the numerals of as few digits as are read back as this number the nearest one, and of two that are as near the
     greater."""
     for digits in range(1, DIGITS[scalar] + 1):
-        around = (Context(digits, rounding).create_decimal(Decimal(number)) for rounding in (ROUND_CEILING, ROUND_FLOOR))
+        contexts = (Context(digits, rounding) for rounding in (ROUND_CEILING, ROUND_FLOOR))
+        around = (context.create_decimal(Decimal(number)) for context in contexts)
         found = [numeral for numeral in around if is_read_as(scalar, numeral, number)]
         if found:
             return str(min(found, key=lambda numeral: abs(Fraction(numeral) - Fraction(number)))).replace("E", "e")
 
 
 def is_read_as(scalar, numeral, number):
-    """Whether the float nearest to a numeral is this one: it lies between the middles to the floats beside it, or is one
-    of them where the last binary digit is 0."""
+    """Whether the float nearest to a numeral is this one: it lies between the middles to the floats beside it, or is
+    one of them where the last binary digit is 0."""
     whole, real = FORMS[scalar]
     bits, = struct.unpack(whole, struct.pack(real, number))
     least, most = middle(scalar, bits - 1, bits) if bits else Fraction(0), middle(scalar, bits, bits + 1)

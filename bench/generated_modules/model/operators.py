@@ -26,8 +26,8 @@ def is_numeral(number):
 
 
 def numeral_fits(number, value):
-    """Whether the power of ten is near, zero has none above 0, and the number is nearest to no infinity: it is below what is as far from the
-    greatest number as the next one would be."""
+    """Whether the power of ten is near, zero has none above 0, and the number is nearest to no infinity: it is below
+    what is as far from the greatest number as the next one would be."""
     _, digits, exponent = value
     is_plain = digits or exponent <= 0
     return bool(is_plain) and -400 <= exponent < 400 and digits * Fraction(10) ** exponent < TOO_GREAT[LITERALS[number]]

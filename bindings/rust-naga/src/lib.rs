@@ -4,12 +4,16 @@
 //! ```no_run
 //! # fn shader() -> naga::Module { naga::Module::default() }
 //! use naga::valid::{Capabilities, ValidationFlags, Validator};
+//! use yorwethul_naga::Flags;
 //!
 //! let module = shader();
 //! let info = Validator::new(ValidationFlags::all(), Capabilities::all()).validate(&module).unwrap();
-//! let text = yorwethul_naga::write(&module, &info, yorwethul_naga::Flags::empty())?;
+//! let text = yorwethul_naga::write(&module, &info, Flags::PORTABLE | Flags::TELL_FLOATS)?;
 //! # Ok::<(), yorwethul_naga::Error>(())
 //! ```
+//!
+//! With these two flags floats are written, and the text has what standard compilers ask for;
+//! with [`Flags::empty`] a literal of a float is refused.
 //!
 //! Module and info go to the writer as JSON, through naga's `serde` forms. All of the module is told,
 //! so that what Yorwethul doesn't know is refused and not lost; of the info only the types of

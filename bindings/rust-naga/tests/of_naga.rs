@@ -168,6 +168,9 @@ fn a_refusal_tells_the_construct() {
     let error = write(&module, &known(&module), Flags::empty()).unwrap_err();
     assert_eq!(error.construct(), Some("float literal"));
     assert_eq!(error.to_string(), "refused: float literal");
+    let text = "fn half() -> f32 {\n    return 0.5f;\n}\n\n";
+    let told = write(&module, &known(&module), Flags::TELL_FLOATS);
+    assert_eq!(told.as_deref(), Ok(text));
     fn is_an_error<E: std::error::Error + Send + Sync + 'static>(_: &E) {}
     is_an_error(&error);
 }

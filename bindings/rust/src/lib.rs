@@ -4,22 +4,29 @@
 //! out. Of the info only the types of expressions are needed:
 //!
 //! ```
+//! use yorwethul::Flags;
+//!
 //! let json = r#"{
 //!     "module": {
-//!         "types": [{"inner": {"Scalar": {"kind": "Sint", "width": 4}}}],
+//!         "types": [{"inner": {"Scalar": {"kind": "Float", "width": 4}}}],
 //!         "functions": [{
-//!             "name": "double", "arguments": [{"name": "x", "ty": 0}], "result": {"ty": 0},
+//!             "name": "half", "arguments": [{"name": "x", "ty": 0}], "result": {"ty": 0},
 //!             "expressions": [
-//!                 {"FunctionArgument": 0}, {"Binary": {"op": "Add", "left": 0, "right": 0}}],
-//!             "body": [{"Emit": {"start": 1, "end": 2}}, {"Return": {"value": 1}}]
+//!                 {"FunctionArgument": 0}, {"Literal": {"F32": 0.5}},
+//!                 {"Binary": {"op": "Multiply", "left": 0, "right": 1}}],
+//!             "body": [{"Emit": {"start": 2, "end": 3}}, {"Return": {"value": 2}}]
 //!         }]
 //!     },
-//!     "info": {"functions": [[0, 0]]}
+//!     "info": {"functions": [[0, 0, 0]]}
 //! }"#;
-//! let text = yorwethul::write_json(json, yorwethul::Flags::empty())?;
-//! assert_eq!(text, "fn double(x: i32) -> i32 {\n    return (x + x);\n}\n\n");
+//! let text = yorwethul::write_json(json, Flags::PORTABLE | Flags::TELL_FLOATS)?;
+//! assert_eq!(text, "fn half(x: f32) -> f32 {\n    return (x * 0.5f);\n}\n\n");
 //! # Ok::<(), yorwethul::Error>(())
 //! ```
+//!
+//! With these two flags shaders are written as they come from naga. Without
+//! [`Flags::TELL_FLOATS`] a literal of a float is refused, and without [`Flags::PORTABLE`] the text
+//! lacks what only standard compilers ask for.
 //!
 //! The crate `yorwethul-naga` takes a `naga::Module` with its `ModuleInfo`.
 //!

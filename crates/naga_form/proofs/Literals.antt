@@ -2,7 +2,7 @@
 -- have different values.
 use Rattle.std.proofs.Common.{◌≡◌, ℕ, ◌<◌, suc, Bool, true, false, refl, sym, ap, ◌∙◌, arith, ◌*◌}
 use Rattle.std.proofs.Common.{◌+◌, pos, negsuc, ◌^◌, ◌/◌, ◌%◌, ℤ, zero, ◌≤◌, List, length, nat_abs}
-use Rattle.std.specs.Prelude.{codes, if◌then◌else◌, IsTrue, ◌==◌, ◌↔◌, nat_lt, to_bits}
+use Rattle.std.specs.Prelude.{codes, if◌then◌else◌, IsTrue, ◌&&◌, ◌==◌, ◌↔◌, nat_lt, to_bits}
 use Rattle.std.specs.Float.{binary32, binary64}
 use Rattle.std.specs.Fmt.{decimal}
 use Rattle.std.specs.Str.{all_ascii_digits}
@@ -11,7 +11,7 @@ use Rattle.std.proofs.lemmas.Bool.{false≢true, eqb-true, ltb-true, eqb-false, 
 use Rattle.std.proofs.lemmas.Fmt.{decimal_is_IsNumeral}
 use Rattle.std.proofs.lemmas.Str.Parse.{IsNumeralModel, numerals_by_value, tells_all_ascii_digits}
 use Rattle.float_numerals.specs.declared.decimal.Decimal.{Decimal}
-use Rattle.float_numerals.specs.Denoted.{told, has_near_power, is_in_range}
+use Rattle.float_numerals.specs.Denoted.{told, has_near_power, has_plain_zero, is_in_range}
 use Rattle.float_numerals.specs.Texts.{double_exponent, double_fraction, double_whole}
 use Rattle.float_numerals.specs.Texts.{fraction_digits, whole_digits}
 use Rattle.float_numerals.proofs.Doubles.{double_told, double_written}
@@ -41,15 +41,23 @@ long_read n false e = refl
 
 -- a numeral in range
 
+range_parts : (d : Decimal) → is_in_range d ≡ true →
+    (nat_lt d.digits (2 ^ 64) ≡ true) × (has_near_power d.exponent ≡ true)
+range_parts d w =
+    let near = has_near_power d.exponent in
+    let plain = has_plain_zero d.digits d.exponent in
+    let parts = and_parts (nat_lt d.digits (2 ^ 64)) (near && plain) w in
+    (parts.0, (and_parts near plain parts.1).0)
+
 digits_fit : (d : Decimal) → is_in_range d ≡ true → d.digits < 2 ^ 64
-digits_fit d w = ltb-true d.digits (2 ^ 64) (and_parts (nat_lt d.digits (2 ^ 64)) (has_near_power d.exponent) w).0
+digits_fit d w = ltb-true d.digits (2 ^ 64) (range_parts d w).0
 
 near_fits : (e : ℤ) → has_near_power e ≡ true → nat_abs e ≤ 2 ^ 63
 near_fits (pos n) w = (let less = ltb-true n 400 w in omega (arith, less))
 near_fits (negsuc n) w = (let less = ltb-true n 400 w in omega (arith, less))
 
 exponent_fits : (d : Decimal) → is_in_range d ≡ true → nat_abs d.exponent ≤ 2 ^ 63
-exponent_fits d w = near_fits d.exponent (and_parts (nat_lt d.digits (2 ^ 64)) (has_near_power d.exponent) w).1
+exponent_fits d w = near_fits d.exponent (range_parts d w).1
 
 power_read : (e : ℤ) → nat_abs e < 2 ^ 64 → power_value (power_form e) ≡ e
 power_read (pos zero) small = refl

@@ -27,8 +27,8 @@ use naga_wgsl_fns::Error;
 use naga_wgsl_fns::error::error_of_want;
 use naga_words::{Output, TextSink};
 
-/// Writes a line for each extension that a text of the module enables, written with these flags, and
-/// an empty line behind the last.
+/// Writes a line for each extension that a text of the module enables, written with these flags,
+/// and an empty line behind the last.
 pub fn write_enables<W: TextSink>(
     module: &Module,
     info: &ModuleInfo,

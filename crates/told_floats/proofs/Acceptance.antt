@@ -10,7 +10,6 @@ use Rattle.std.specs.List.{AllZip, enumerate_from, flat_map, list_all}
 use Rattle.std.specs.Option.{is_some, option_and_then, option_map, option_map_or, option_to_list}
 use Rattle.std.proofs.lemmas.Slice.Zip.{AllZip-long}
 use Rattle.indexmap.specs.IndexMap.{keys}
-use Rattle.naga_ir.specs.Literals.{literal_scalar}
 use Rattle.naga_ir.specs.Operands.{expression_operands}
 use Rattle.naga_ir.specs.StatementTree.{SimpleStatement, atomic, call, return}
 use Rattle.naga_ir.specs.StatementTree.{work_group_uniform_load}
@@ -32,13 +31,13 @@ use Rattle.naga_info.specs.declared.info.TypeResolution.TheVariants as type_of
 use Rattle.module_meaning.specs.Accepted.{is_accepted}
 use Rattle.module_meaning.specs.AgreeingOperators.{expression_use, further_groups_of, Group}
 use Rattle.module_meaning.specs.AgreeingOperators.{function_groups, module_operators_agree, uses_of}
-use Rattle.module_meaning.specs.ExpressionTypes.{have_their_types, has_its_type, is_wanted}
+use Rattle.module_meaning.specs.ExpressionTypes.{has_its_type, is_wanted}
 use Rattle.module_meaning.specs.ExpressionTypes.{LikeThis, only, result_type, wanted_type}
 use Rattle.module_meaning.specs.InfoSizes.{all_known, entry_point_size_fits, function_size_fits}
 use Rattle.module_meaning.specs.InfoSizes.{sizes_fit, type_is_fit}
 use Rattle.module_meaning.specs.Initialisers.{initialisers_fit, locals_are_sound}
 use Rattle.module_meaning.specs.Operations.{all_agree}
-use Rattle.module_meaning.specs.OperandDemands.{are_operands_fit, operand_is, operands_fit}
+use Rattle.module_meaning.specs.OperandDemands.{operand_is, operands_fit}
 use Rattle.module_meaning.specs.Ranges.{all_below, all_placed, block_in_range, constant_in_range}
 use Rattle.module_meaning.specs.Ranges.{declarations_in_range, entry_point_in_range}
 use Rattle.module_meaning.specs.Ranges.{expression_in_range, expressions_in_range}
@@ -49,7 +48,7 @@ use Rattle.module_meaning.specs.Ranges.{names_in_range, override_in_range, resol
 use Rattle.module_meaning.specs.Ranges.{signature_fits, special_types_fit, types_in_range}
 use Rattle.module_meaning.specs.Numbers.{workgroup_fits_32_bits}
 use Rattle.module_meaning.specs.Soundness.{entry_point_is_sound, expressions_are_sound}
-use Rattle.module_meaning.specs.Soundness.{declarations_are_sound, function_is_sound}
+use Rattle.module_meaning.specs.Soundness.{function_is_sound}
 use Rattle.module_meaning.specs.Soundness.{module_is_sound, typed_function_is_sound}
 use Rattle.module_meaning.specs.StatementsFit.{are_passed, block_is_sound, calls, cases_are_sound}
 use Rattle.module_meaning.specs.StatementsFit.{is_answered, is_atomic_result, is_ballot_result}
@@ -59,7 +58,7 @@ use Rattle.module_meaning.specs.StatementsFit.{is_uniform_load_result}
 use Rattle.module_meaning.specs.StatementsFit.{simple_is_sound, statement_is_sound}
 use Rattle.module_meaning.specs.TypeParts.{points_to_atomic}
 use Rattle.told_floats.specs.Told.{IsToldEntryPoint, IsToldExpression, same, told}
-use Rattle.told_floats.specs.Told.{IsToldFunction, IsToldLiteral, IsToldModule}
+use Rattle.told_floats.specs.Told.{IsToldFunction, IsToldModule}
 use Rattle.told_floats.proofs.Literals.{told_scalar, told_within}
 use Rattle.told_floats.proofs.Lists.{all_kept, all_same, and_kept, paired_same, placed_kept}
 use Rattle.told_floats.proofs.Lists.{placed_same, seen_same}
@@ -147,7 +146,7 @@ module _ (m new : Module) (all : IsToldModule m new) where
   declarations_kept h =
       let k = length es in
       let count : length es ≡ length m.global_expressions =
-          AllZip-long IsToldExpression m.global_expressions es expressions in
+      AllZip-long IsToldExpression m.global_expressions es expressions in
       let types = length m.types in
       kept_sixth
       (types_in_range (length m.overrides) m.types)
@@ -170,7 +169,7 @@ module _ (m new : Module) (all : IsToldModule m new) where
   function_kept callees f g r h =
       let ds = g.expressions in
       let count : length ds ≡ length f.expressions =
-          AllZip-long IsToldExpression f.expressions ds r.expressions in
+      AllZip-long IsToldExpression f.expressions ds r.expressions in
       let arguments = length f.arguments.items in
       let locals = length f.local_variables in
       subst (λ (k : Function). function_in_range n callees k ≡ true) (sym r.rest)

@@ -2,13 +2,12 @@
 //!
 //! A module from a front end holds its floats as bits, and a text has no literal of bits.
 //! [`tell_floats`] gives each the numeral that Rust's formatting chooses, if there is one that
-//! denotes the very bits. That it chooses these digits is only tested; what is proved is that
-//! nothing but literals is changed, and each has its value as before.
+//! denotes the very bits. That a float is told at all, and by these digits, is only tested; what is
+//! proved is that nothing but literals is changed, and each has its value as before.
 #![tactic(auto)]
 
 mod laws;
 mod telling;
-
 #[cfg(test)]
 mod tests;
 

@@ -34,7 +34,10 @@ const LONG_HALF: Decimal = Decimal {
 #[test]
 fn floats_with_numerals_are_told(rt: HostRuntime) {
     for (literal, want) in [
-        (Literal::F64(0x3fe0_0000_0000_0000), Literal::DecimalF64(HALF)),
+        (
+            Literal::F64(0x3fe0_0000_0000_0000),
+            Literal::DecimalF64(HALF),
+        ),
         (Literal::F32(0x3f00_0000), Literal::DecimalF32(HALF)),
         (Literal::F16(0x3800), Literal::DecimalF16(HALF)),
         (Literal::F64(0), Literal::DecimalF64(ZERO)),

@@ -1,8 +1,8 @@
 //! Reads modules from JSON, and prints their WGSL texts.
 //!
 //! `yorwethul MODULE.json` prints the text of one module, with its floats told by numerals and with
-//! what standard compilers ask for; `--plain` leaves both out. `yorwethul --layout MODULE.json` tells
-//! where the members of its structs stand, and `yorwethul --lines` answers many, one a line.
+//! what standard compilers ask for; `--plain` leaves both out. `yorwethul --layout MODULE.json`
+//! tells where the members of its structs stand, and `yorwethul --lines` answers many, one a line.
 #![tactic(auto)]
 
 mod failure;

@@ -10,7 +10,7 @@ use std::alloc::Global;
 pub struct Style {
     /// Whether each `let` tells its type.
     pub explicit_types: bool,
-    /// Whether floats are let be as the module has them, so that one that is held as its bits is
+    /// Whether floats are kept as the module has them, so that one that is held as its bits is
     /// refused, and the text has nothing that only standard compilers ask for.
     pub plain: bool,
 }

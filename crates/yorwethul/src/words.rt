@@ -73,7 +73,7 @@ and with one of the members text, refused, not_accepted and error.
 
 Literals of floats are written by the digits that Rust's formatting gives, and the text has what
 standard compilers ask for, as enable subgroups. With --plain neither is so, as by the library
-without flags: a literal of a float that the module has not as a numeral is then refused.
+without flags: a literal of a float that the module holds as its bits is then refused.
 
 With --layout each struct that the text declares has a line, and so has each of its members, with
 its offset and what WGSL gives to its type, in bytes, or why the member can't stay where it is.
@@ -104,7 +104,7 @@ fn flag<'a>(alloc: Global, name: &'a str, help: &'a str) -> Arg<'a> {
 }
 
 fn plain<'a>(alloc: Global) -> Arg<'a> {
-    let help = "Refuses literals of floats, and has nothing that only standard compilers ask for";
+    let help = "Refuses floats held as bits, and has nothing that only standard compilers ask for";
     flag(alloc, "plain", help)
 }
 

@@ -1,7 +1,4 @@
-use Rattle.std.proofs.Common.{◌≡◌, List, sym, ap, subst, ◌∙◌, arith, length-set}
-use Rattle.std.specs.List.{AllZip}
-use Rattle.naga_ir.specs.declared.expression.Expression.{Expression}
-use Rattle.told_floats.specs.Told.{IsToldExpression}
+use Rattle.std.proofs.Common.{sym, ◌∙◌, length-set}
 use Rattle.told_floats.proofs.ToldItems.{expression_set, same_expressions}
 use Rattle.told_floats.proofs.telling.tell_expressions.Goals as goal
 

@@ -48,10 +48,10 @@ returns c =
       entry_points = with_items old.entry_points points;
     } in
     let told_points : AllZip IsToldEntryPoint old.entry_points.items points =
-        subst (λ (ps : List EntryPoint). AllZip IsToldEntryPoint ps points)
-        c.as_mut_slice.ensures.value c.tell_entry_points.ensures in
+    subst (λ (ps : List EntryPoint). AllZip IsToldEntryPoint ps points)
+    c.as_mut_slice.ensures.value c.tell_entry_points.ensures in
     let count : length points ≡ length old.entry_points.items =
-        AllZip-long IsToldEntryPoint old.entry_points.items points told_points in
+    AllZip-long IsToldEntryPoint old.entry_points.items points told_points in
     let told : IsToldModule old new = record {
       expressions = c.tell_expressions.ensures;
       functions = c.tell_functions.ensures;

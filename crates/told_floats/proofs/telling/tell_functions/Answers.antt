@@ -1,7 +1,4 @@
-use Rattle.std.proofs.Common.{◌≡◌, List, sym, ap, subst, ◌∙◌, arith, length-set}
-use Rattle.std.specs.List.{AllZip}
-use Rattle.naga_ir.specs.declared.module.Function.{Function}
-use Rattle.told_floats.specs.Told.{IsToldFunction}
+use Rattle.std.proofs.Common.{sym, ◌∙◌, length-set}
 use Rattle.told_floats.proofs.ToldItems.{function_set, same_functions}
 use Rattle.told_floats.proofs.telling.tell_functions.Goals as goal
 
