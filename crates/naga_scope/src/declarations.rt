@@ -119,7 +119,10 @@ pub fn formless_declaration(
     }
     match formless_in_entry_points(&module.entry_points) {
         Some((index, head)) => {
-            Some((DeclarationPlace::EntryPoint(index), FormlessDeclaration::Head(head)))
+            Some((
+                DeclarationPlace::EntryPoint(index),
+                FormlessDeclaration::Head(head),
+            ))
         }
         None => None,
     }

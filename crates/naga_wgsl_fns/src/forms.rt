@@ -23,8 +23,8 @@ use crate::lacking::lacking_scalar;
 use module_meaning::type_parts::{converted_scalar, known_has_parts};
 use naga_info::{FunctionInfo, TypeResolution};
 use naga_ir::{
-    Expression, Handle, Literal, Module, SampleLevel, ScalarKind, SwizzleComponent, Type_, TypeInner,
-    UniqueArena,
+    Expression, Handle, Literal, Module, SampleLevel, ScalarKind, SwizzleComponent, Type_,
+    TypeInner, UniqueArena,
 };
 use naga_scope::{FormlessStatement, ModuleTables, sampling_has_form, scalar_behind};
 

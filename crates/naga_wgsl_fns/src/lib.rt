@@ -43,9 +43,7 @@ mod variables;
 pub use bindings::write_binding;
 pub use construct::Construct;
 pub use error::Error;
-pub use formless_declarations::{
-    declaration_without_form, formless_construct, head_without_form,
-};
+pub use formless_declarations::{declaration_without_form, formless_construct, head_without_form};
 pub use functions::write_planned;
 pub use global_expressions::write_global_expression;
 pub use implemented::to_wgsl_if_implemented;

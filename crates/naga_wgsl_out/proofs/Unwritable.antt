@@ -66,9 +66,11 @@ module _ (explicit : Bool) (m : Module) (info : ModuleInfo) (accepted : IsTrue (
           IsSomeAnd o (λ k. IsUnspelled explicit m info f known k.ty it)
       let_ None lacks told = lacks
       let_ (Some k) lacks told = (lacks.0, lacks.1, told)
-  by_error (plan_error.Unnamed namer_error.Full) it refused told other =
-      (full_is explicit m info accepted number f stands (labels_before m number) namer named.words
-      (refused (labels_before m number) named.labels), told)
+  by_error (plan_error.Unnamed namer_error.Full) it refused told other = (
+    full_is explicit m info accepted number f stands (labels_before m number) namer named.words
+        (refused (labels_before m number) named.labels),
+    told,
+  )
   by_error (plan_error.Unnamed namer_error.KeyFull) it refused told other =
       absurd (refused (labels_before m number) named.labels)
   by_error (plan_error.Unnamed (namer_error.Memory e)) it refused told other = absurd cc

@@ -92,7 +92,12 @@ fn print_texts<W: Write>(
 {
     let plain = text_of(alloc, known, flags, places)?;
     write!(out, "== {name}{head}\n{plain}")?;
-    let typed = text_of(alloc, known, flags.union(WriterFlags::EXPLICIT_TYPES), places)?;
+    let typed = text_of(
+        alloc,
+        known,
+        flags.union(WriterFlags::EXPLICIT_TYPES),
+        places,
+    )?;
     if typed.as_str() == plain.as_str() {
         return Ok(());
     }
