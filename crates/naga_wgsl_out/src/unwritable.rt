@@ -164,7 +164,10 @@ fn refused_part(
         (function_number «module».now ty.now))) }
 {
     match plan_or_refusal(alloc, module, info, ty, tables, names, flags, namer) {
-        Ok(_) => Ok(None),
+        Ok(plan) => {
+            drop(plan);
+            Ok(None)
+        }
         Err(Unplanned::Refused(construct, part)) => Ok(Some((construct, part))),
         Err(Unplanned::Memory(error)) => Err(error),
     }

@@ -13,11 +13,11 @@ returns-in-Ok c =
     let within = number_within m c.args.ty.now c.requires.there in
     let plan =
     named_plan m (annotates_types c.args.flags) c.args.info.now number c.args.namer.now
-    c.plan_or_refusal.new.namer c.in-Ok.field-0 within c.requires.namer c.in-Ok.ensures.ok
+    c.plan_or_refusal.new.namer c.in-Ok.plan within c.requires.namer c.in-Ok.ensures.ok
     c.in-Ok.ensures.named in
     record {
       planned = record {
-        planned = c.in-Ok.field-0;
+        planned = c.in-Ok.plan;
         plan = plan.plan;
         nameable = none_full m number c.plan_or_refusal.new.namer within plan.namer_is;
       };
