@@ -1,7 +1,7 @@
 """The extensions that a module's text enables."""
 
 from modules import statements_in
-from operators import barrier_words
+from operators import barrier_words, wanted_scalar
 from spelling import F16, I16, U16, scalar_of
 from words import BUILTIN_NAMES, words_of
 
@@ -76,7 +76,9 @@ def asked_for(module):
     or a literal, and wherever something of subgroups stands."""
     asked = set()
     types = [*module.types, *(e.type for f in module.groups() for e in f.expressions)]
-    if any(scalar_over(ty) == F16 for ty in types):
+    conversions = ((f.type_of(e.operands[0]), e.what) for f in module.bodies() for e in f.expressions if e.kind == "conversion")
+    converted = (wanted_scalar(ty, what) for ty, what in conversions if scalar_of(ty) is not None)
+    if F16 in (*map(scalar_over, types), *converted):
         asked.add("f16")
     bindings = [b for (ty, _), b in module.bindings.items() if ty in module.types]
     bindings += [b for p in module.entry_points for b in p.bindings.values()]
