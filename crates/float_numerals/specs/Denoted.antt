@@ -28,8 +28,8 @@ abbrev pub has_near_power : ℤ → Bool
 has_near_power (pos e) = nat_lt e 400
 has_near_power (negsuc e) = nat_lt e 400
 
--- The digit 0 has no zeros after it, as a positive power of ten would have it written: no numeral of
--- WGSL begins so (the specification, "Numeric Literals").
+-- The digit 0 has no zeros after it, as a positive power of ten would have it written: no numeral
+-- of WGSL begins so (the specification, "Numeric Literals").
 abbrev pub has_plain_zero : (digits : ℕ) → ℤ → Bool
 has_plain_zero digits (pos e) = not (digits == 0) || (e == 0)
 has_plain_zero digits (negsuc e) = true

@@ -27,7 +27,7 @@ fraction_of ds (negsuc e) =
     if nat_lt (suc e) (length ds) then drop (length ds - suc e) ds
     else replicate (suc e - length ds) 48 ++ ds
 
--- after the point, which is not written where nothing comes after it
+-- a point and the digits after it, if there are any
 abbrev pub fraction_text : List ℕ → List ℕ
 fraction_text [] = []
 fraction_text (b ∷ ds) = 46 ∷ b ∷ ds

@@ -67,8 +67,8 @@ impl Decimal {
     }
 
     /// Whether its power of ten is from -400 on and below 400, and not above 0 where the digits are
-    /// 0. All floats have numerals that are in range; the text of one beyond would be long, or begin
-    /// with two zeros, as none does in WGSL.
+    /// 0. All floats have numerals that are in range; the text of one beyond would be long, or
+    /// begin with two zeros, as none does in WGSL.
     ///
     /// ```text
     /// Decimal { negative: false, digits: 1, exponent: 400 }.is_in_range() // false

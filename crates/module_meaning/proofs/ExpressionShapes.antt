@@ -23,7 +23,7 @@ use Rattle.naga_info.specs.declared.info.TypeResolution.{TypeResolution}
 use Rattle.module_meaning.specs.ExpressionOperators.{ExpressionContext, cast, cast_to, constructor}
 use Rattle.module_meaning.specs.ExpressionOperators.{matrix_load, is_atomic_pointer, query_operator}
 use Rattle.module_meaning.specs.ExpressionShapes.{Declared, shape_of, applied_shape, applied_or}
-use Rattle.module_meaning.specs.ExpressionShapes.{asking, part_shape, part_selector, own_selector}
+use Rattle.module_meaning.specs.ExpressionShapes.{part_shape, part_selector, own_selector}
 use Rattle.module_meaning.specs.ExpressionShapes.{selector}
 use Rattle.module_meaning.specs.ExpressionOperators.{is_composite, has_parts, type_with}
 use Rattle.module_meaning.specs.ExpressionOperators.{type_known, part_operator}
@@ -84,7 +84,7 @@ pure_kind : (op : TableOperator) (xs : List ℕ) → asks op ≡ false →
     shape_kind (Some (applied_shape op xs)) ≡ kind.Pure
 pure_kind op xs none =
     ap
-    (λ b. shape_kind (Some (if b then Request (asking op) (run_word op) xs no_constant
+    (λ b. shape_kind (Some (if b then Request (run_word op) xs no_constant
     else operator_shape op xs))) none
     ∙ operator_kind op xs
 
@@ -92,7 +92,7 @@ request_kind : (op : TableOperator) (xs : List ℕ) → asks op ≡ true →
     shape_kind (Some (applied_shape op xs)) ≡ kind.Request
 request_kind op xs it =
     ap
-    (λ b. shape_kind (Some (if b then Request (asking op) (run_word op) xs no_constant
+    (λ b. shape_kind (Some (if b then Request (run_word op) xs no_constant
     else operator_shape op xs))) it
 
 -- a load of an atomic asks for an event of its own
@@ -138,7 +138,7 @@ applied_operands op xs = by (asks op)
     by : (b : Bool) →
         operands_of
         (Some
-        (if b then Request (asking op) (run_word op) xs no_constant
+        (if b then Request (run_word op) xs no_constant
         else operator_shape op xs)) ≡
         xs
     by true = refl

@@ -20,6 +20,7 @@ mod ComputedExamples
 pub mod PlaceExamples
 pub mod NumberExamples
 pub mod Operations
+pub mod OwnOperators
 mod WordExamples
 pub mod WrittenSizes
 pub mod ExpressionForms

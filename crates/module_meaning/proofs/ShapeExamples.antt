@@ -39,7 +39,7 @@ use Rattle.module_meaning.specs.StatementShapes.{simple_shape}
 use Rattle.module_meaning.specs.TypeIdentity.{identity, identity_code}
 use Rattle.shader_runs.specs.Program.{Fixed, NamedConstant, Constructed, no_constant, constant}
 use Rattle.shader_runs.specs.Program.{Load, Operator, AccessIndex, Swizzle}
-use Rattle.shader_runs.specs.Program.{Request, Always, WhenCounted, Act, Asked, Called, Barrier}
+use Rattle.shader_runs.specs.Program.{Request, Act, Asked, Called, Barrier}
 use Rattle.shader_runs.specs.Value.{MemberNamed, ElementAt, OtherType, Whole, Opaque}
 
 -- the struct has any members
@@ -132,7 +132,7 @@ module _ (members : Vec StructMember Global) where
   plain_load : shape_of declared [] 20 (expression.Load 5) ≡ Load 5
   plain_load = refl
 
-  atomic_load : shape_of declared [] 20 (expression.Load 4) ≡ Request WhenCounted (codes "atomicLoad") (4 ∷ []) no_constant
+  atomic_load : shape_of declared [] 20 (expression.Load 4) ≡ Request (codes "atomicLoad") (4 ∷ []) no_constant
   atomic_load = refl
 
   matrix_load : word (expression.CooperativeLoad cooperative.Eight cooperative.Eight role.A (record { pointer = 5; stride = 0; row_major = true })) ≡ codes "coopLoadT<coop_mat8x8<f32,A>>"
@@ -144,7 +144,7 @@ module _ (members : Vec StructMember Global) where
   offsets = expression.Literal (literal.I32 (pos 1)) ∷ expression.Splat vector.Bi 0 ∷ []
 
   sampled_at_zero : shape_of declared offsets 20
-      (expression.ImageSample 7 8 None 1 None (Some 1) level.Zero None false) ≡ Request Always
+      (expression.ImageSample 7 8 None 1 None (Some 1) level.Zero None false) ≡ Request
       (codes "textureSampleLevel") (7 ∷ 8 ∷ 1 ∷ [])
       (constant (Fixed (Opaque (codes "f32") 0))
       (constant (Constructed (codes "vec2") (OtherType (codes "T"))
@@ -153,7 +153,7 @@ module _ (members : Vec StructMember Global) where
 
   -- compared, level zero is told by the word alone, and an offset that is no constant is an operand
   compared_at_zero : shape_of declared [] 20
-      (expression.ImageSample 6 8 None 1 None (Some 3) level.Zero (Some 0) false) ≡ Request Always
+      (expression.ImageSample 6 8 None 1 None (Some 3) level.Zero (Some 0) false) ≡ Request
       (codes "textureSampleCompareLevel") (6 ∷ 8 ∷ 1 ∷ 0 ∷ 3 ∷ []) no_constant
   compared_at_zero = refl
 
@@ -163,7 +163,7 @@ module _ (members : Vec StructMember Global) where
   depths_gathered : word (expression.ImageSample 6 8 (Some component.Y) 1 None None level.Zero (Some 0) false) ≡ codes "textureGatherCompare"
   depths_gathered = refl
 
-  layers : shape_of declared [] 20 (expression.ImageQuery 7 query.NumLayers) ≡ Request Always (codes "textureNumLayers") (7 ∷ []) no_constant
+  layers : shape_of declared [] 20 (expression.ImageQuery 7 query.NumLayers) ≡ Request (codes "textureNumLayers") (7 ∷ []) no_constant
   layers = refl
 
   -- ---- statements

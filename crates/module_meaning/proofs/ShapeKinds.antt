@@ -6,7 +6,8 @@ use Rattle.naga_ir.specs.declared.kind.ExpressionKind.TheVariants as kind
 use Rattle.shader_runs.specs.Program.{Expression, Constant, Operator}
 use Rattle.shader_runs.specs.Program.{Access, AccessIndex, Swizzle, Logical, Result}
 use Rattle.shader_runs.specs.Program.{operands_of}
-use Rattle.shader_runs.specs.Scope.{is_pure, is_constant_leaf}
+use Rattle.shader_runs.specs.Program.{is_pure}
+use Rattle.shader_runs.specs.Scope.{is_constant_leaf}
 use Rattle.module_meaning.specs.ShapeKinds.{shape_kind}
 use Rattle.module_meaning.specs.OperatorTable.{Operator as TableOperator}
 use Rattle.module_meaning.specs.Shapes.{operator_shape}

@@ -5,9 +5,8 @@ use Rattle.module_meaning.specs.OperatorTable.{Operator as TableOperator, Binary
 use Rattle.module_meaning.specs.Shapes.{operator_shape}
 use Rattle.shader_runs.specs.Value.{ShortCircuit}
 use Rattle.shader_runs.specs.Program.{Expression, Operator, Logical, Function, operands_of}
-use Rattle.shader_runs.specs.Program.{is_counted, binds_as}
-use Rattle.shader_runs.specs.Scope.{Availability, is_present, usable_as, is_pure, is_constant_leaf}
-use Rattle.shader_runs.specs.Scope.{is_emittable}
+use Rattle.shader_runs.specs.Program.{is_pure, is_emittable}
+use Rattle.shader_runs.specs.Scope.{Availability, is_present, usable_as, is_constant_leaf}
 use Rattle.shader_runs.specs.Value.{ShortCircuitAnd, ShortCircuitOr}
 
 -- what holds of short circuits, and of the operator's word over the operands, holds of the operator
@@ -38,11 +37,6 @@ pub no_leaf_operator : (op : TableOperator) (xs : List ℕ) →
     is_constant_leaf (Some (operator_shape op xs)) ≡ false
 no_leaf_operator op xs =
     operator_any (λ e. is_constant_leaf (Some e) ≡ false) op xs (λ j l r. refl) refl
-
-pub operator_bound : (f : Function) (h : ℕ) (op : TableOperator) (xs : List ℕ) →
-    binds_as f h (Some (operator_shape op xs)) ≡ is_counted f h
-operator_bound f h op xs =
-    operator_any (λ e. binds_as f h (Some e) ≡ is_counted f h) op xs (λ j l r. refl) refl
 
 pub operator_usable : (f : Function) (op : TableOperator) (xs : List ℕ) (s : Availability) →
     usable_as f (Some (operator_shape op xs)) s ≡ is_present s

@@ -10,7 +10,7 @@
 use Rattle.std.specs.Prelude.{ℕ, suc, Bool, false, List, [], ◌∷◌, ◌++◌, map, Option}
 use Rattle.std.specs.Prelude.{Some, None, if◌then◌else◌, slice_get, nat_lt}
 use Rattle.std.specs.List.{flat_map, enumerate_from}
-use Rattle.std.specs.Option.{option_map, option_map_or, option_to_list}
+use Rattle.std.specs.Option.{option_and_then, option_map, option_map_or, option_to_list}
 use denote.Enum.Declared.{tag_of}
 use Rattle.naga_ir.specs.contracts.expression.SwizzleComponent.{the_type as components}
 use Rattle.naga_ir.specs.contracts.operators.BinaryOperator.{the_type as binary_operators}
@@ -34,6 +34,10 @@ use Rattle.naga_info.specs.declared.info.TypeResolution.TheVariants.{Handle, Val
 use Rattle.module_meaning.specs.AlikeTypes.{type_identity, is_spelled}
 use Rattle.module_meaning.specs.Operations.{Operation, all_agree}
 use Rattle.module_meaning.specs.Conversions.{conversion_target, keeps_bits}
+use Rattle.module_meaning.specs.ExpressionOperators.{own_operator}
+use Rattle.module_meaning.specs.OperatorTable.{Operator, ArrayLength, BinarySign, Math, RayCorners}
+use Rattle.module_meaning.specs.OperatorTable.{CooperativeMultiplyAdd, RayIntersection, Relational}
+use Rattle.module_meaning.specs.OperatorTable.{Select, Splat, UnarySign}
 use Rattle.module_meaning.specs.TypeIdentity.{kind_number, level, truth_number, vector_number}
 use Rattle.module_meaning.specs.TypeParts.{known_inner}
 
@@ -91,51 +95,31 @@ swizzle_key size pattern =
     word_key 5 (vector_number size) (letter_number size pattern 0) (letter_number size pattern 1)
     (letter_number size pattern 2) (letter_number size pattern 3)
 
--- what tells the operator of an expression; leaves, results and what asks for an event have none
+-- what tells an operator that takes no type; one that asks for an event has nothing
+abbrev pub own_key : Operator → Option (List ℕ)
+own_key (Splat size) = Some (one_key 2 (vector_number size))
+own_key (UnarySign op) = Some (one_key 6 (tag_of unary_operators op))
+own_key (BinarySign op) = Some (one_key 7 (tag_of binary_operators op))
+own_key Select = Some (one_key 8 0)
+own_key (Relational fun) = Some (one_key 9 (tag_of relations fun))
+own_key (Math fun) = Some (one_key 10 (tag_of math_functions fun))
+own_key ArrayLength = Some (one_key 11 0)
+own_key CooperativeMultiplyAdd = Some (one_key 12 0)
+own_key (RayIntersection committed) = Some (one_key 13 (truth_number committed))
+own_key (RayCorners committed) = Some (one_key 14 (truth_number committed))
+own_key _ = None
+
+-- what tells the operator of an expression, and a part or components as one; leaves, results and
+-- what asks for an event have nothing
 abbrev pub operator_key : List Type_ → (known : List TypeResolution) → Expression → Option (List ℕ)
 operator_key types known (expression.Compose ty parts) = Some (constructor_key types ty)
 operator_key types known (expression.As operand kind convert) =
     Some (conversion_key types kind convert (known_inner types known operand))
-operator_key types known (expression.Splat size value) = Some (one_key 2 (vector_number size))
 operator_key types known (expression.Access base index) = Some (one_key 3 0)
 operator_key types known (expression.AccessIndex base index) = Some (one_key 4 index)
 operator_key types known (expression.Swizzle size vector pattern) = Some (swizzle_key size pattern)
-operator_key types known (expression.Unary op operand) =
-    Some (one_key 6 (tag_of unary_operators op))
-operator_key types known (expression.Binary op left right) =
-    Some (one_key 7 (tag_of binary_operators op))
-operator_key types known (expression.Select condition accept reject) = Some (one_key 8 0)
-operator_key types known (expression.Relational fun argument) =
-    Some (one_key 9 (tag_of relations fun))
-operator_key types known (expression.Math fun arg arg1 arg2 arg3) =
-    Some (one_key 10 (tag_of math_functions fun))
-operator_key types known (expression.ArrayLength array) = Some (one_key 11 0)
-operator_key types known (expression.CooperativeMultiplyAdd a b c) = Some (one_key 12 0)
-operator_key types known (expression.RayQueryGetIntersection query committed) =
-    Some (one_key 13 (truth_number committed))
-operator_key types known (expression.RayQueryVertexPositions query committed) =
-    Some (one_key 14 (truth_number committed))
-operator_key types known (expression.Literal value) = None
-operator_key types known (expression.Constant handle) = None
-operator_key types known (expression.Override handle) = None
-operator_key types known (expression.ZeroValue ty) = None
-operator_key types known (expression.FunctionArgument number) = None
-operator_key types known (expression.GlobalVariable handle) = None
-operator_key types known (expression.LocalVariable handle) = None
-operator_key types known (expression.Load pointer) = None
-operator_key types known
-    (expression.ImageSample image sampler gather coordinate array_index offset level depth clamp) =
-    None
-operator_key types known (expression.ImageLoad image coordinate array_index sample level) = None
 operator_key types known (expression.ImageQuery image query) = None
-operator_key types known (expression.Derivative axis ctrl operand) = None
-operator_key types known (expression.CallResult function) = None
-operator_key types known (expression.AtomicResult ty comparison) = None
-operator_key types known (expression.WorkGroupUniformLoadResult ty) = None
-operator_key types known expression.RayQueryProceedResult = None
-operator_key types known expression.SubgroupBallotResult = None
-operator_key types known (expression.SubgroupOperationResult ty) = None
-operator_key types known (expression.CooperativeLoad columns rows role place) = None
+operator_key types known e = option_and_then own_key (own_operator e)
 
 -- what tells the type of a handle; a handle out of range, which no accepted module has, has nothing
 abbrev pub identity_at : List Type_ → (known : List TypeResolution) → (handle : ℕ) → List ℕ

@@ -1,7 +1,7 @@
 -- The extensions of WGSL that a text enables: which there are, in the order of the text, what a
--- module needs each of them for, and what standard compilers ask for one besides. A text enables an
--- extension where its module needs it, but for one that a text for standard compilers alone enables.
--- Such a text enables an extension where these ask for it, too.
+-- module needs each of them for, and what standard compilers ask for one besides. A text enables
+-- an extension where its module needs it, but for one that a text for standard compilers alone
+-- enables. Such a text enables an extension where these ask for it, too.
 --
 -- Throughout, x is an extension, m a module or a member, info what is known of a module, t a type,
 -- s a scalar, v a variable of the module, p an entry point, a an argument, and r a result.

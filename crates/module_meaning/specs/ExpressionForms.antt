@@ -3,31 +3,19 @@
 --
 -- Throughout, m is a module, f a function, es are its expressions, e is one, k is what is known of
 -- one, h is a handle, a an argument, r a result, s are scalars, and t is a type.
-use Rattle.std.specs.Prelude.{ℕ, zero, suc, Bool, true, false, ◌&&◌, ◌||◌, not, List, length, ◌==◌}
+use Rattle.std.specs.Prelude.{ℕ, zero, suc, Bool, true, false, ◌&&◌, ◌||◌, List, length}
 use Rattle.std.specs.Prelude.{Option, nat_lt, slice_get}
 use Rattle.std.specs.List.{list_all}
-use Rattle.std.specs.Option.{option_map_or, is_none, is_some}
+use Rattle.std.specs.Option.{option_map_or, is_some}
 use Rattle.naga_ir.specs.declared.expression.Expression.{Expression}
 use Rattle.naga_ir.specs.declared.expression.Expression.TheVariants.{Literal, Constant, Override}
-use Rattle.naga_ir.specs.declared.expression.Expression.TheVariants.{FunctionArgument}
-use Rattle.naga_ir.specs.declared.expression.Expression.TheVariants.{GlobalVariable}
-use Rattle.naga_ir.specs.declared.expression.Expression.TheVariants.{ZeroValue, Compose}
-use Rattle.naga_ir.specs.declared.expression.Expression.TheVariants.{LocalVariable, Load, Unary}
-use Rattle.naga_ir.specs.declared.expression.Expression.TheVariants.{Binary, Select, Math}
-use Rattle.naga_ir.specs.declared.expression.Expression.TheVariants.{Relational, Splat, Swizzle}
-use Rattle.naga_ir.specs.declared.expression.Expression.TheVariants.{Access, AccessIndex, As}
-use Rattle.naga_ir.specs.declared.expression.Expression.TheVariants.{Derivative, ArrayLength}
-use Rattle.naga_ir.specs.declared.expression.Expression.TheVariants.{CooperativeMultiplyAdd}
-use Rattle.naga_ir.specs.declared.expression.Expression.TheVariants.{CooperativeLoad}
-use Rattle.naga_ir.specs.declared.expression.Expression.TheVariants.{ImageSample, ImageLoad}
-use Rattle.naga_ir.specs.declared.expression.Expression.TheVariants.{ImageQuery, CallResult}
-use Rattle.naga_ir.specs.declared.expression.Expression.TheVariants.{AtomicResult}
-use Rattle.naga_ir.specs.declared.expression.Expression.TheVariants.{WorkGroupUniformLoadResult}
-use Rattle.naga_ir.specs.declared.expression.Expression.TheVariants.{SubgroupBallotResult}
-use Rattle.naga_ir.specs.declared.expression.Expression.TheVariants.{SubgroupOperationResult}
+use Rattle.naga_ir.specs.declared.expression.Expression.TheVariants.{GlobalVariable, ZeroValue}
+use Rattle.naga_ir.specs.declared.expression.Expression.TheVariants.{Compose, Splat, AccessIndex, As}
+use Rattle.naga_ir.specs.declared.expression.Expression.TheVariants.{CooperativeLoad, ImageSample}
+use Rattle.naga_ir.specs.declared.expression.Expression.TheVariants.{ImageQuery}
+use Rattle.naga_ir.specs.declared.expression.Expression.TheVariants.{RayQueryProceedResult}
 use Rattle.naga_ir.specs.declared.expression.Literal.{Literal as LiteralValue}
 use Rattle.naga_ir.specs.declared.expression.Literal.TheVariants as literal
-use Rattle.naga_ir.specs.declared.module.Function.{Function}
 use Rattle.naga_ir.specs.declared.module.Module.{Module}
 use Rattle.naga_ir.specs.declared.types.CooperativeRole.{CooperativeRole}
 use Rattle.naga_ir.specs.declared.types.CooperativeSize.{CooperativeSize}
@@ -41,14 +29,11 @@ use Rattle.naga_info.specs.declared.info.TypeResolution.TheVariants.{Handle, Val
 use Rattle.float_numerals.specs.Denoted.{is_in_range}
 use Rattle.module_meaning.specs.AlikeTypes.{is_spelled}
 use Rattle.module_meaning.specs.Conversions.{conversion_target}
-use Rattle.module_meaning.specs.ExpressionOperators.{has_parts, scalar_behind}
-use Rattle.module_meaning.specs.OperatorTable.{relational_word}
-use Rattle.module_meaning.specs.Ranges.{all_placed}
+use Rattle.module_meaning.specs.ExpressionOperators.{has_parts, own_operator, scalar_behind}
+use Rattle.module_meaning.specs.OperatorTable.{has_word}
 use Rattle.module_meaning.specs.Sampling.{own_offset_is_written, sampling_is_written}
-use Rattle.module_meaning.specs.Undeclared.{is_spellable, is_undeclared, part_is_written_at}
+use Rattle.module_meaning.specs.Undeclared.{is_spellable, part_is_written_at}
 use Rattle.module_meaning.specs.Undeclared.{whole_known}
-use Rattle.naga_words.specs.Spelling.{is_struct}
-use Rattle.wgsl_words.specs.Words.{math_word}
 
 -- ---- literals
 -- the literal is of `bool` or of one of these integer types, or a numeral of a floating-point type
@@ -125,54 +110,29 @@ part_is_written m es base index =
     known_passes m.types es (has_parts m.types) base &&
     option_map_or (part_is_written_at m index) (whole_known m.types es base) true
 
--- A literal of `bool` or of an integer type, a constant, an override, the zero value of a type, a
--- value of a type from its parts, a part at an index, an argument, a local, a variable of the
--- module, a load, an operator with a sign, the choice of one of two values, a vector of one value,
--- components of a vector, a conversion, a derivative, an operation on an image that has a form, the
--- length of an array, a load or a product of cooperative matrices, a function of mathematics or a
--- relation that has a word, or the result of a statement but of a step of a ray query. A type that
--- it spells has a form and names no struct that no text declares, and a known index is that of what
--- has parts, of such a struct that of a member that a text can name. A constant without a name is
--- written as its initialiser is, and a result by its name alone. Any other has no form: it is
--- refused by name where it is written, and let be where it is not.
+-- An operator is written where it has a word. A type that an expression spells has a form and names
+-- no struct that no text declares; a known index is that of what has parts, and of such a struct
+-- that of a member that a text can name. A constant without a name is written as its initialiser
+-- is, a literal where it has a form, a variable where the module has it, and the result of a
+-- statement, but of a step of a ray query, by its name. What has no form is refused by name where
+-- it is written, and let be where it is not.
 abbrev pub expression_is_written : Module → List ExpressionInfo → Expression → Bool
 expression_is_written m es (Literal value) = is_written_literal value
 expression_is_written m es (Constant handle) = constant_is_written m handle
-expression_is_written m es (Override handle) = true
 expression_is_written m es (ZeroValue ty) = is_spellable m (Handle ty)
-expression_is_written m es (Compose ty components) = is_spellable m (Handle ty)
-expression_is_written m es (Access base index) = true
-expression_is_written m es (AccessIndex base index) = part_is_written m es base index
-expression_is_written m es (FunctionArgument number) = true
 expression_is_written m es (GlobalVariable handle) = nat_lt handle (length m.global_variables)
-expression_is_written m es (LocalVariable handle) = true
-expression_is_written m es (Load pointer) = true
-expression_is_written m es (Unary op expr) = true
-expression_is_written m es (Binary op left right) = true
-expression_is_written m es (Select condition accept reject) = true
-expression_is_written m es (Splat size value) = true
-expression_is_written m es (Swizzle size vector pattern) = true
+expression_is_written m es (Compose ty components) = is_spellable m (Handle ty)
+expression_is_written m es (AccessIndex base index) = part_is_written m es base index
 expression_is_written m es (As expr kind convert) =
     known_passes m.types es (converts m.types kind convert) expr
-expression_is_written m es (Derivative axis ctrl expr) = true
 expression_is_written m es
     (ImageSample image sampler gather coordinate array_index offset level depth_ref clamp) =
     sampling_is_written gather level (is_some depth_ref) clamp
-expression_is_written m es (ImageLoad image coordinate array_index sample level) =
-    is_none sample || is_none level
-expression_is_written m es (ImageQuery image query) = true
-expression_is_written m es (ArrayLength array) = true
 expression_is_written m es (CooperativeLoad columns rows role place) =
     known_passes m.types es (loads_matrix m.types columns rows role) place.pointer
-expression_is_written m es (CooperativeMultiplyAdd a b c) = true
-expression_is_written m es (Math fun arg arg1 arg2 arg3) = is_some (math_word fun)
-expression_is_written m es (Relational fun argument) = is_some (relational_word fun)
-expression_is_written m es (CallResult function) = true
-expression_is_written m es (AtomicResult ty comparison) = true
-expression_is_written m es (WorkGroupUniformLoadResult ty) = true
-expression_is_written m es SubgroupBallotResult = true
-expression_is_written m es (SubgroupOperationResult ty) = true
-expression_is_written m es _ = false
+expression_is_written m es (ImageQuery image query) = true
+expression_is_written m es RayQueryProceedResult = false
+expression_is_written m es e = option_map_or has_word (own_operator e) true
 
 -- it is written, and so is the offset of a sampling, as a constant of these expressions
 abbrev pub expression_has_form : Module → List ExpressionInfo → List Expression → Expression → Bool

@@ -170,20 +170,30 @@ query_operator query.NumLayers = CountOf Layers
 query_operator query.NumSamples = CountOf Samples
 
 -- ---- expressions
+-- The operator that an expression applies whatever stands around it, if it applies such a one: it
+-- is one of the table's that take no type.
+abbrev pub own_operator : Expression → Option Operator
+own_operator (expression.Splat size value) = Some (Splat size)
+own_operator (expression.ImageLoad image coordinate array_index sample level) =
+    Some (Texel (is_some array_index) (texel_of (is_some sample) (is_some level)))
+own_operator (expression.ImageQuery image query) = Some (query_operator query)
+own_operator (expression.Unary op expr) = Some (UnarySign op)
+own_operator (expression.Binary op left right) = Some (BinarySign op)
+own_operator (expression.Select condition accept reject) = Some Select
+own_operator (expression.Derivative axis ctrl expr) = Some (Derivative axis ctrl)
+own_operator (expression.Relational fun argument) = Some (Relational fun)
+own_operator (expression.Math fun arg arg1 arg2 arg3) = Some (Math fun)
+own_operator (expression.ArrayLength array) = Some ArrayLength
+own_operator (expression.RayQueryGetIntersection query committed) = Some (RayIntersection committed)
+own_operator (expression.RayQueryVertexPositions query committed) = Some (RayCorners committed)
+own_operator (expression.CooperativeMultiplyAdd x y z) = Some CooperativeMultiplyAdd
+own_operator _ = None
+
+-- the operator that an expression applies, by its context or by itself
 abbrev pub applied_operator : ExpressionContext → Expression → Option Operator
-applied_operator a (expression.Literal value) = None
-applied_operator a (expression.Constant handle) = None
-applied_operator a (expression.Override handle) = None
-applied_operator a (expression.ZeroValue ty) = None
 applied_operator a (expression.Compose ty components) =
     Some (constructor a (Handle ty) (length components.items))
-applied_operator a (expression.Access base index) = None
 applied_operator a (expression.AccessIndex base index) = part_operator a base index
-applied_operator a (expression.Splat size value) = Some (Splat size)
-applied_operator a (expression.Swizzle size vector pattern) = None
-applied_operator a (expression.FunctionArgument number) = None
-applied_operator a (expression.GlobalVariable handle) = None
-applied_operator a (expression.LocalVariable handle) = None
 applied_operator a (expression.Load pointer) = load_operator a pointer
 applied_operator a
     (expression.ImageSample
@@ -191,28 +201,8 @@ applied_operator a
     let of_depths = option_map_or is_depth_image (type_known a image) false in
     Some (sample_operator of_depths gather (level_of level)
     (is_some depth_ref) clamp (is_some array_index) (is_some offset))
-applied_operator a (expression.ImageLoad image coordinate array_index sample level) =
-    Some (Texel (is_some array_index) (texel_of (is_some sample) (is_some level)))
-applied_operator a (expression.ImageQuery image query) = Some (query_operator query)
-applied_operator a (expression.Unary op expr) = Some (UnarySign op)
-applied_operator a (expression.Binary op left right) = Some (BinarySign op)
-applied_operator a (expression.Select condition accept reject) = Some Select
-applied_operator a (expression.Derivative axis ctrl expr) = Some (Derivative axis ctrl)
-applied_operator a (expression.Relational fun argument) = Some (Relational fun)
-applied_operator a (expression.Math fun arg arg1 arg2 arg3) = Some (Math fun)
 applied_operator a (expression.As expr kind convert) =
     Some (cast a kind convert (type_known a expr))
-applied_operator a (expression.CallResult function) = None
-applied_operator a (expression.AtomicResult ty comparison) = None
-applied_operator a (expression.WorkGroupUniformLoadResult ty) = None
-applied_operator a (expression.ArrayLength array) = Some ArrayLength
-applied_operator a expression.RayQueryProceedResult = None
-applied_operator a (expression.RayQueryGetIntersection query committed) =
-    Some (RayIntersection committed)
-applied_operator a (expression.RayQueryVertexPositions query committed) =
-    Some (RayCorners committed)
-applied_operator a expression.SubgroupBallotResult = None
-applied_operator a (expression.SubgroupOperationResult ty) = None
 applied_operator a (expression.CooperativeLoad columns rows role place) =
     Some (matrix_load a columns rows role place)
-applied_operator a (expression.CooperativeMultiplyAdd x y z) = Some CooperativeMultiplyAdd
+applied_operator a e = own_operator e

@@ -24,8 +24,8 @@ use Rattle.module_meaning.specs.ExpressionOperators.{ExpressionContext, applied_
 use Rattle.module_meaning.specs.ExpressionOperators.{constructor, part_operator}
 use Rattle.module_meaning.specs.ExpressionOperators.{type_with, load_operator, level_of}
 use Rattle.module_meaning.specs.Literals.{literal_value}
-use Rattle.module_meaning.specs.OperatorTable.{Operator as TableOperator, Splat, Sample, Gather}
-use Rattle.module_meaning.specs.OperatorTable.{Texel, ImageSize, CountOf, WithoutForm, PartAt, asks}
+use Rattle.module_meaning.specs.OperatorTable.{Operator as TableOperator, Splat}
+use Rattle.module_meaning.specs.OperatorTable.{WithoutForm, PartAt, asks}
 use Rattle.module_meaning.specs.OperatorTable.{run_word, is_zero_by_name, zero_is_written}
 use Rattle.module_meaning.specs.Shapes.{operator_shape}
 use Rattle.module_meaning.specs.TypeIdentity.{vector_number}
@@ -35,7 +35,7 @@ use Rattle.shader_runs.specs.Program.{ConstantTree, Fixed, Constructed, Constant
 use Rattle.shader_runs.specs.Program.{Indexing, Picking, Joining}
 use Rattle.shader_runs.specs.Program.{constant, Expression, Constant, Argument, Local, Global, Load}
 use Rattle.shader_runs.specs.Program.{Access, AccessIndex, Swizzle, Request}
-use Rattle.shader_runs.specs.Program.{AskingRule, WhenCounted, Always, Result}
+use Rattle.shader_runs.specs.Program.{Result}
 
 -- what the shapes of a function's expressions ask of the module
 pub record Declared : Type 0 where
@@ -103,23 +103,10 @@ abbrev pub constant_shape : Option ConstantTree → Expression
 constant_shape t = Constant (unwrap_or t (Fixed (Truth false)))
 
 -- ---- operators
--- it asks an image
-abbrev pub asks_an_image : TableOperator → Bool
-asks_an_image (Sample level compares clamped arrayed offset) = true
-asks_an_image (Gather component level compares clamped arrayed offset) = true
-asks_an_image (Texel arrayed texel) = true
-asks_an_image (ImageSize of_level) = true
-asks_an_image (CountOf what) = true
-asks_an_image _ = false
-
--- Operations on images are always written; other requests, which read, only where they count.
-abbrev pub asking : TableOperator → AskingRule
-asking operator = if asks_an_image operator then Always else WhenCounted
-
 -- what an operator over operands evaluates: a request, where it asks for an event
 abbrev pub applied_shape : TableOperator → List ℕ → Expression
 applied_shape operator operands =
-    if asks operator then Request (asking operator) (run_word operator) operands no_constant
+    if asks operator then Request (run_word operator) operands no_constant
     else operator_shape operator operands
 
 -- the same, where an operator is applied, and this where none is
@@ -276,7 +263,7 @@ sample_shape
     (expression.ImageSample
     image sampler gather coordinate array_index offset level depth_ref clamp) tree
     (Some operator) =
-    Request (asking operator) (run_word operator)
+    Request (run_word operator)
     (image ∷ sampler ∷ coordinate ∷ option_to_list array_index ++ option_to_list depth_ref ++
     level_operands level ++ (if is_some tree then [] else option_to_list offset))
     (trees

@@ -110,7 +110,7 @@ binary_type binary.LogicalAnd left = logical_type left
 binary_type binary.LogicalOr left = logical_type left
 binary_type _ left = Anything
 
--- one line for each kind of expression
+-- which type each kind of expression has; what is not listed may have any
 abbrev pub wanted_type : Module → Option Function → (known : List TypeResolution) → Expression →
     WantedType
 wanted_type m f known (expression.Literal value) =
@@ -133,30 +133,13 @@ wanted_type m f known (expression.GlobalVariable handle) = only (global_type m h
 wanted_type m f known (expression.LocalVariable handle) = only (local_type f handle)
 wanted_type m f known (expression.Load pointer) =
     only (known_pointee m.types known pointer)
-wanted_type m f known
-    (expression.ImageSample image sampler gather coordinate array_index offset level depth clamp) =
-    Anything
-wanted_type m f known (expression.ImageLoad image coordinate array_index sample level) = Anything
-wanted_type m f known (expression.ImageQuery image query) = Anything
-wanted_type m f known (expression.Unary op operand) = Anything
 wanted_type m f known (expression.Binary op left right) =
     binary_type op (known_inner m.types known left)
-wanted_type m f known (expression.Select condition accept reject) = Anything
-wanted_type m f known (expression.Derivative axis control operand) = Anything
-wanted_type m f known (expression.Relational fun argument) = Anything
-wanted_type m f known (expression.Math fun first second third fourth) = Anything
-wanted_type m f known (expression.As operand kind convert) = Anything
 wanted_type m f known (expression.CallResult function) = only (result_type m function)
 wanted_type m f known (expression.AtomicResult ty comparison) = LikeThis (Handle ty)
 wanted_type m f known (expression.WorkGroupUniformLoadResult ty) = LikeThis (Handle ty)
-wanted_type m f known (expression.ArrayLength array) = Anything
-wanted_type m f known expression.RayQueryProceedResult = Anything
-wanted_type m f known (expression.RayQueryGetIntersection query committed) = Anything
-wanted_type m f known (expression.RayQueryVertexPositions query committed) = Anything
-wanted_type m f known expression.SubgroupBallotResult = Anything
 wanted_type m f known (expression.SubgroupOperationResult ty) = LikeThis (Handle ty)
-wanted_type m f known (expression.CooperativeLoad columns rows role data_) = Anything
-wanted_type m f known (expression.CooperativeMultiplyAdd a b c) = Anything
+wanted_type m f known _ = Anything
 
 -- Is a type what is wanted?
 abbrev pub is_wanted : List Type_ → WantedType → TypeResolution → Bool

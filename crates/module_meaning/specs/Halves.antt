@@ -1,5 +1,5 @@
--- Where the text of a module may spell a type that is over `f16`, or have a literal of one: by one of
--- the module's types, by the type that is known of an expression, as a `let` tells it, and by a
+-- Where the text of a module may spell a type that is over `f16`, or have a literal of one: by one
+-- of the module's types, by the type that is known of an expression, as a `let` tells it, and by a
 -- conversion, which is called by the type that it makes of its operand's. Whatever else a function
 -- calls by a type is called by one of the module's, or by one over the scalars that a pointer leads
 -- to, whose type is known. It is asked of all of these, of those too that no text has.

@@ -66,13 +66,8 @@ abbrev pub operand_is : List Type_ → (known : List TypeResolution) → (TypeIn
 operand_is types known demand operand =
     option_map_or demand (known_inner types known operand) false
 
--- one line for each kind of expression
+-- what each kind of expression asks of its operands; what is not listed asks for nothing
 abbrev pub operands_fit : List Type_ → (known : List TypeResolution) → Expression → Bool
-operands_fit types known (expression.Literal value) = true
-operands_fit types known (expression.Constant handle) = true
-operands_fit types known (expression.Override handle) = true
-operands_fit types known (expression.ZeroValue ty) = true
-operands_fit types known (expression.Compose ty parts) = true
 operands_fit types known (expression.Access base index) =
     operand_is types known (has_computed_parts types) base &&
     operand_is types known is_integer index
@@ -82,35 +77,11 @@ operands_fit types known (expression.Splat n value) =
     operand_is types known is_components value
 operands_fit types known (expression.Swizzle n vector pattern) =
     operand_is types known (is_swizzled n pattern) vector
-operands_fit types known (expression.FunctionArgument number) = true
-operands_fit types known (expression.GlobalVariable handle) = true
-operands_fit types known (expression.LocalVariable handle) = true
 operands_fit types known (expression.Load pointer) =
     operand_is types known (is_pointer types) pointer
-operands_fit types known
-    (expression.ImageSample image sampler gather coordinate array_index offset level depth clamp) =
-    true
-operands_fit types known (expression.ImageLoad image coordinate array_index sample level) = true
-operands_fit types known (expression.ImageQuery image query) = true
-operands_fit types known (expression.Unary op operand) = true
-operands_fit types known (expression.Binary op left right) = true
-operands_fit types known (expression.Select condition accept reject) = true
-operands_fit types known (expression.Derivative axis control operand) = true
-operands_fit types known (expression.Relational fun argument) = true
-operands_fit types known (expression.Math fun first second third fourth) = true
-operands_fit types known (expression.As operand kind convert) = true
-operands_fit types known (expression.CallResult function) = true
-operands_fit types known (expression.AtomicResult ty comparison) = true
-operands_fit types known (expression.WorkGroupUniformLoadResult ty) = true
-operands_fit types known (expression.ArrayLength array) = true
-operands_fit types known expression.RayQueryProceedResult = true
-operands_fit types known (expression.RayQueryGetIntersection query committed) = true
-operands_fit types known (expression.RayQueryVertexPositions query committed) = true
-operands_fit types known expression.SubgroupBallotResult = true
-operands_fit types known (expression.SubgroupOperationResult ty) = true
 operands_fit types known (expression.CooperativeLoad columns rows role data_) =
     operand_is types known (points_to_components types) data_.pointer
-operands_fit types known (expression.CooperativeMultiplyAdd a b c) = true
+operands_fit types known _ = true
 
 -- the same of all expressions that stand together
 abbrev pub are_operands_fit : List Type_ → (known : List TypeResolution) → List Expression → Bool

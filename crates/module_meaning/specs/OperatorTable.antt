@@ -4,7 +4,7 @@
 -- function below.
 use Rattle.std.specs.Prelude.{ℕ, ◌||◌, ◌+◌, Bool, true, false, List, [], ◌∷◌, ◌++◌, Option, Some}
 use Rattle.std.specs.Prelude.{None, codes, ⊤, ◌≡◌, unwrap_or, if◌then◌else◌}
-use Rattle.std.specs.Option.{option_to_list}
+use Rattle.std.specs.Option.{option_to_list, is_some}
 use Rattle.naga_ir.specs.declared.expression.SwizzleComponent.{SwizzleComponent}
 use Rattle.naga_ir.specs.declared.expression.SwizzleComponent.TheVariants as component
 use Rattle.naga_ir.specs.declared.types.CooperativeRole.{CooperativeRole}
@@ -257,10 +257,10 @@ operator_word (Ballot predicate) = Some (codes "subgroupBallot")
 operator_word (Collective op collective) = collective_word op collective
 operator_word (FromSubgroup source) = Some (source_word source)
 operator_word (Barrier control kept) = Some (barrier_word kept)
-operator_word (CooperativeLoad false spelling) = Some (with_type (codes "coopLoad") spelling)
-operator_word (CooperativeLoad true spelling) = Some (with_type (codes "coopLoadT") spelling)
-operator_word (CooperativeStore false) = Some (codes "coopStore")
-operator_word (CooperativeStore true) = Some (codes "coopStoreT")
+operator_word (CooperativeLoad row_major spelling) =
+    Some (with_type (if row_major then codes "coopLoadT" else codes "coopLoad") spelling)
+operator_word (CooperativeStore row_major) =
+    Some (if row_major then codes "coopStoreT" else codes "coopStore")
 operator_word CooperativeMultiplyAdd = Some (codes "coopMultiplyAdd")
 operator_word TraceRay = Some (codes "traceRay")
 operator_word RayStep = None
@@ -271,6 +271,10 @@ operator_word (Splat size) = Some (vector_word size)
 operator_word (Convert spelling) = Some spelling
 operator_word (Reinterpret spelling) = Some (with_type (codes "bitcast") spelling)
 operator_word (WithoutForm what) = None
+
+-- a text can have it
+abbrev pub has_word : Operator → Bool
+has_word operator = is_some (operator_word operator)
 
 abbrev pub own_math_word : MathFunction → List ℕ
 own_math_word math.Inverse = codes " inverse"

@@ -149,9 +149,7 @@ names_in_range m arguments locals (expression.Override h) = nat_lt h (length m.o
 names_in_range m arguments locals (expression.ZeroValue ty) = nat_lt ty (length m.types)
 names_in_range m arguments locals (expression.Compose ty components) =
     nat_lt ty (length m.types)
-names_in_range m arguments locals (expression.Access base index) = true
 names_in_range m arguments locals (expression.AccessIndex base index) = fits_32_bits index
-names_in_range m arguments locals (expression.Splat size value) = true
 names_in_range m arguments locals (expression.Swizzle size vector pattern) =
     pattern_is_whole pattern
 names_in_range m arguments locals (expression.FunctionArgument number) =
@@ -159,40 +157,15 @@ names_in_range m arguments locals (expression.FunctionArgument number) =
 names_in_range m arguments locals (expression.GlobalVariable h) =
     nat_lt h (length m.global_variables)
 names_in_range m arguments locals (expression.LocalVariable h) = nat_lt h locals
-names_in_range m arguments locals (expression.Load pointer) = true
-names_in_range m arguments locals
-    (expression.ImageSample
-    image sampler gather coordinate array_index offset level depth_ref clamp) =
-    true
-names_in_range m arguments locals
-    (expression.ImageLoad image coordinate array_index sample level) =
-    true
-names_in_range m arguments locals (expression.ImageQuery image query) = true
-names_in_range m arguments locals (expression.Unary op expr) = true
-names_in_range m arguments locals (expression.Binary op left right) = true
-names_in_range m arguments locals (expression.Select condition accept reject) = true
-names_in_range m arguments locals (expression.Derivative axis ctrl expr) = true
-names_in_range m arguments locals (expression.Relational fun argument) = true
-names_in_range m arguments locals (expression.Math fun arg arg1 arg2 arg3) = true
-names_in_range m arguments locals (expression.As expr kind convert) = true
 names_in_range m arguments locals (expression.CallResult function) =
     nat_lt function (length m.functions)
 names_in_range m arguments locals (expression.AtomicResult ty comparison) =
     nat_lt ty (length m.types)
 names_in_range m arguments locals (expression.WorkGroupUniformLoadResult ty) =
     nat_lt ty (length m.types)
-names_in_range m arguments locals (expression.ArrayLength array) = true
-names_in_range m arguments locals expression.RayQueryProceedResult = true
-names_in_range m arguments locals (expression.RayQueryGetIntersection query committed) =
-    true
-names_in_range m arguments locals (expression.RayQueryVertexPositions query committed) =
-    true
-names_in_range m arguments locals expression.SubgroupBallotResult = true
 names_in_range m arguments locals (expression.SubgroupOperationResult ty) =
     nat_lt ty (length m.types)
-names_in_range m arguments locals (expression.CooperativeLoad columns rows role place) =
-    true
-names_in_range m arguments locals (expression.CooperativeMultiplyAdd a b c) = true
+names_in_range m arguments locals _ = true
 
 -- the operands of the expression with this handle stand before it, and what it names is there
 abbrev pub expression_in_range : Module → (arguments locals : ℕ) → (here : ℕ) → Expression → Bool

@@ -18,6 +18,6 @@ shape_kind (Some (Access base index)) = kind.Pure
 shape_kind (Some (AccessIndex selector base)) = kind.Pure
 shape_kind (Some (Swizzle letters vector)) = kind.Pure
 shape_kind (Some (Logical circuit left right)) = kind.Pure
-shape_kind (Some (Request asking word operands constants)) = kind.Request
+shape_kind (Some (Request word operands constants)) = kind.Request
 shape_kind (Some Result) = kind.Result
 shape_kind None = kind.Result

@@ -5,7 +5,7 @@
 use Rattle.std.specs.Prelude.{ℕ, Bool, ◌-◌, ◌==◌, Option, Some, None, if◌then◌else◌}
 use Rattle.std.specs.Int.Bits.{bit_and}
 use Rattle.std.specs.Option.{is_some}
-use Rattle.naga_ir.specs.Operands.{simple_operands}
+use Rattle.naga_ir.specs.Operands.{simple_operands, simple_result}
 use Rattle.naga_ir.specs.StatementTree.{SimpleStatement, emit, break, continue, return, kill}
 use Rattle.naga_ir.specs.StatementTree.{control_barrier, memory_barrier, store, image_store, atomic}
 use Rattle.naga_ir.specs.StatementTree.{image_atomic, work_group_uniform_load, call, ray_query}
@@ -27,7 +27,7 @@ use Rattle.module_meaning.specs.OperatorTable.{CompareExchange, Source, First, I
 use Rattle.module_meaning.specs.OperatorTable.{ShuffledDown, ShuffledUp, ShuffledXor, QuadIndexed}
 use Rattle.module_meaning.specs.OperatorTable.{QuadSwapped}
 use Rattle.shader_runs.specs.Program.{Statement, Emit, Store, Break, Continue, Return, Kill}
-use Rattle.shader_runs.specs.Program.{Barrier, Act, Asked, Called, BarrierBits}
+use Rattle.shader_runs.specs.Program.{Barrier, Act, Asked, Called, BarrierBits, Block, end}
 
 -- how an atomic function changes what it finds
 abbrev pub change_of : AtomicFunction → Change
@@ -66,15 +66,35 @@ barrier_bits flags =
       texture = is_kept 8 flags;
     }
 
--- the statement asks for this operator, and has this result
-abbrev pub asked : Operator → SimpleStatement → (outcome : Option ℕ) → Statement
-asked operator s outcome = Act (Asked (run_word operator)) (simple_operands s) outcome
+-- the operator that a statement asks for, if it is an act that asks for one of the table's
+abbrev pub act_operator : SimpleStatement → Option Operator
+act_operator (image_store image coordinate array_index value) =
+    Some (TexelStore (is_some array_index))
+act_operator (atomic pointer fun value outcome) = Some (AtomicChange (change_of fun))
+act_operator (image_atomic image coordinate array_index fun value) =
+    Some (TexelChange (change_of fun) (is_some array_index))
+act_operator (work_group_uniform_load pointer outcome) = Some UniformLoad
+act_operator (ray_query query) = Some RayStep
+act_operator (subgroup_ballot outcome predicate) = Some (Ballot (is_some predicate))
+act_operator (subgroup_gather mode argument outcome) = Some (FromSubgroup (source_of mode))
+act_operator (subgroup_collective_operation op collective_op argument outcome) =
+    Some (Collective op collective_op)
+act_operator (cooperative_store target place) = Some (CooperativeStore place.row_major)
+act_operator (ray_pipeline_function fun) = Some TraceRay
+act_operator _ = None
+
+-- a statement that asks for this operator; one that asks for none does nothing
+abbrev pub asked : Option Operator → SimpleStatement → Statement
+asked (Some operator) s =
+    Act (Asked (run_word operator)) (simple_operands s) (simple_result s)
+asked None s = Block end
 
 -- a store to an atomic asks for an event of its own, any other one is plain
 abbrev pub store_shape : (to_atomic : Bool) → (pointer value : ℕ) → Statement
 store_shape to_atomic pointer value =
-    if to_atomic then asked AtomicStore (store pointer value) None else Store pointer value
+    if to_atomic then asked (Some AtomicStore) (store pointer value) else Store pointer value
 
+-- what a statement without blocks does: what is not listed is an act that asks for its operator
 abbrev pub simple_shape : ExpressionContext → SimpleStatement → Statement
 simple_shape a (emit first last) = Emit first (last - first)
 simple_shape a break = Break
@@ -84,24 +104,5 @@ simple_shape a kill = Kill
 simple_shape a (control_barrier flags) = Barrier (barrier_bits flags)
 simple_shape a (memory_barrier flags) = Barrier (barrier_bits flags)
 simple_shape a (store pointer value) = store_shape (is_atomic_pointer a pointer) pointer value
-simple_shape a (image_store image coordinate array_index value) =
-    asked (TexelStore (is_some array_index)) (image_store image coordinate array_index value) None
-simple_shape a (atomic pointer fun value outcome) =
-    asked (AtomicChange (change_of fun)) (atomic pointer fun value outcome) outcome
-simple_shape a (image_atomic image coordinate array_index fun value) =
-    asked (TexelChange (change_of fun) (is_some array_index))
-    (image_atomic image coordinate array_index fun value) None
-simple_shape a (work_group_uniform_load pointer outcome) =
-    asked UniformLoad (work_group_uniform_load pointer outcome) (Some outcome)
 simple_shape a (call function arguments outcome) = Act (Called function) arguments outcome
-simple_shape a (ray_query query) = asked RayStep (ray_query query) None
-simple_shape a (subgroup_ballot outcome predicate) =
-    asked (Ballot (is_some predicate)) (subgroup_ballot outcome predicate) (Some outcome)
-simple_shape a (subgroup_gather mode argument outcome) =
-    asked (FromSubgroup (source_of mode)) (subgroup_gather mode argument outcome) (Some outcome)
-simple_shape a (subgroup_collective_operation op collective_op argument outcome) =
-    asked (Collective op collective_op)
-    (subgroup_collective_operation op collective_op argument outcome) (Some outcome)
-simple_shape a (cooperative_store target place) =
-    asked (CooperativeStore place.row_major) (cooperative_store target place) None
-simple_shape a (ray_pipeline_function fun) = asked TraceRay (ray_pipeline_function fun) None
+simple_shape a s = asked (act_operator s) s

@@ -227,9 +227,12 @@ module _ (m : Module) (info : ModuleInfo) (accepted : IsTrue (is_accepted m info
   not_formless : (o : Operator) (count : ℕ) (k numbers : List ℕ) (n : ℕ) → IsKeyed m (are m info accepted distinguished) o count k → run_word o ≡ run_word (WithoutForm (ValueOf numbers n)) → ⊥
   not_formless o count k numbers n keyed e = by keyed (share_a_word o (WithoutForm (ValueOf numbers n)) (sound m (are m info accepted distinguished) o count k keyed) tt e)
     where
+      no_key : None ≡ Some k → ⊥
+      no_key none = absurd cc
+
       by : IsKeyed m (are m info accepted distinguished) o count k → one_word o ≡ WithoutForm (ValueOf numbers 1) → ⊥
       by (Negated sign one key) is = absurd cc
-      by (Keyed key) is = subst (λ p. KeyIn m (are m info accepted distinguished) p count k) is key
+      by (Keyed key) is = no_key (subst (λ p. KeyIn m (are m info accepted distinguished) p count k) is key)
 
   -- types whose values have one word have values of one type
   types_agree : (r s : TypeResolution) (n k : ℕ) → IsFit m r → IsFit m s →

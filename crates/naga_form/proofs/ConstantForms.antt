@@ -44,7 +44,8 @@ use Rattle.naga_form.proofs.WrittenHandles.{all_map}
 use Rattle.naga_form.proofs.Literals.{literal_read}
 use Rattle.naga_form.proofs.Operators.{IsCalled, SpellsTypes, called_applied}
 use Rattle.naga_form.proofs.Operators.{constructor_called, constructor_spelled}
-use Rattle.naga_form.proofs.Operators.{HasFormAt, splat_called, typed_notation}
+use Rattle.naga_form.proofs.CalledWords.{word_is_called}
+use Rattle.naga_form.proofs.Operators.{HasFormAt, typed_notation}
 use Rattle.naga_form.specs.ConstantForms.{built_form, constant_form_by, constant_form_over}
 use Rattle.naga_form.specs.ConstantForms.{constant_form_within, global_form, global_form_within}
 use Rattle.naga_form.specs.ConstantForms.{no_constant_form, written_constant_form}
@@ -394,7 +395,7 @@ module _ (a : ExpressionContext) (t : TypeNames) (constant part : ℕ → Expres
       built_is ty (length components.items) is.0 (map part components.items)
       (parts_are components.items is.1)
   over_is (expression.Splat size value) is =
-      called_words.expression (Named (run_word (Splat size))) (part value ∷ []) (splat_called size)
+      called_words.expression (Named (run_word (Splat size))) (part value ∷ []) (word_is_called (Splat size) refl refl refl)
       (is, tt)
   over_is _ is = tt
 

@@ -2,14 +2,14 @@
 -- bound to an identifier, and its cases have labels and one default. So it is with the accepted ones that have
 -- a form.
 use Rattle.std.proofs.Common.{◌≡◌, ℕ, ◌<◌, Bool, true, false, not, ◌&&◌, ◌||◌, List, nat_lt}
-use Rattle.std.proofs.Common.{Option, Some, None}
+use Rattle.std.proofs.Common.{Option, Some, None, refl}
 use Rattle.std.specs.Prelude.{IsTrue}
-use Rattle.std.specs.Option.{is_some, option_map_or}
+use Rattle.std.specs.Option.{option_map_or}
 use Rattle.std.proofs.lemmas.Bool.{and_parts, ltb-true}
-use Rattle.naga_ir.specs.StatementTree.{SimpleStatement, store, image_store, atomic, image_atomic}
-use Rattle.naga_ir.specs.StatementTree.{work_group_uniform_load, call, ray_query, subgroup_ballot}
-use Rattle.naga_ir.specs.StatementTree.{subgroup_gather, subgroup_collective_operation}
-use Rattle.naga_ir.specs.StatementTree.{cooperative_store, ray_pipeline_function, StatementTree}
+use Rattle.naga_ir.specs.Operands.{simple_result}
+use Rattle.naga_ir.specs.StatementTree.{SimpleStatement, store, atomic, work_group_uniform_load, call}
+use Rattle.naga_ir.specs.StatementTree.{subgroup_ballot, subgroup_gather}
+use Rattle.naga_ir.specs.StatementTree.{subgroup_collective_operation, StatementTree}
 use Rattle.naga_ir.specs.StatementTree.{simple, block, branch, switch, loop, BlockTree}
 use Rattle.naga_ir.specs.StatementTree.{no_statements, statement, has_no_statements, CaseTrees}
 use Rattle.naga_ir.specs.StatementTree.{no_cases, case}
@@ -23,7 +23,7 @@ use Rattle.module_meaning.specs.Ranges.{gather_in_range, is_below, simple_in_ran
 use Rattle.module_meaning.specs.Ranges.{statement_in_range}
 use Rattle.module_meaning.specs.StatementForms.{block_has_forms, cases_have_forms, simple_has_form}
 use Rattle.module_meaning.specs.StatementForms.{statement_has_form}
-use Rattle.module_meaning.specs.StatementShapes.{change_of, simple_shape, source_of, store_shape}
+use Rattle.module_meaning.specs.StatementShapes.{act_operator, asked, simple_shape, store_shape}
 use Rattle.module_meaning.specs.StatementsFit.{block_is_sound, body_is_sound, cases_are_sound}
 use Rattle.module_meaning.specs.StatementsFit.{is_condition, is_selection, statement_is_sound}
 use Rattle.shader_runs.specs.Form.{word_of}
@@ -33,10 +33,8 @@ use Rattle.shader_runs.specs.Scope.{Naming}
 use Rattle.wgsl_text.specs.Expressions.{IsCallee}
 use Rattle.wgsl_text.specs.Types.{Named}
 use Rattle.wgsl_text.specs.Words.{IsIdentifier}
-use Rattle.naga_form.proofs.ActWords.{ballot_called, change_called, collective_called}
-use Rattle.naga_form.proofs.ActWords.{cooperative_store_called, source_called, texel_change_called}
-use Rattle.naga_form.proofs.ActWords.{texel_store_called, trace_called, uniform_load_called}
-use Rattle.naga_form.proofs.Operators.{atomic_store_called}
+use Rattle.module_meaning.specs.OperatorTable.{Operator, AtomicStore, has_word, is_untyped}
+use Rattle.naga_form.proofs.CalledWords.{is_called, word_is_called}
 use Rattle.naga_form.proofs.Switches.{HasOneDefault, has_one_default}
 
 -- ---- statements without blocks
@@ -78,39 +76,48 @@ module _ (n : Naming) (a : ExpressionContext) (callees expressions : ℕ)
   result_if None within = tt
   result_if (Some h) within = result_is h within
 
+  result_fits : (s : SimpleStatement) → simple_in_range callees expressions s ≡ true →
+      ResultIs n (simple_result s)
+  result_fits (atomic pointer fun value outcome) within =
+      let one = and_parts (nat_lt pointer expressions) _ within in
+      let two = and_parts (atomic_in_range expressions fun) _ one.1 in
+      result_if outcome (and_parts (nat_lt value expressions) (is_below expressions outcome) two.1).1
+  result_fits (work_group_uniform_load pointer outcome) within =
+      result_is outcome (and_parts (nat_lt pointer expressions) (nat_lt outcome expressions) within).1
+  result_fits (call function arguments outcome) within =
+      let one = and_parts (nat_lt function callees) _ within in
+      result_if outcome (and_parts (all_below expressions arguments) (is_below expressions outcome) one.1).1
+  result_fits (subgroup_ballot outcome predicate) within =
+      result_is outcome (and_parts (nat_lt outcome expressions) (is_below expressions predicate) within).0
+  result_fits (subgroup_gather mode argument outcome) within =
+      let one = and_parts (gather_in_range expressions mode) _ within in
+      result_is outcome (and_parts (nat_lt argument expressions) (nat_lt outcome expressions) one.1).1
+  result_fits (subgroup_collective_operation op how argument outcome) within =
+      result_is outcome (and_parts (nat_lt argument expressions) (nat_lt outcome expressions) within).1
+  result_fits _ within = tt
+
+  -- an act that asks for an operator
+  own_fits : (s : SimpleStatement) (o : Option Operator) →
+      option_map_or (λ op. is_untyped op && is_called op) o true ≡ true →
+      option_map_or has_word o true ≡ true → ResultIs n (simple_result s) → ShapeFits n (asked o s)
+  own_fits s None is has result = tt
+  own_fits s (Some op) is has result =
+      let both = and_parts (is_untyped op) (is_called op) is in
+      (word_is_called op both.0 both.1 has, result)
+
   line_fits : (s : SimpleStatement) → simple_in_range callees expressions s ≡ true →
       simple_has_form s ≡ true → ShapeFits n (simple_shape a s)
   line_fits (store pointer value) within has = by (is_atomic_pointer a pointer)
     where
       by : (to_atomic : Bool) → ShapeFits n (store_shape to_atomic pointer value)
-      by true = (atomic_store_called, tt)
+      by true = (word_is_called AtomicStore refl refl refl, tt)
       by false = tt
-  line_fits (image_store image coordinate array_index value) within has = (texel_store_called (is_some array_index), tt)
-  line_fits (atomic pointer fun value outcome) within has =
-      let one = and_parts (nat_lt pointer expressions) _ within in
-      let two = and_parts (atomic_in_range expressions fun) _ one.1 in
-      let three = and_parts (nat_lt value expressions) (is_below expressions outcome) two.1 in
-      (change_called (change_of fun), result_if outcome three.1)
-  line_fits (image_atomic image coordinate array_index fun value) within has =
-      (texel_change_called (change_of fun) (is_some array_index) has, tt)
-  line_fits (work_group_uniform_load pointer outcome) within has =
-      (uniform_load_called, result_is outcome (and_parts (nat_lt pointer expressions) (nat_lt outcome expressions) within).1)
   line_fits (call function arguments outcome) within has =
-      let one = and_parts (nat_lt function callees) _ within in
-      let two = and_parts (all_below expressions arguments) (is_below expressions outcome) one.1 in
-      ((functions function (ltb-true function callees one.0)).word, result_if outcome two.1)
-  line_fits (ray_query query) within has = absurd cc
-  line_fits (subgroup_ballot outcome predicate) within has =
-      (ballot_called (is_some predicate), result_is outcome (and_parts (nat_lt outcome expressions) (is_below expressions predicate) within).0)
-  line_fits (subgroup_gather mode argument outcome) within has =
-      let one = and_parts (gather_in_range expressions mode) _ within in
-      let two = and_parts (nat_lt argument expressions) (nat_lt outcome expressions) one.1 in
-      (source_called (source_of mode), result_is outcome two.1)
-  line_fits (subgroup_collective_operation op how argument outcome) within has =
-      (collective_called op how has, result_is outcome (and_parts (nat_lt argument expressions) (nat_lt outcome expressions) within).1)
-  line_fits (cooperative_store target place) within has = (cooperative_store_called place.row_major, tt)
-  line_fits (ray_pipeline_function fun) within has = (trace_called, tt)
-  line_fits _ within has = tt
+      let one = and_parts (nat_lt function callees) _ within in (
+        (functions function (ltb-true function callees one.0)).word,
+        result_fits (call function arguments outcome) within,
+      )
+  line_fits s within has = own_fits s (act_operator s) refl has (result_fits s within)
 
   module _ (m : Module) (f : Function) (known : List TypeResolution) where
     mutual

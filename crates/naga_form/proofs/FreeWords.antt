@@ -2,15 +2,10 @@
 -- for events, also among the words that no text has.
 use Rattle.naga_form.proofs.TypedWords.{head_text}
 use Rattle.naga_form.proofs.OperatorEvents.{keeps_asking}
-use Rattle.std.proofs.Common.{◌≡◌, ℕ, Bool, true, false, not, ◌&&◌, ◌||◌, List, [], ◌∷◌, Option, Some, None}
-use Rattle.std.proofs.Common.{refl, sym, ap, subst, ◌∙◌, nat_eq, codes, true≢false}
-use Rattle.std.specs.Prelude.{if◌then◌else◌}
+use Rattle.std.proofs.Common.{◌≡◌, ℕ, Bool, true, false, not, ◌&&◌, ◌||◌, List, [], ◌∷◌}
+use Rattle.std.proofs.Common.{refl, sym, ap, ◌∙◌, nat_eq, codes, true≢false}
 use Rattle.std.specs.List.{list_all}
-use Rattle.std.specs.Option.{option_or}
-use Rattle.std.specs.Str.{bytes_eq}
 use Rattle.std.proofs.lemmas.Bool.{false≢true, and_parts, not-true, eqb-true}
-use Rattle.std.proofs.lemmas.Option.{same_Some}
-use Rattle.std.proofs.lemmas.Slice.Eq.{bytes_eq-Decides}
 use Rattle.wgsl_text.specs.Requests.{is_request, head_word}
 use Rattle.wgsl_text.specs.Words.{is_word_text}
 use Rattle.module_meaning.specs.OperatorTable.{Operator, CooperativeLoad}
@@ -20,8 +15,7 @@ use Rattle.module_meaning.specs.OperatorTable.{one_word, asks, is_untyped, Spell
 use Rattle.module_meaning.specs.OperatorTable.{formless_word, formless_asks}
 use Rattle.naga_form.proofs.FreeNames.{begins_free}
 use Rattle.naga_form.proofs.OperatorEvents.{asks_as_distinguished}
-use Rattle.naga_form.proofs.OperatorTable.{mathematical, others, first_with, operator_of}
-use Rattle.naga_form.proofs.OperatorTable.{distinguished}
+use Rattle.naga_form.proofs.OperatorTable.{by_table, mathematical, others}
 use Rattle.naga_form.proofs.TypedWords.{head_is, no_blank}
 
 -- the words with a blank in front that ask for events, by their second letter: steps and scans, and
@@ -63,29 +57,6 @@ mathematical_distinguished : list_all is_distinguished mathematical ≡ true
 unfolding is_distinguished free_request is_request
 mathematical_distinguished = refl
 
--- what is found by a word has it, and passes the test of all
-found : (w : List ℕ) (os : List Operator) (o : Operator) → list_all is_distinguished os ≡ true → first_with w os ≡ Some o → (w ≡ run_word o) × (is_distinguished o ≡ true)
-found w [] o all e = absurd (cc)
-found w (x ∷ os) o all e =
-    by (bytes_eq w (run_word x)) refl (and_parts (is_distinguished x) (list_all is_distinguished os) all) (found w os o) e
-  where
-    by : (b : Bool) → bytes_eq w (run_word x) ≡ b → (is_distinguished x ≡ true) ×
-        (list_all is_distinguished os ≡ true) →
-        (list_all is_distinguished os ≡ true → first_with w os ≡ Some o → (w ≡ run_word o) ×
-        (is_distinguished o ≡ true)) → (if b then Some x else first_with w os) ≡ Some o →
-        (w ≡ run_word o) × (is_distinguished o ≡ true)
-    by true same parts later e =
-        let is = same_Some x o e in
-        ((bytes_eq-Decides w (run_word x)).0 same ∙ ap run_word is, subst (λ y. is_distinguished y ≡ true) is parts.0)
-    by false same parts later e = later parts.1 e
-
-found_any : (w : List ℕ) (o : Operator) → operator_of w ≡ Some o → (w ≡ run_word o) × (is_distinguished o ≡ true)
-found_any w o e = by (first_with w others) refl e
-  where
-    by : (x : Option Operator) → first_with w others ≡ x → option_or x (first_with w mathematical) ≡ Some o → (w ≡ run_word o) × (is_distinguished o ≡ true)
-    by (Some y) is e = found w others o others_distinguished (is ∙ e)
-    by None is e = found w mathematical o mathematical_distinguished e
-
 distinguished_parts : (o : Operator) → is_distinguished o ≡ true → (begins_free (run_word o) ≡ false) × (free_request (run_word o) ≡ asks o)
 unfolding is_distinguished
 distinguished_parts o e =
@@ -94,7 +65,7 @@ distinguished_parts o e =
 
 untyped_is_distinguished : (o : Operator) → is_untyped o ≡ true → WordIsDistinguished o
 untyped_is_distinguished o u =
-    let at = found_any (run_word o) (one_word o) (distinguished o u) in
+    let at = by_table is_distinguished others_distinguished mathematical_distinguished o u in
     let parts = distinguished_parts (one_word o) at.1 in record {
       free = ap begins_free at.0 ∙ parts.0;
       asking = ap free_request at.0 ∙ (parts.1 ∙ keeps_asking o);

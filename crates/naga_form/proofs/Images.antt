@@ -14,7 +14,8 @@ use Rattle.module_meaning.specs.OperatorTable.{Gather, Level, Sample, run_word, 
 use Rattle.module_meaning.specs.OperatorTable.{Automatic, Biased, Exact, Graded, Zero}
 use Rattle.module_meaning.specs.OperatorTable.{zero_is_written}
 use Rattle.module_meaning.specs.Sampling.{sampling_is_written}
-use Rattle.naga_form.proofs.Operators.{AllReadLike, callee_of}
+use Rattle.naga_form.proofs.CalledWords.{callee_of}
+use Rattle.naga_form.proofs.Operators.{AllReadLike}
 use Rattle.naga_form.proofs.WrittenHandles.{all_rest}
 use Rattle.naga_form.specs.Expressions.{PlainForm, as_value, value_forms}
 use Rattle.naga_form.specs.Images.{component_then, gathered_component, operands_then, sampling_form}

@@ -18,7 +18,7 @@ use Rattle.naga_info.specs.declared.info.TypeResolution.TheVariants.{Handle}
 use Rattle.naga_info.proofs.Options.{then_some}
 use Rattle.module_meaning.specs.AgreeingOperators.{Group, function_group}
 use Rattle.module_meaning.specs.ExpressionOperators.{applied_operator, constructor, load_operator}
-use Rattle.module_meaning.specs.ExpressionShapes.{Declared, applied_or, asking, built, constant_shape}
+use Rattle.module_meaning.specs.ExpressionShapes.{Declared, applied_or, built, constant_shape}
 use Rattle.module_meaning.specs.ExpressionShapes.{constant_tree, part_selector, part_shape, shape_of}
 use Rattle.module_meaning.specs.ExpressionShapes.{tree_over, tree_within, trees, written_zero}
 use Rattle.module_meaning.specs.FunctionShapes.{function_shape}
@@ -51,7 +51,7 @@ module _ (m : ir_module.Module) (info : ModuleInfo)
       by : (b : Bool) →
           LeafTreesFit p
           (Some
-          (if b then Request (asking o) (run_word o) hs no_constant else operator_shape o hs))
+          (if b then Request (run_word o) hs no_constant else operator_shape o hs))
       by true = tt
       by false = operator_any (λ e. LeafTreesFit p (Some e)) o hs (λ j l r. tt) tt
 

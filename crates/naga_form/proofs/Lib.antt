@@ -1,7 +1,7 @@
 pub mod Abstraction
 pub mod AcceptedFunctions
 pub mod AcceptedGroups
-pub mod ActWords
+pub mod CalledWords
 pub mod AgreeingExpressions
 pub mod AgreeingParts
 pub mod AgreeingSignatures

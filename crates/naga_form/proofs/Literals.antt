@@ -5,11 +5,9 @@ use Rattle.std.proofs.Common.{◌+◌, pos, negsuc, ◌^◌, ◌/◌, ◌%◌, �
 use Rattle.std.specs.Prelude.{codes, if◌then◌else◌, IsTrue, ◌&&◌, ◌==◌, ◌↔◌, nat_lt, to_bits}
 use Rattle.std.specs.Float.{binary32, binary64}
 use Rattle.std.specs.Fmt.{decimal}
-use Rattle.std.specs.Str.{all_ascii_digits}
-use Rattle.std.specs.Str.Parse.{AllDigits, digits_value}
+use Rattle.std.specs.Str.Parse.{AllDigits}
 use Rattle.std.proofs.lemmas.Bool.{false≢true, eqb-true, ltb-true, eqb-false, and_parts}
 use Rattle.std.proofs.lemmas.Fmt.{decimal_is_IsNumeral}
-use Rattle.std.proofs.lemmas.Str.Parse.{IsNumeralModel, numerals_by_value, tells_all_ascii_digits}
 use Rattle.float_numerals.specs.declared.decimal.Decimal.{Decimal}
 use Rattle.float_numerals.specs.Denoted.{told, has_near_power, has_plain_zero, is_in_range}
 use Rattle.float_numerals.specs.Texts.{double_exponent, double_fraction, double_whole}
@@ -24,6 +22,7 @@ use Rattle.module_meaning.specs.ExpressionForms.{is_written_literal}
 use Rattle.wgsl_text.specs.Literals.{Suffixed, LeastInteger, LeastLong, IsLiteral, IsFloating}
 use Rattle.wgsl_text.specs.Token.{AreDigits, IsPower, IsPrecision}
 use Rattle.wgsl_text.specs.Token.{SuffixI, SuffixLi, Precision, Half, Single}
+use Rattle.wgsl_text.proofs.Text.{own_digits}
 use Rattle.shader_runs.specs.Value.{Whole, Value, Truth, Opaque}
 use Rattle.naga_form.specs.Literals.{literal_form, power_form}
 use Rattle.module_meaning.specs.Literals.{literal_value, integer_payload, abstract_word, with_bits}
@@ -94,9 +93,6 @@ least_or n false e lt = let other : n ≡ 2147483647 → ⊥ = eqb-false n 21474
 least_long_or : (n : ℕ) (b : Bool) → (n == 9223372036854775807) ≡ b → n < 2 ^ 63 → IsLiteral (if b then LeastLong else Suffixed true (suc n) SuffixLi)
 least_long_or n true e lt = tt
 least_long_or n false e lt = let other : n ≡ 9223372036854775807 → ⊥ = eqb-false n 9223372036854775807 e in omega (arith, lt, other)
-
-own_digits : IsNumeralModel (λ ds. all_ascii_digits ds ≡ true) (digits_value 10)
-own_digits = numerals_by_value _ tells_all_ascii_digits
 
 are_digits : (ds : List ℕ) → 0 < length ds → AllDigits 10 ds → AreDigits ds
 are_digits ds some is = record { some = some; digits = own_digits.from ds is }

@@ -19,10 +19,8 @@ use Rattle.wgsl_text.specs.Operators.{is_built_in}
 use Rattle.module_meaning.specs.ExpressionOperators.{cast_to, constructor}
 use Rattle.module_meaning.specs.ExpressionShapes.{Declared, shape_of, applied_or, applied_shape}
 use Rattle.module_meaning.specs.ExpressionShapes.{constant_shape}
-use Rattle.module_meaning.specs.OperatorTable.{BinarySign, UnarySign, Select, Math}
-use Rattle.module_meaning.specs.OperatorTable.{Relational, Splat, run_word, Operator, Construct}
-use Rattle.module_meaning.specs.OperatorTable.{WithoutForm, ValueOf, Cast, PartAt, Derivative, with_type}
-use Rattle.module_meaning.specs.OperatorTable.{AtomicLoad, RayIntersection, RayCorners}
+use Rattle.module_meaning.specs.OperatorTable.{run_word, Operator, Construct, AtomicLoad, is_untyped}
+use Rattle.module_meaning.specs.OperatorTable.{WithoutForm, ValueOf, Cast, PartAt, with_type}
 use Rattle.module_meaning.specs.FunctionNumbers.{all_functions, function_type}
 use Rattle.naga_back.specs.FunctionContext.{function_key}
 use Rattle.naga_info.specs.declared.info.TypeResolution.{TypeResolution}
@@ -30,18 +28,15 @@ use Rattle.naga_info.specs.declared.info.TypeResolution.TheVariants.{Handle, Val
 use Rattle.shader_runs.specs.Program.{Constructed, no_constant}
 use Rattle.std.specs.Option.{option_map, option_map_or, option_and_then}
 use Rattle.std.specs.Prelude.{codes}
-use Rattle.naga_form.proofs.OperatingWords.{operates_freely, unary_free, binary_free, choice_free}
-use Rattle.naga_form.proofs.OperatingWords.{asks_freely, bits_free, derivative_free}
-use Rattle.naga_form.proofs.OperatingWords.{formless_free, is_signed, atomic_load_free}
-use Rattle.naga_form.proofs.OperatingWords.{matrix_load_free, hit_free, request_free}
-use Rattle.naga_form.proofs.OperatingWords.{corners_free}
-use Rattle.naga_form.proofs.OperatingWords.{splat_free, math_free, relation_free}
-use Rattle.naga_form.proofs.OperatingWords.{free_parts, names_no_item}
+use Rattle.naga_form.proofs.OperatingWords.{operates_freely, asks_freely, asking_free, silent_free}
+use Rattle.naga_form.proofs.OperatingWords.{bits_free, formless_free, is_of_statements, is_signed}
+use Rattle.naga_form.proofs.OperatingWords.{matrix_load_free, request_free, free_parts, names_no_item}
+use Rattle.module_meaning.proofs.OwnOperators.{own_is_untyped}
 use Rattle.naga_form.proofs.TreeWords.{constant_words, levels_words, offset_words, or_false_words}
 use Rattle.naga_form.proofs.TreeWords.{written_words}
 use Rattle.naga_form.proofs.AppliedWords.{applied_words}
 use Rattle.module_meaning.specs.ExpressionContexts.{expression_context}
-use Rattle.module_meaning.specs.ExpressionOperators.{applied_operator}
+use Rattle.module_meaning.specs.ExpressionOperators.{applied_operator, own_operator}
 use Rattle.naga_info.proofs.Options.{then_some}
 use Rattle.naga_form.proofs.SameValues.{IsFit, TypesAreFit}
 use Rattle.naga_form.proofs.TypedWords.{no_request}
@@ -82,17 +77,17 @@ use Rattle.naga_form.proofs.AllowedParts.{target_fit}
 use Rattle.naga_ir.specs.declared.types.ScalarKind.{ScalarKind}
 use Rattle.naga_ir.specs.declared.types.TypeInner.{TypeInner}
 use Rattle.naga_ir.specs.declared.types.Type_.{Type_}
-use Rattle.module_meaning.proofs.ExpressionShapes.{query_asks}
 use Rattle.module_meaning.specs.ExpressionOperators.{is_depth_image, level_of, query_operator}
-use Rattle.module_meaning.specs.ExpressionOperators.{sample_operator, texel_of, matrix_load}
+use Rattle.module_meaning.specs.ExpressionOperators.{sample_operator, matrix_load}
 use Rattle.module_meaning.specs.ExpressionOperators.{is_atomic_pointer}
-use Rattle.module_meaning.specs.ExpressionShapes.{asking, constant_tree}
-use Rattle.module_meaning.specs.ExpressionShapes.{trees, written_zero}
-use Rattle.module_meaning.specs.OperatorTable.{ArrayLength, CooperativeMultiplyAdd, Texel, asks}
+use Rattle.module_meaning.specs.ExpressionShapes.{constant_tree}
+use Rattle.module_meaning.specs.ExpressionShapes.{sample_shape, trees, written_zero}
+use Rattle.module_meaning.specs.OperatorTable.{asks}
 use Rattle.module_meaning.specs.Shapes.{operator_shape}
-use Rattle.naga_form.proofs.OperatingWords.{length_free, product_free, query_free, sampling_free}
-use Rattle.naga_form.proofs.OperatingWords.{texel_free}
-use Rattle.naga_ir.specs.Operands.{cooperative_operands, query_operands}
+use Rattle.naga_ir.specs.Operands.{cooperative_operands, expression_operands, query_operands}
+use Rattle.naga_ir.specs.declared.expression.ImageQuery.{ImageQuery}
+use Rattle.naga_ir.specs.declared.expression.ImageQuery.TheVariants as query
+use Rattle.naga_ir.specs.declared.expression.SwizzleComponent.{SwizzleComponent}
 use Rattle.naga_ir.specs.declared.expression.SampleLevel.{SampleLevel}
 use Rattle.shader_runs.specs.Premises.{ConstantsWords}
 use Rattle.std.proofs.Common.{◌++◌}
@@ -266,15 +261,37 @@ module _ (m : Module) (info : ModuleInfo) (types : TypesAreFit m) (p : shapes.Mo
   zero_words word operates (Some r) = (operates, tt)
   zero_words word operates None = tt
 
-  query_words : (op : Operator) → asks op ≡ true → asks_freely (run_word op) ≡ true →
+  -- an operator that asks
+  asking_words : (op : Operator) → asks op ≡ true → asks_freely (run_word op) ≡ true →
       (xs : List ℕ) → WordFits p own (Some (applied_shape op xs))
-  query_words op is free xs =
+  asking_words op is free xs =
       subst
       (λ b. WordFits p own
-      (Some
-      (if b then shapes.Request (asking op) (run_word op) xs no_constant
-      else operator_shape op xs)))
+      (Some (if b then shapes.Request (run_word op) xs no_constant else operator_shape op xs)))
       (sym is) (asks_by (run_word op) free, tt)
+
+  -- one that takes no type, and that expressions apply
+  table_words : (op : Operator) → is_untyped op ≡ true → is_of_statements op ≡ false →
+      (xs : List ℕ) → WordFits p own (Some (applied_shape op xs))
+  table_words op u other xs = by (asks op) refl
+    where
+      by : (b : Bool) → asks op ≡ b → WordFits p own (Some (applied_shape op xs))
+      by true does = asking_words op does (asking_free op u other does) xs
+      by false none =
+          subst
+          (λ b. WordFits p own
+          (Some (if b then shapes.Request (run_word op) xs no_constant else operator_shape op xs)))
+          (sym none)
+          (operator_any (λ s. WordFits p own (Some s)) op xs (λ j l r. tt)
+          (operates (run_word op) (silent_free op u none)))
+
+  -- where one is applied
+  own_words : (otherwise : shapes.Expression) → WordFits p own (Some otherwise) →
+      (o : Option Operator) → ((op : Operator) → o ≡ Some op → is_untyped op ≡ true) →
+      option_map_or is_of_statements o false ≡ false → (xs : List ℕ) →
+      WordFits p own (Some (applied_or otherwise xs o))
+  own_words otherwise fits None untyped other xs = fits
+  own_words otherwise fits (Some op) untyped other xs = table_words op (untyped op refl) other xs
 
   -- ---- constants that are written out
   made_operates : (ty components : ℕ) →
@@ -311,8 +328,6 @@ module _ (m : Module) (info : ModuleInfo) (types : TypesAreFit m) (p : shapes.Mo
   words : (h : ℕ) (e : ir.Expression) →
       WordFits p own (Some (shape_of d f.expressions h e))
   words h (expression.Constant handle) = constant_is_worded handle
-  words h (expression.Override handle) = tt
-  words h (expression.GlobalVariable handle) = tt
   words h (expression.ZeroValue ty) =
       value_words 0 ty
       (λ op. WordFits p own
@@ -333,39 +348,38 @@ module _ (m : Module) (info : ModuleInfo) (types : TypesAreFit m) (p : shapes.Mo
       kind convert operand (type_known d.context operand)
       (option_and_then (λ it. conversion_target it kind convert) (type_known d.context operand))
       (target_is_fit kind convert (type_known d.context operand))
-  words h (expression.Derivative axis how expr) =
-      (asks_by (run_word (Derivative axis how)) (derivative_free axis how), tt)
   words h
       (expression.ImageSample
       image sampler gather coordinate array_index offset level depth_ref clamp) =
-      let of_depths = option_map_or is_depth_image (type_known d.context image) false in
-      let op =
-      sample_operator of_depths gather (level_of level) (is_some depth_ref) clamp
-      (is_some array_index) (is_some offset) in (
-        asks_by (run_word op)
-            (sampling_free of_depths gather (level_of level) (is_some depth_ref) clamp
-            (is_some array_index) (is_some offset)),
-        sample_words level (is_some gather || (is_some depth_ref || clamp)) offset,
-      )
-  words h (expression.ImageLoad image coordinate array_index sample level) =
-      let op = Texel (is_some array_index) (texel_of (is_some sample) (is_some level)) in
-      (asks_by (run_word op) (texel_free (is_some array_index) (is_some sample) (is_some level)), tt)
-  words h (expression.ImageQuery image query) =
-      query_words (query_operator query) (query_asks query) (query_free query)
-      (image ∷ query_operands query)
-  words h (expression.ArrayLength array) =
-      operates (run_word ArrayLength) length_free
-  words h (expression.CooperativeMultiplyAdd x y z) =
-      operates (run_word CooperativeMultiplyAdd) product_free
-  words h (expression.Access base index) = tt
+      by gather
+    where
+      op : Option SwizzleComponent → Operator
+      op g =
+          sample_operator (option_map_or is_depth_image (type_known d.context image) false) g
+          (level_of level) (is_some depth_ref) clamp (is_some array_index) (is_some offset)
+
+      sampled : (g : Option SwizzleComponent) → asks_freely (run_word (op g)) ≡ true →
+          WordFits p own
+          (Some
+          (sample_shape
+          (expression.ImageSample image sampler g coordinate array_index offset level depth_ref clamp)
+          (option_and_then (constant_tree d f.expressions) offset) (Some (op g))))
+      sampled g free =
+          (asks_by (run_word (op g)) free, sample_words level (is_some g || (is_some depth_ref || clamp)) offset)
+
+      by : (g : Option SwizzleComponent) →
+          WordFits p own
+          (Some
+          (sample_shape
+          (expression.ImageSample image sampler g coordinate array_index offset level depth_ref clamp)
+          (option_and_then (constant_tree d f.expressions) offset) (Some (op g))))
+      by None = sampled None (asking_free (op None) refl refl refl)
+      by (Some component) = sampled (Some component) (asking_free (op (Some component)) refl refl refl)
   words h (expression.AccessIndex base index) = by (part_selector d base index)
     where
       by : (o : Option Selector) → WordFits p own (Some (part_shape base index o))
       by (Some x) = tt
       by None = operates (run_word (WithoutForm (PartAt index))) (formless_free (PartAt index) refl)
-  words h (expression.FunctionArgument number) = tt
-  words h (expression.LocalVariable handle) = tt
-  words h (expression.Swizzle size vector pattern) = tt
   words h (expression.Load pointer) = by (is_atomic_pointer d.context pointer)
     where
       by : (atomic : Bool) →
@@ -373,33 +387,24 @@ module _ (m : Module) (info : ModuleInfo) (types : TypesAreFit m) (p : shapes.Mo
           (Some
           (applied_or (shapes.Load pointer) (pointer ∷ [])
           (if atomic then Some AtomicLoad else None)))
-      by true = (asks_by (run_word AtomicLoad) atomic_load_free, tt)
+      by true = table_words AtomicLoad refl refl (pointer ∷ [])
       by false = tt
   words h (expression.CooperativeLoad columns rows role place) =
-      query_words (matrix_load d.context columns rows role place)
+      asking_words (matrix_load d.context columns rows role place)
       (load_asks d.context columns rows role place)
       (matrix_load_free d.context columns rows role place) (cooperative_operands place)
-  words h (expression.RayQueryGetIntersection query committed) =
-      operates (run_word (RayIntersection committed)) (hit_free committed)
-  words h (expression.RayQueryVertexPositions query committed) =
-      operates (run_word (RayCorners committed)) (corners_free committed)
-  words h (expression.CallResult function) = tt
-  words h (expression.AtomicResult ty comparison) = tt
-  words h (expression.WorkGroupUniformLoadResult ty) = tt
-  words h (expression.SubgroupOperationResult ty) = tt
-  words h expression.SubgroupBallotResult = tt
-  words h expression.RayQueryProceedResult = tt
-  words h (expression.Literal value) = tt
-  words h (expression.Unary op expr) = operates (run_word (UnarySign op)) (unary_free op)
-  words h (expression.Binary op left right) =
-      operator_any (λ s. WordFits p own (Some s)) (BinarySign op) (left ∷ right ∷ [])
-      (λ j l r. tt) (operates (run_word (BinarySign op)) (binary_free op))
-  words h (expression.Select condition accept reject) = operates (run_word Select) choice_free
-  words h (expression.Splat size value) = operates (run_word (Splat size)) (splat_free size)
-  words h (expression.Math fun arg arg1 arg2 arg3) =
-      operates (run_word (Math fun)) (math_free fun)
-  words h (expression.Relational fun argument) =
-      operates (run_word (Relational fun)) (relation_free fun)
+  words h (expression.Access base index) = tt
+  words h (expression.Swizzle size vector pattern) = tt
+  words h (expression.ImageQuery image asked) =
+      own_words shapes.Result tt (Some (query_operator asked))
+      (own_is_untyped (expression.ImageQuery image asked)) (of_no_statement asked)
+      (image ∷ query_operands asked)
+    where
+      of_no_statement : (q : ImageQuery) → is_of_statements (query_operator q) ≡ false
+      of_no_statement (query.Size level) = refl
+      of_no_statement _ = refl
+  words h e =
+      own_words shapes.Result tt (own_operator e) (own_is_untyped e) refl (expression_operands e)
 
   -- ---- statements
   -- what asks for an event in a text does so here

@@ -1,31 +1,28 @@
 -- The words that ask for an event are those of the operators that do.
-use Rattle.std.proofs.Common.{[], ◌≡◌, ℕ, Bool, true, false, not, ◌&&◌, List, ◌∷◌, codes, Option}
-use Rattle.std.proofs.Common.{Some, None, refl, sym, ap, subst, ◌∙◌}
-use Rattle.std.specs.Prelude.{if◌then◌else◌, unwrap_or}
-use Rattle.std.specs.Str.{bytes_eq}
+use Rattle.std.proofs.Common.{◌≡◌, ℕ, Bool, true, false, not, ◌&&◌, List, codes}
+use Rattle.std.proofs.Common.{Some, refl, sym, ap, ◌∙◌}
+use Rattle.std.specs.Prelude.{unwrap_or}
 use Rattle.std.specs.List.{list_all}
-use Rattle.std.specs.Option.{option_map_or, option_or}
+use Rattle.std.specs.Option.{option_map_or}
 use Rattle.std.proofs.lemmas.Bool.{false≢true, true≢false, and_parts, not-true}
-use Rattle.std.proofs.lemmas.Option.{same_Some}
 use Rattle.naga_ir.specs.declared.operators.UnaryOperator.TheVariants as unary
 use Rattle.wgsl_text.specs.Words.{stands_in, is_builtin}
 use Rattle.wgsl_text.specs.Types.{TypeSpecifier, Named, is_type, TemplateRule, TakesNone}
 use Rattle.wgsl_text.specs.Types.{rule_among}
 use Rattle.wgsl_text.specs.Types.{type_templates, IsType}
 use Rattle.wgsl_text.proofs.Words.{all_words, passes}
-use Rattle.naga_form.proofs.OperatorTable.{mathematical, others, first_with, operator_of}
-use Rattle.naga_form.proofs.OperatorTable.{distinguished}
+use Rattle.naga_form.proofs.OperatorTable.{by_table, mathematical, others}
 use Rattle.wgsl_text.specs.Reading.{type_layout}
 use Rattle.wgsl_text.specs.Requests.{request_words, is_request}
 use Rattle.module_meaning.specs.OperatorTable.{Operator, UnarySign, Sample, Gather, Texel}
 use Rattle.module_meaning.specs.OperatorTable.{OnlyTexel, Automatic, Zero, CooperativeLoad}
-use Rattle.module_meaning.specs.OperatorTable.{CooperativeStore, Construct, Convert, Reinterpret}
+use Rattle.module_meaning.specs.OperatorTable.{Construct, Convert, Reinterpret}
 use Rattle.module_meaning.specs.OperatorTable.{with_type, operator_word, own_word, run_word}
 use Rattle.module_meaning.specs.OperatorTable.{one_word, asks, is_untyped, SpellsAType}
 use Rattle.module_meaning.specs.OperatorTable.{TypeIsSound, WithoutForm, ValueOf}
 use Rattle.naga_form.proofs.TypedWords.{head_of, head_is, no_type_begins}
 
-keeps_text : (o : Operator) → operator_word (one_word o) ≡ operator_word o
+pub keeps_text : (o : Operator) → operator_word (one_word o) ≡ operator_word o
 keeps_text (UnarySign unary.Negate) = refl
 keeps_text (UnarySign _) = refl
 keeps_text (Sample Zero true false arrayed offset) = refl
@@ -39,10 +36,6 @@ keeps_text (Gather c Automatic compares clamped arrayed offset) = refl
 keeps_text (Gather c _ compares clamped arrayed offset) = refl
 keeps_text (Texel arrayed OnlyTexel) = refl
 keeps_text (Texel arrayed _) = refl
-keeps_text (CooperativeLoad true t) = refl
-keeps_text (CooperativeLoad false t) = refl
-keeps_text (CooperativeStore true) = refl
-keeps_text (CooperativeStore false) = refl
 keeps_text _ = refl
 
 pub keeps_asking : (o : Operator) → asks (one_word o) ≡ asks o
@@ -76,25 +69,6 @@ mathematical_alike : list_all asks_alike mathematical ≡ true
 unfolding asks_alike is_request
 mathematical_alike = refl
 
--- what is found in a list passes the test of all in it
-found_passes : (w : List ℕ) (os : List Operator) (o : Operator) → list_all asks_alike os ≡ true → first_with w os ≡ Some o → asks_alike o ≡ true
-found_passes w [] o all e = absurd (cc)
-found_passes w (x ∷ os) o all e =
-    by (bytes_eq w (run_word x)) (and_parts (asks_alike x) (list_all asks_alike os) all) (found_passes w os o) e
-  where
-    by : (b : Bool) → (asks_alike x ≡ true) × (list_all asks_alike os ≡ true) →
-        (list_all asks_alike os ≡ true → first_with w os ≡ Some o → asks_alike o ≡ true) →
-        (if b then Some x else first_with w os) ≡ Some o → asks_alike o ≡ true
-    by true parts later e = subst (λ y. asks_alike y ≡ true) (same_Some x o e) parts.0
-    by false parts later e = later parts.1 e
-
-operator_passes : (w : List ℕ) (o : Operator) → operator_of w ≡ Some o → asks_alike o ≡ true
-operator_passes w o e = by (first_with w others) refl e
-  where
-    by : (x : Option Operator) → first_with w others ≡ x → option_or x (first_with w mathematical) ≡ Some o → asks_alike o ≡ true
-    by (Some y) is e = found_passes w others o others_alike (is ∙ e)
-    by None is e = found_passes w mathematical o mathematical_alike e
-
 untyped_stands : (o : Operator) (w : List ℕ) → operator_word o ≡ Some w → asks_alike (one_word o) ≡ true → same (is_request w) (asks o) ≡ true
 unfolding asks_alike
 untyped_stands o w e holds =
@@ -103,7 +77,8 @@ untyped_stands o w e holds =
 
 untyped_asks : (o : Operator) (w : List ℕ) → is_untyped o ≡ true → operator_word o ≡ Some w → is_request w ≡ asks o
 untyped_asks o w u e =
-    same_is (is_request w) (asks o) (untyped_stands o w e (operator_passes (run_word o) (one_word o) (distinguished o u)))
+    same_is (is_request w) (asks o)
+    (untyped_stands o w e (by_table asks_alike others_alike mathematical_alike o u).1)
 
 -- ---- types
 abbrev takes_none : TemplateRule → Bool

@@ -1,12 +1,9 @@
 -- Operators that the runs call by one word, over as many operands, are told by one key.
 use Rattle.std.proofs.Common.{◌≡◌, ℕ, Bool, true, false, List, ◌∷◌, refl, sym, ap, ◌∙◌, length, subst}
 use Rattle.std.proofs.Common.{Option, Some, None, slice_get, if◌then◌else◌, arith, suc, zero}
-use Rattle.std.specs.Option.{option_map, option_map_or, is_some}
+use Rattle.std.specs.Option.{option_and_then, option_map, option_map_or, is_some}
 use Rattle.std.proofs.lemmas.Option.{same_Some}
 use denote.Enum.Declared.{tag_of}
-use Rattle.naga_ir.specs.contracts.operators.BinaryOperator.{the_type as binary_operators}
-use Rattle.naga_ir.specs.contracts.operators.MathFunction.{the_type as math_functions}
-use Rattle.naga_ir.specs.contracts.operators.RelationalFunction.{the_type as relations}
 use Rattle.naga_ir.specs.contracts.operators.UnaryOperator.{the_type as unary_operators}
 use Rattle.naga_ir.specs.Operands.{expression_operands}
 use Rattle.naga_ir.specs.declared.expression.Expression.{Expression}
@@ -22,19 +19,17 @@ use Rattle.naga_info.specs.declared.info.TypeResolution.{TypeResolution}
 use Rattle.naga_info.specs.declared.info.TypeResolution.TheVariants.{Handle, Value}
 use Rattle.wgsl_text.specs.Reading.{type_layout}
 use Rattle.wgsl_text.specs.Types.{TypeSpecifier}
-use Rattle.module_meaning.specs.AgreeingOperators.{operator_key, one_key, typed_key, formless_key, constructor_key, conversion_key, target_key}
+use Rattle.module_meaning.specs.AgreeingOperators.{operator_key, own_key, one_key, typed_key, formless_key, constructor_key, conversion_key, target_key}
 use Rattle.module_meaning.specs.AlikeTypes.{type_key, is_spelled}
 use Rattle.module_meaning.specs.Conversions.{converted_scalar}
 use Rattle.module_meaning.specs.ExpressionOperators.{ExpressionContext, applied_operator, constructor, cast, cast_to}
-use Rattle.module_meaning.specs.OperatorTable.{Operator, BinarySign, UnarySign, Select, Math}
-use Rattle.module_meaning.specs.OperatorTable.{Relational, ArrayLength, CooperativeMultiplyAdd}
-use Rattle.module_meaning.specs.OperatorTable.{RayIntersection, RayCorners, Construct, Splat}
+use Rattle.module_meaning.specs.OperatorTable.{Operator, BinarySign, UnarySign, Construct, Texel}
 use Rattle.module_meaning.specs.OperatorTable.{Convert, Reinterpret, WithoutForm, Cast, PartAt}
 use Rattle.module_meaning.specs.OperatorTable.{ValueOf, CooperativeLoad, run_word, one_word}
 use Rattle.module_meaning.specs.OperatorTable.{TypeIsSound, SpellsAType}
 use Rattle.module_meaning.specs.ExpressionContexts.{expression_context}
 use Rattle.module_meaning.specs.Types.{word_of_values}
-use Rattle.module_meaning.specs.TypeIdentity.{vector_number, truth_number, word_of_unspelled_type, identity, identity_code}
+use Rattle.module_meaning.specs.TypeIdentity.{truth_number, word_of_unspelled_type, identity, identity_code}
 use Rattle.std.specs.Prelude.{unwrap_or}
 use Rattle.naga_form.specs.TypeTrees.{resolution_tree}
 use Rattle.module_meaning.specs.TypeParts.{known_inner}
@@ -54,21 +49,12 @@ module _ (m : Module) (are : TypesAreCounted m) where
 
   -- the key of an operator that stands for all of its word, over so many operands
   abbrev pub KeyIn : Operator → (count : ℕ) → List ℕ → Type 0
-  KeyIn (BinarySign op) n x = (n ≡ 2) × (x ≡ one_key 7 (tag_of binary_operators op))
-  KeyIn (UnarySign op) n x = x ≡ one_key 6 (tag_of unary_operators op)
-  KeyIn Select n x = x ≡ one_key 8 0
-  KeyIn (Math fun) n x = x ≡ one_key 10 (tag_of math_functions fun)
-  KeyIn (Relational fun) n x = x ≡ one_key 9 (tag_of relations fun)
-  KeyIn ArrayLength n x = x ≡ one_key 11 0
-  KeyIn CooperativeMultiplyAdd n x = x ≡ one_key 12 0
-  KeyIn (RayIntersection committed) n x = x ≡ one_key 13 (truth_number committed)
-  KeyIn (RayCorners committed) n x = x ≡ one_key 14 (truth_number committed)
-  KeyIn (Splat size) n x = x ≡ one_key 2 (vector_number size)
+  KeyIn (BinarySign op) n x = (n ≡ 2) × (own_key (BinarySign op) ≡ Some x)
   KeyIn (Construct w components) n x = IsTyped w false x
   KeyIn (Reinterpret w) n x = IsTyped w true x
   KeyIn (WithoutForm (Cast kind width)) n x = x ≡ formless_key kind width
   KeyIn (WithoutForm (PartAt index)) n x = x ≡ one_key 4 index
-  KeyIn _ n x = ⊥
+  KeyIn op n x = own_key op ≡ Some x
 
   -- the key of an operator: a negation shares its word with a difference, and has one operand
   pub data IsKeyed (o : Operator) (count : ℕ) (x : List ℕ) : Type 0 where
@@ -84,21 +70,13 @@ module _ (m : Module) (are : TypesAreCounted m) where
       a.key ∙ (ap (λ numbers. 0 ∷ truth_number bits ∷ numbers) (numbers_by_words m are a.typed b.typed a.fit b.fit words) ∙ sym b.key)
 
   key_once : (o : Operator) (n : ℕ) (x y : List ℕ) → KeyIn o n x → KeyIn o n y → x ≡ y
-  key_once (BinarySign op) n x y a b = a.1 ∙ sym b.1
+  key_once (BinarySign op) n x y a b = same_Some x y (sym a.1 ∙ b.1)
   key_once (Construct w components) n x y a b = typed_once w false x y a b
   key_once (Reinterpret w) n x y a b = typed_once w true x y a b
-  key_once (UnarySign op) n x y a b = a ∙ sym b
-  key_once Select n x y a b = a ∙ sym b
-  key_once (Math fun) n x y a b = a ∙ sym b
-  key_once (Relational fun) n x y a b = a ∙ sym b
-  key_once ArrayLength n x y a b = a ∙ sym b
-  key_once CooperativeMultiplyAdd n x y a b = a ∙ sym b
-  key_once (RayIntersection committed) n x y a b = a ∙ sym b
-  key_once (RayCorners committed) n x y a b = a ∙ sym b
-  key_once (Splat size) n x y a b = a ∙ sym b
   key_once (WithoutForm (Cast kind width)) n x y a b = a ∙ sym b
   key_once (WithoutForm (PartAt index)) n x y a b = a ∙ sym b
-  key_once _ n x y a b = absurd a
+  key_once (WithoutForm _) n x y a b = absurd cc
+  key_once _ n x y a b = same_Some x y (sym a ∙ b)
 
   one_two : suc zero ≡ suc (suc zero) → ⊥
   one_two e = omega (arith, e)
@@ -210,28 +188,45 @@ module _ (m : Module) (are : TypesAreCounted m) where
   unary_keyed unary.LogicalNot = Keyed refl
   unary_keyed unary.BitwiseNot = Keyed refl
 
+  abbrev is_sign : Operator → Bool
+  is_sign (BinarySign op) = true
+  is_sign (UnarySign op) = true
+  is_sign _ = false
+
+  -- an operator without a sign that takes no type
+  own_keyed : (o : Operator) (n : ℕ) (x : List ℕ) → is_sign o ≡ false → own_key o ≡ Some x →
+      IsKeyed o n x
+  own_keyed (BinarySign op) n x other key = absurd cc
+  own_keyed (UnarySign op) n x other key = absurd cc
+  own_keyed (Texel arrayed texel) n x other key = absurd cc
+  own_keyed (Construct spelling components) n x other key = absurd cc
+  own_keyed (Convert spelling) n x other key = absurd cc
+  own_keyed (Reinterpret spelling) n x other key = absurd cc
+  own_keyed (WithoutForm what) n x other key = absurd cc
+  own_keyed _ n x other key = Keyed key
+
   -- the key of an expression is that of the operator that it applies
   pub keyed : (known : List TypeResolution) (e : Expression) (x : List ℕ) (o : Operator) →
       operator_key m.types known e ≡ Some x → applied_operator (context known) e ≡ Some o →
       IsFormed e → IsKeyed o (length (expression_operands e)) x
   keyed known (expression.Compose ty parts) x o k a is = same_keyed _ o _ _ x (constructor_keyed known ty (length parts.items) is) k a
   keyed known (expression.As operand kind convert) x o k a is = same_keyed _ o _ _ x (cast_keyed known kind convert (known_inner m.types known operand)) k a
-  keyed known (expression.Splat size value) x o k a is = same_keyed (Splat size) o 1 _ x (Keyed refl) k a
+  keyed known (expression.Access base index) x o k a is = absurd cc
   keyed known (expression.AccessIndex base index) x o k a is = by _ a
     where
       by : (b : Bool) → (if b then None else Some (WithoutForm (PartAt index))) ≡ Some o → IsKeyed o 1 x
       by true a = absurd (cc)
       by false a = same_keyed (WithoutForm (PartAt index)) o 1 (one_key 4 index) x (Keyed refl) k a
+  keyed known (expression.Swizzle size vector pattern) x o k a is = absurd cc
+  keyed known (expression.Load pointer) x o k a is = absurd cc
+  keyed known (expression.ImageSample image sampler gather coordinate array_index offset l depth clamp) x o k a is = absurd cc
+  keyed known (expression.ImageQuery image query) x o k a is = absurd cc
   keyed known (expression.Unary op operand) x o k a is = same_keyed (UnarySign op) o 1 _ x (unary_keyed op) k a
   keyed known (expression.Binary op left right) x o k a is = same_keyed (BinarySign op) o 2 _ x (Keyed (refl, refl)) k a
-  keyed known (expression.Select condition accept reject) x o k a is = same_keyed Select o _ _ x (Keyed refl) k a
-  keyed known (expression.Relational fun argument) x o k a is = same_keyed (Relational fun) o _ _ x (Keyed refl) k a
-  keyed known (expression.Math fun arg arg1 arg2 arg3) x o k a is = same_keyed (Math fun) o _ _ x (Keyed refl) k a
-  keyed known (expression.ArrayLength array) x o k a is = same_keyed ArrayLength o _ _ x (Keyed refl) k a
-  keyed known (expression.CooperativeMultiplyAdd p q r) x o k a is = same_keyed CooperativeMultiplyAdd o _ _ x (Keyed refl) k a
-  keyed known (expression.RayQueryGetIntersection query committed) x o k a is = same_keyed (RayIntersection committed) o _ _ x (Keyed refl) k a
-  keyed known (expression.RayQueryVertexPositions query committed) x o k a is = same_keyed (RayCorners committed) o _ _ x (Keyed refl) k a
-  keyed known _ x o k a is = absurd (cc)
+  keyed known (expression.CooperativeLoad columns rows role place) x o k a is = absurd cc
+  keyed known e x o k a is =
+      own_keyed o _ x (sym (ap (λ p. option_map_or is_sign p false) a))
+      (sym (ap (option_and_then own_key) a) ∙ k)
 
   -- the type of such an operator, if it takes one, is one of the grammar
   pub sound : (o : Operator) (n : ℕ) (x : List ℕ) → IsKeyed o n x → TypeIsSound o
@@ -241,7 +236,7 @@ module _ (m : Module) (are : TypesAreCounted m) where
   sound (Convert w) n x (Negated a b d) = absurd (cc)
   sound (Reinterpret w) n x (Keyed k) = spells k.typed k.fit w k.spelled
   sound (Reinterpret w) n x (Negated a b d) = absurd (cc)
-  sound (CooperativeLoad r w) n x (Keyed k) = absurd k
+  sound (CooperativeLoad r w) n x (Keyed k) = absurd cc
   sound (CooperativeLoad r w) n x (Negated a b d) = absurd (cc)
   sound _ n x k = tt
 

@@ -1,10 +1,12 @@
 -- Each word of the table of operators stands for one of them, but for those that share it.
 use Rattle.std.proofs.Common.{◌≡◌, ℕ, Bool, true, false, List, [], ◌∷◌, refl, sym, ap, ◌∙◌, map}
-use Rattle.std.proofs.Common.{Option, Some, None, ◌==◌}
+use Rattle.std.proofs.Common.{Option, Some, None, ◌==◌, subst}
 use Rattle.std.specs.Prelude.{if◌then◌else◌}
 use Rattle.std.specs.Str.{bytes_eq}
-use Rattle.std.proofs.lemmas.Bool.{false≢true}
+use Rattle.std.specs.List.{list_all}
+use Rattle.std.proofs.lemmas.Bool.{false≢true, and_parts}
 use Rattle.std.proofs.lemmas.Option.{same_Some}
+use Rattle.std.proofs.lemmas.Slice.Eq.{bytes_eq-Decides}
 use Rattle.std.specs.Option.{option_or}
 use Rattle.naga_ir.specs.declared.expression.SwizzleComponent.{SwizzleComponent}
 use Rattle.naga_ir.specs.declared.expression.SwizzleComponent.TheVariants as component
@@ -370,34 +372,23 @@ splat_distinguished _ = refl
 pub distinguished : (o : Operator) → is_untyped o ≡ true → IsDistinguishedBy o
 distinguished (BinarySign op) u = binary_distinguished op
 distinguished (UnarySign op) u = unary_distinguished op
-distinguished Select u = refl
 distinguished (Math f) u = math_distinguished f
 distinguished (Relational f) u = relation_distinguished f
 distinguished (Derivative a c) u = derivative_distinguished a c
-distinguished ArrayLength u = refl
 distinguished (Sample l compares clamped arrayed offset) u =
     sample_distinguished l compares clamped arrayed offset
 distinguished (Gather c l compares clamped arrayed offset) u = gather_distinguished l compares clamped arrayed offset c
 distinguished (Texel arrayed OnlyTexel) u = refl
 distinguished (Texel arrayed _) u = refl
-distinguished (TexelStore arrayed) u = refl
 distinguished (TexelChange c arrayed) u = texel_change_distinguished c arrayed
-distinguished (ImageSize of_level) u = refl
 distinguished (CountOf c) u = count_distinguished c
-distinguished AtomicLoad u = refl
-distinguished AtomicStore u = refl
 distinguished (AtomicChange c) u = change_distinguished c
-distinguished UniformLoad u = refl
-distinguished (Ballot predicate) u = refl
 distinguished (Collective o c) u = collective_distinguished o c
 distinguished (FromSubgroup s) u = source_distinguished s
 distinguished (Barrier control k) u = barrier_distinguished control k
 distinguished (CooperativeLoad row_major t) u = absurd (false≢true u)
 distinguished (CooperativeStore true) u = refl
 distinguished (CooperativeStore false) u = refl
-distinguished CooperativeMultiplyAdd u = refl
-distinguished TraceRay u = refl
-distinguished RayStep u = refl
 distinguished (RayIntersection true) u = refl
 distinguished (RayIntersection false) u = refl
 distinguished (RayCorners true) u = refl
@@ -407,10 +398,44 @@ distinguished (Splat n) u = splat_distinguished n
 distinguished (Convert t) u = absurd (false≢true u)
 distinguished (Reinterpret t) u = absurd (false≢true u)
 distinguished (WithoutForm x) u = absurd (false≢true u)
+distinguished _ u = refl
 
 -- two that take no type, and have one word, have one operator that stands for them
 pub untyped_share : (a b : Operator) → is_untyped a ≡ true → is_untyped b ≡ true → run_word a ≡ run_word b → one_word a ≡ one_word b
 untyped_share a b ua ub e = same_Some (one_word a) (one_word b) (sym (distinguished a ua) ∙ (ap operator_of e ∙ distinguished b ub))
+
+-- ---- what all of the table have
+-- what is found by a word has it, and passes a test that all operators of the list pass
+found : (test : Operator → Bool) (w : List ℕ) (os : List Operator) (o : Operator) →
+    list_all test os ≡ true → first_with w os ≡ Some o → (w ≡ run_word o) × (test o ≡ true)
+found test w [] o all e = absurd cc
+found test w (x ∷ os) o all e =
+    by (bytes_eq w (run_word x)) refl (and_parts (test x) (list_all test os) all)
+    (found test w os o) e
+  where
+    by : (b : Bool) → bytes_eq w (run_word x) ≡ b → (test x ≡ true) × (list_all test os ≡ true) →
+        (list_all test os ≡ true → first_with w os ≡ Some o →
+        (w ≡ run_word o) × (test o ≡ true)) →
+        (if b then Some x else first_with w os) ≡ Some o → (w ≡ run_word o) × (test o ≡ true)
+    by true same parts later e =
+        let is = same_Some x o e in (
+          (bytes_eq-Decides w (run_word x)).0 same ∙ ap run_word is,
+          subst (λ y. test y ≡ true) is parts.0,
+        )
+    by false same parts later e = later parts.1 e
+
+-- One that takes no type has the word of the operator that stands for it, which passes what all of
+-- the table pass.
+pub by_table : (test : Operator → Bool) → list_all test others ≡ true →
+    list_all test mathematical ≡ true → (o : Operator) → is_untyped o ≡ true →
+    (run_word o ≡ run_word (one_word o)) × (test (one_word o) ≡ true)
+by_table test one two o u = by (first_with (run_word o) others) refl (distinguished o u)
+  where
+    by : (x : Option Operator) → first_with (run_word o) others ≡ x →
+        option_or x (first_with (run_word o) mathematical) ≡ Some (one_word o) →
+        (run_word o ≡ run_word (one_word o)) × (test (one_word o) ≡ true)
+    by (Some y) is e = found test (run_word o) others (one_word o) one (is ∙ e)
+    by None is e = found test (run_word o) mathematical (one_word o) two e
 
 -- ---- with the number of operands
 -- the operator with this word's and this number of operands
@@ -464,10 +489,6 @@ keeps_word (Gather c Automatic compares clamped arrayed offset) = refl
 keeps_word (Gather c _ compares clamped arrayed offset) = refl
 keeps_word (Texel arrayed OnlyTexel) = refl
 keeps_word (Texel arrayed _) = refl
-keeps_word (CooperativeLoad true t) = refl
-keeps_word (CooperativeLoad false t) = refl
-keeps_word (CooperativeStore true) = refl
-keeps_word (CooperativeStore false) = refl
 keeps_word (WithoutForm (ValueOf numbers components)) = refl
 keeps_word (WithoutForm _) = refl
 keeps_word _ = refl

@@ -2,15 +2,14 @@
 -- grammar.
 use Rattle.std.proofs.Common.{◌≡◌, ℕ, Bool, true, false, List, [], ◌∷◌, Option, Some, None}
 use Rattle.std.proofs.Common.{refl, sym, ap, subst, ◌∙◌, length, codes, ◌++◌}
-use Rattle.std.specs.Prelude.{IsTrue, if◌then◌else◌, unwrap_or, ◌||◌}
+use Rattle.std.specs.Prelude.{if◌then◌else◌, unwrap_or}
 use Rattle.std.specs.List.{AllByRecursion}
-use Rattle.std.specs.Option.{is_none, is_some, option_map, option_map_or, option_and_then}
+use Rattle.std.specs.Option.{option_map, option_map_or, option_and_then}
 use Rattle.naga_ir.specs.declared.expression.CooperativeData.{CooperativeData}
 use Rattle.naga_ir.specs.declared.expression.Expression as ir
 use Rattle.naga_ir.specs.declared.expression.Expression.TheVariants as expression
 use Rattle.naga_ir.specs.declared.operators.BinaryOperator.{BinaryOperator}
 use Rattle.naga_ir.specs.declared.operators.BinaryOperator.TheVariants as operator
-use Rattle.naga_ir.specs.declared.operators.RelationalFunction.TheVariants as relational
 use Rattle.naga_ir.specs.declared.operators.UnaryOperator.{UnaryOperator}
 use Rattle.naga_ir.specs.declared.operators.UnaryOperator.TheVariants as unary
 use Rattle.module_meaning.specs.Conversions.{conversion_target, keeps_bits}
@@ -31,26 +30,18 @@ use Rattle.naga_ir.specs.declared.types.Scalar.{Scalar}
 use Rattle.naga_ir.specs.declared.types.ScalarKind.{ScalarKind}
 use Rattle.naga_ir.specs.declared.types.TypeInner.{TypeInner}
 use Rattle.naga_ir.specs.declared.types.TypeInner.TheVariants as inner
-use Rattle.naga_ir.specs.declared.operators.RelationalFunction.{RelationalFunction}
-use Rattle.naga_ir.specs.declared.types.VectorSize.{VectorSize}
-use Rattle.module_meaning.specs.OperatorTable.{Select, Splat, Relational, Math, Construct}
-use Rattle.module_meaning.specs.OperatorTable.{WithoutForm, ValueOf, relational_word, Cast}
-use Rattle.module_meaning.specs.OperatorTable.{Derivative, with_type, ArrayLength}
-use Rattle.module_meaning.specs.OperatorTable.{CooperativeMultiplyAdd, Texel, OnlyTexel, SampleTexel}
-use Rattle.module_meaning.specs.OperatorTable.{LevelTexel, ImageSize, CountOf, Levels, Layers, Samples}
-use Rattle.module_meaning.specs.ExpressionOperators.{query_operator, texel_of}
+use Rattle.module_meaning.specs.OperatorTable.{Construct, WithoutForm, ValueOf, Cast, with_type}
+use Rattle.module_meaning.specs.OperatorTable.{has_word, is_untyped}
+use Rattle.module_meaning.specs.ExpressionOperators.{own_operator, query_operator}
+use Rattle.module_meaning.proofs.OwnOperators.{own_is_untyped}
+use Rattle.naga_form.proofs.CalledWords.{is_called, word_is_called}
 use Rattle.naga_ir.specs.declared.expression.ImageQuery.{ImageQuery}
 use Rattle.naga_ir.specs.declared.expression.ImageQuery.TheVariants as query
-use Rattle.naga_ir.specs.declared.operators.DerivativeAxis.{DerivativeAxis}
-use Rattle.naga_ir.specs.declared.operators.DerivativeAxis.TheVariants as axis
-use Rattle.naga_ir.specs.declared.operators.DerivativeControl.{DerivativeControl}
-use Rattle.naga_ir.specs.declared.operators.DerivativeControl.TheVariants as control
 use Rattle.wgsl_text.specs.Expressions.{IsCallee}
 use Rattle.wgsl_text.specs.Types.{IsType}
-use Rattle.module_meaning.specs.ExpressionShapes.{applied_shape, asking}
+use Rattle.module_meaning.specs.ExpressionShapes.{applied_shape}
 use Rattle.module_meaning.specs.OperatorTable.{Operator, BinarySign, UnarySign, AtomicLoad, asks}
-use Rattle.module_meaning.specs.OperatorTable.{AtomicStore, CooperativeLoad, MatrixLoad}
-use Rattle.module_meaning.specs.OperatorTable.{own_math_word, run_word}
+use Rattle.module_meaning.specs.OperatorTable.{CooperativeLoad, MatrixLoad, run_word}
 use Rattle.module_meaning.specs.ExpressionContexts.{expression_context}
 use Rattle.module_meaning.specs.ExpressionForms.{expression_is_written}
 use Rattle.module_meaning.specs.Types.{spelled_resolution, type_names}
@@ -62,7 +53,6 @@ use Rattle.naga_ir.specs.declared.module.Module.{Module}
 use Rattle.naga_info.specs.declared.info.ExpressionInfo.{ExpressionInfo}
 use Rattle.module_meaning.specs.Shapes.{operator_shape}
 use Rattle.naga_ir.specs.Operands.{cooperative_operands, expression_operands, query_operands}
-use Rattle.naga_ir.specs.declared.types.VectorSize.TheVariants.{Bi, Tri, Quad}
 use Rattle.wgsl_text.specs.Types.{TypeSpecifier, Named, NoTemplateArguments, has_gaps, of_one}
 use Rattle.wgsl_text.specs.Expressions.{Call, operands, binary_pieces, unary_mark, IsExpression}
 use Rattle.wgsl_text.specs.Expressions.{Expression}
@@ -70,7 +60,6 @@ use Rattle.naga_form.specs.Expressions.{PlainForm, as_value, value_forms}
 use Rattle.wgsl_text.specs.Functions.{Each}
 use Rattle.wgsl_text.proofs.Building.{called_words}
 use Rattle.wgsl_text.proofs.Types.{named_text, type_part_text}
-use Rattle.wgsl_text.proofs.ValueWords.{value_words}
 use Rattle.naga_form.specs.Operators.{operator_form, unary_form, Notation, Infix, Prefix, Called}
 use Rattle.naga_form.specs.Operators.{notation, callee, applied_form}
 use Rattle.shader_runs.specs.Form as runs
@@ -81,9 +70,7 @@ use Rattle.shader_runs.specs.Value.{ShortCircuitAnd, ShortCircuitOr}
 use Rattle.text_meaning.specs.Abstraction.{expression_read, arguments_read, called_word as word_read}
 use Rattle.wgsl_text.specs.Reading.{type_layout}
 use Rattle.wgsl_text.specs.Text.{text, mark_text}
-use Rattle.wgsl_text.specs.Keywords.{builtin_words}
-use Rattle.wgsl_text.specs.Words.{is_builtin}
-use Rattle.wgsl_words.specs.Words.{math_word, operator_text, unary_text}
+use Rattle.wgsl_words.specs.Words.{operator_text, unary_text}
 
 -- ---- words
 -- what stands between two operands is the operator's text
@@ -322,7 +309,7 @@ module _ (operand : ℕ → PlainForm) (like : ℕ → runs.Plain) where
           (expression_read (applied_form (notation type op) (value_forms operand hs))) ≡
           runs.own_form n like
           (Some
-          (if b then Request (asking op) (run_word op) hs no_constant else operator_shape op hs))
+          (if b then Request (run_word op) hs no_constant else operator_shape op hs))
       by true is = request_read type op spelled hs same is
       by false is = operator_read n type op spelled hs same
 
@@ -344,13 +331,6 @@ NotationFits n hs = ⊥
 abbrev pub IsNotated : (type : Option TypeSpecifier) → List ℕ → Option Operator → Type 0
 IsNotated type hs (Some op) = NotationFits (notation type op) hs
 IsNotated type hs None = Unit {0}
-
--- a word, where there is one and it is a built-in word
-word_is_builtin : (word : Option (List ℕ)) (own : List ℕ) →
-    ((w : List ℕ) → word ≡ Some w → IsTrue (is_builtin w)) → is_some word ≡ true →
-    is_builtin (unwrap_or word own) ≡ true
-word_is_builtin (Some w) own builtin written = builtin w refl
-word_is_builtin None own builtin written = absurd cc
 
 -- an operator that is no sign is called, by the type where it is spelled by one
 abbrev pub IsCalled : Operator → Type 0
@@ -455,76 +435,11 @@ pub load_callee : (row_major : Bool) (t : TypeSpecifier) → IsType t →
 load_callee false t is = called_words.taking_type (codes "coopLoad") t refl is
 load_callee true t is = called_words.taking_type (codes "coopLoadT") t refl is
 
--- a built-in word may be called
-pub callee_of : (w : List ℕ) → is_builtin w ≡ true → IsCallee (Named w)
-callee_of w is = called_words.builtin w is
-
-choice_called : IsCallee (Named (run_word Select))
-unfolding is_builtin builtin_words
-choice_called = callee_of (run_word Select) refl
-
-pub splat_called : (size : VectorSize) → IsCallee (Named (run_word (Splat size)))
-unfolding is_builtin builtin_words
-splat_called Bi = callee_of (run_word (Splat Bi)) refl
-splat_called Tri = callee_of (run_word (Splat Tri)) refl
-splat_called Quad = callee_of (run_word (Splat Quad)) refl
-
-relation_called : (fun : RelationalFunction) → is_some (relational_word fun) ≡ true →
-    IsCallee (Named (run_word (Relational fun)))
-unfolding is_builtin builtin_words
-relation_called relational.All written = callee_of (run_word (Relational relational.All)) refl
-relation_called relational.Any written = callee_of (run_word (Relational relational.Any)) refl
-relation_called _ written = absurd cc
-
-derivative_called : (along : DerivativeAxis) (how : DerivativeControl) →
-    IsCallee (Named (run_word (Derivative along how)))
-unfolding is_builtin builtin_words
-derivative_called axis.X control.Coarse = callee_of (run_word (Derivative axis.X control.Coarse)) refl
-derivative_called axis.X control.Fine = callee_of (run_word (Derivative axis.X control.Fine)) refl
-derivative_called axis.X control.None = callee_of (run_word (Derivative axis.X control.None)) refl
-derivative_called axis.Y control.Coarse = callee_of (run_word (Derivative axis.Y control.Coarse)) refl
-derivative_called axis.Y control.Fine = callee_of (run_word (Derivative axis.Y control.Fine)) refl
-derivative_called axis.Y control.None = callee_of (run_word (Derivative axis.Y control.None)) refl
-derivative_called axis.Width control.Coarse =
-    callee_of (run_word (Derivative axis.Width control.Coarse)) refl
-derivative_called axis.Width control.Fine =
-    callee_of (run_word (Derivative axis.Width control.Fine)) refl
-derivative_called axis.Width control.None =
-    callee_of (run_word (Derivative axis.Width control.None)) refl
-
-length_called : IsCallee (Named (run_word ArrayLength))
-unfolding is_builtin builtin_words
-length_called = callee_of (run_word ArrayLength) refl
-
-product_called : IsCallee (Named (run_word CooperativeMultiplyAdd))
-unfolding is_builtin builtin_words
-product_called = callee_of (run_word CooperativeMultiplyAdd) refl
-
--- so may what loads a texel, but of a sample and a level, and what asks an image for its sizes
-texel_called : (arrayed : Bool) (sample level : Option ℕ) → (is_none sample || is_none level) ≡ true →
-    IsCallee (Named (run_word (Texel arrayed (texel_of (is_some sample) (is_some level)))))
-unfolding is_builtin builtin_words
-texel_called arrayed None None written = callee_of (run_word (Texel arrayed OnlyTexel)) refl
-texel_called arrayed (Some s) None written = callee_of (run_word (Texel arrayed SampleTexel)) refl
-texel_called arrayed None (Some l) written = callee_of (run_word (Texel arrayed LevelTexel)) refl
-texel_called arrayed (Some s) (Some l) written = absurd cc
-
 pub query_is_called : (query : ImageQuery) → IsCalled (query_operator query)
 query_is_called (query.Size level) type = refl
 query_is_called query.NumLevels type = refl
 query_is_called query.NumLayers type = refl
 query_is_called query.NumSamples type = refl
-
-query_called : (query : ImageQuery) → IsCallee (Named (run_word (query_operator query)))
-unfolding is_builtin builtin_words
-query_called (query.Size level) = callee_of (run_word (ImageSize (is_some level))) refl
-query_called query.NumLevels = callee_of (run_word (CountOf Levels)) refl
-query_called query.NumLayers = callee_of (run_word (CountOf Layers)) refl
-query_called query.NumSamples = callee_of (run_word (CountOf Samples)) refl
-
-atomic_called : IsCallee (Named (run_word AtomicLoad))
-unfolding is_builtin builtin_words
-atomic_called = callee_of (run_word AtomicLoad) refl
 
 -- so may the load of an atomic
 pub load_notated : (a : ExpressionContext) (pointer : ℕ) →
@@ -532,13 +447,8 @@ pub load_notated : (a : ExpressionContext) (pointer : ℕ) →
 load_notated a pointer = by (is_atomic_pointer a pointer)
   where
     by : (b : Bool) → IsNotated None (pointer ∷ []) (if b then Some AtomicLoad else None)
-    by true = atomic_called
+    by true = word_is_called AtomicLoad refl refl refl
     by false = tt
-
--- and the store to one
-pub atomic_store_called : IsCallee (Named (run_word AtomicStore))
-unfolding is_builtin builtin_words
-atomic_store_called = callee_of (run_word AtomicStore) refl
 
 -- the type of which an expression makes a value has a form, a type of the grammar
 abbrev pub HasFormAt : TypeNames → (ty : ℕ) → Type 0
@@ -567,21 +477,43 @@ HasNotation
     ⊥
 HasNotation e = Unit {0}
 
+-- an operator by itself, over as many operands as it takes
+abbrev takes : Operator → List ℕ → Bool
+takes (BinarySign op) (l ∷ r ∷ []) = true
+takes (UnarySign op) (h ∷ []) = true
+takes op hs = is_called op
+
+table_notated : (op : Operator) (hs : List ℕ) → is_untyped op ≡ true → has_word op ≡ true →
+    takes op hs ≡ true → NotationFits (notation None op) hs
+table_notated (BinarySign op) (l ∷ r ∷ []) u has is = tt
+table_notated (BinarySign op) hs u has is = absurd cc
+table_notated (UnarySign op) (h ∷ []) u has is = tt
+table_notated (UnarySign op) hs u has is = absurd cc
+table_notated op hs u has is = word_is_called op u is has
+
+own_notated : (o : Option Operator) (hs : List ℕ) →
+    ((op : Operator) → o ≡ Some op → is_untyped op ≡ true) → option_map_or has_word o true ≡ true →
+    option_map_or (λ op. takes op hs) o true ≡ true → IsNotated None hs o
+own_notated None hs untyped has is = tt
+own_notated (Some op) hs untyped has is = table_notated op hs (untyped op refl) has is
+
 -- each expression that is written and applies an operator has its operands
 pub notated : (a : ExpressionContext) (t : TypeNames) (m : Module) (es : List ExpressionInfo) →
     (e : ir.Expression) → expression_is_written m es e ≡ true → HasNotation e → TypeIsFormed a t e →
     IsNotated (operator_type a t e) (expression_operands e) (applied_operator a e)
-notated a t m es (expression.Unary op expr) written has formed = tt
-notated a t m es (expression.Binary op left right) written has formed = tt
-notated a t m es (expression.Select condition accept reject) written has formed = choice_called
-notated a t m es (expression.Splat size value) written has formed = splat_called size
-notated a t m es (expression.Math fun arg arg1 arg2 arg3) written has formed =
-    callee_of (run_word (Math fun))
-    (word_is_builtin (math_word fun) (own_math_word fun) (value_words.functions fun) written)
-notated a t m es (expression.Relational fun argument) written has formed = relation_called fun written
+notated a t m es (expression.Literal value) written has formed = tt
+notated a t m es (expression.Constant handle) written has formed = tt
+notated a t m es (expression.ZeroValue ty) written has formed = tt
+notated a t m es (expression.GlobalVariable handle) written has formed = tt
 notated a t m es (expression.Compose ty parts) written has formed =
     constructor_notated a (Handle ty) (length parts.items) parts.items (type_tree t ty)
     formed.0 formed.1 formed.2
+notated a t m es (expression.AccessIndex base index) written has formed = absurd has
+notated a t m es (expression.Load pointer) written has formed = load_notated a pointer
+notated a t m es
+    (expression.ImageSample
+    image sampler gather coordinate array_index offset level depth_ref clamp) written has formed =
+    absurd has
 notated a t m es (expression.As operand kind convert) written has formed =
     subst (λ n. NotationFits n (operand ∷ []))
     (sym
@@ -594,35 +526,21 @@ notated a t m es (expression.CooperativeLoad columns rows role place) written ha
     (typed_notation _ (load_called a columns rows role place)
     (operator_type a t (expression.CooperativeLoad columns rows role place)) formed.0 formed.1))
     formed.2
-notated a t m es (expression.Derivative along how expr) written has formed = derivative_called along how
-notated a t m es (expression.ImageLoad image coordinate array_index sample level) written has formed =
-    texel_called (is_some array_index) sample level written
-notated a t m es (expression.ImageQuery image query) written has formed =
-    subst (λ n. NotationFits n (image ∷ query_operands query)) (sym (query_is_called query None))
-    (query_called query)
-notated a t m es (expression.ArrayLength array) written has formed = length_called
-notated a t m es (expression.CooperativeMultiplyAdd x y z) written has formed = product_called
-notated a t m es
-    (expression.ImageSample
-    image sampler gather coordinate array_index offset level depth_ref clamp) written has formed =
-    absurd has
-notated a t m es (expression.Swizzle size vector pattern) written has formed = tt
-notated a t m es (expression.Access base index) written has formed = tt
-notated a t m es (expression.Literal value) written has formed = tt
-notated a t m es (expression.Constant handle) written has formed = tt
-notated a t m es (expression.ZeroValue ty) written has formed = tt
-notated a t m es (expression.FunctionArgument number) written has formed = tt
-notated a t m es (expression.Override handle) written has formed = tt
-notated a t m es (expression.GlobalVariable handle) written has formed = tt
-notated a t m es (expression.LocalVariable handle) written has formed = tt
-notated a t m es (expression.Load pointer) written has formed = load_notated a pointer
-notated a t m es (expression.AccessIndex base index) written has formed = absurd has
-notated a t m es (expression.CallResult function) written has formed = tt
-notated a t m es (expression.AtomicResult ty comparison) written has formed = tt
-notated a t m es (expression.WorkGroupUniformLoadResult ty) written has formed = tt
-notated a t m es (expression.SubgroupOperationResult ty) written has formed = tt
-notated a t m es expression.SubgroupBallotResult written has formed = tt
-notated a t m es _ written has formed = absurd cc
+notated a t m es expression.RayQueryProceedResult written has formed = absurd cc
+notated a t m es (expression.ImageQuery image asked) written has formed =
+    own_notated (Some (query_operator asked)) (image ∷ query_operands asked)
+    (own_is_untyped (expression.ImageQuery image asked)) (query_is_written asked)
+    (query_takes asked)
+  where
+    query_takes : (q : ImageQuery) → takes (query_operator q) (image ∷ query_operands q) ≡ true
+    query_takes (query.Size level) = refl
+    query_takes _ = refl
+
+    query_is_written : (q : ImageQuery) → has_word (query_operator q) ≡ true
+    query_is_written (query.Size level) = refl
+    query_is_written _ = refl
+notated a t m es e written has formed =
+    own_notated (own_operator e) (expression_operands e) (own_is_untyped e) written refl
 
 module _ (operand : ℕ → PlainForm) where
   abbrev pub AreExpressions : List ℕ → Type 0

@@ -35,7 +35,7 @@ use Rattle.module_meaning.specs.Accepted.{is_accepted}
 use Rattle.module_meaning.specs.AgreeingOperators.{Group, function_group}
 use Rattle.module_meaning.specs.AlikeTypes.{type_identity}
 use Rattle.module_meaning.specs.ExpressionOperators.{constructor, cast, cast_to, type_known, is_atomic_pointer, matrix_load, query_operator}
-use Rattle.module_meaning.specs.ExpressionShapes.{part_selector, selector, part_shape, shape_of, applied_or, asking}
+use Rattle.module_meaning.specs.ExpressionShapes.{part_selector, selector, part_shape, shape_of, applied_or}
 use Rattle.module_meaning.specs.ExpressionTypes.{logical_type, binary_type, wanted_type, LikeThis, is_wanted, if_any, only}
 use Rattle.module_meaning.specs.FunctionShapes.{function_shape}
 use Rattle.module_meaning.specs.OperandDemands.{operand_is, is_integer, is_integer_kind}
@@ -246,7 +246,7 @@ module _ (m : ir_module.Module) (info : ModuleInfo) (accepted : IsTrue (is_accep
       where
         by : (b : Bool) →
             PartsFit parts shape (handle_type shape h)
-            (Some (if b then Request (asking (WithoutForm what)) (run_word (WithoutForm what)) hs
+            (Some (if b then Request (run_word (WithoutForm what)) hs
             no_constant else operator_shape (WithoutForm what) hs))
         by true = tt
         by false = tt

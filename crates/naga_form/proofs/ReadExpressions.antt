@@ -266,10 +266,6 @@ module _ (m : Module) (n : Naming) (code : Source)
   own_reads operand like h (expression.ZeroValue ty) same w known =
       zero_reads operand like ty (declared_of_spellable m (Handle ty) w) (code.declared.context.known h)
       known.0
-  own_reads operand like h (expression.Compose ty components) same w known =
-      applies operand like (expression.Compose ty components) same w
-  own_reads operand like h (expression.As e kind convert) same w known =
-      applies operand like (expression.As e kind convert) same w
   own_reads operand like h (expression.Access base index) same w known =
       index_read (handle_type n.function base) (points code.declared.context base) (places base)
       (as_value (operand index)) (like index)
@@ -305,8 +301,6 @@ module _ (m : Module) (n : Naming) (code : Source)
       (untyped (load_operator code.declared.context pointer))
   own_reads operand like h (expression.FunctionArgument number) same w known = refl
   own_reads operand like h (expression.LocalVariable handle) same w known = refl
-  own_reads operand like h (expression.Derivative axis how expr) same w known =
-      applies operand like (expression.Derivative axis how expr) same w
   own_reads operand like h
       (expression.ImageSample
       image sampler gather coordinate array_index offset level depth_ref clamp) same w known =
@@ -364,34 +358,7 @@ module _ (m : Module) (n : Naming) (code : Source)
           level_operands level ++ (if is_some c then [] else x ∷ []))
           (constant_forms n.names.outer (trees (written_zero level unwritten ++ option_to_list c)))))
           (sym out.0.1)
-  own_reads operand like h (expression.ImageLoad image coordinate array_index x level) same w known =
-      applies operand like (expression.ImageLoad image coordinate array_index x level) same w
-  own_reads operand like h (expression.ImageQuery image query) same w known =
-      applies operand like (expression.ImageQuery image query) same w
-  own_reads operand like h (expression.ArrayLength array) same w known =
-      applies operand like (expression.ArrayLength array) same w
-  own_reads operand like h (expression.CooperativeLoad columns rows role place) same w known =
-      applies operand like (expression.CooperativeLoad columns rows role place) same w
-  own_reads operand like h (expression.CooperativeMultiplyAdd x y z) same w known =
-      applies operand like (expression.CooperativeMultiplyAdd x y z) same w
-  own_reads operand like h (expression.Unary op expr) same w known =
-      applies operand like (expression.Unary op expr) same w
-  own_reads operand like h (expression.Binary op left right) same w known =
-      applies operand like (expression.Binary op left right) same w
-  own_reads operand like h (expression.Select condition accept reject) same w known =
-      applies operand like (expression.Select condition accept reject) same w
-  own_reads operand like h (expression.Splat size value) same w known =
-      applies operand like (expression.Splat size value) same w
-  own_reads operand like h (expression.Math fun arg arg1 arg2 arg3) same w known =
-      applies operand like (expression.Math fun arg arg1 arg2 arg3) same w
-  own_reads operand like h (expression.Relational fun argument) same w known =
-      applies operand like (expression.Relational fun argument) same w
-  own_reads operand like h (expression.CallResult function) same w known = refl
-  own_reads operand like h (expression.AtomicResult ty comparison) same w known = refl
-  own_reads operand like h (expression.WorkGroupUniformLoadResult ty) same w known = refl
-  own_reads operand like h (expression.SubgroupOperationResult ty) same w known = refl
-  own_reads operand like h expression.SubgroupBallotResult same w known = refl
-  own_reads operand like h _ same w known = absurd cc
+  own_reads operand like h e same w known = applies operand like e same w
 
   pub own_if_reads : (operand : ℕ → PlainForm) (like : ℕ → Plain) (h : ℕ) →
       (e : Option ir.Expression) →

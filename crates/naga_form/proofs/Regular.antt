@@ -7,12 +7,13 @@ use Rattle.std.proofs.Common.{arith, nat_lt, eqb-true}
 use Rattle.std.specs.Option.{option_map, option_map_or, option_and_then, is_some}
 use Rattle.std.proofs.lemmas.Bool.{and_parts, ltb-true}
 use Rattle.naga_info.proofs.Options.{map_some}
+use Rattle.naga_ir.specs.Operands.{simple_result}
 use Rattle.naga_ir.specs.StatementTree.{SimpleStatement, return}
-use Rattle.naga_ir.specs.StatementTree.{control_barrier, memory_barrier, store, image_store, atomic}
-use Rattle.naga_ir.specs.StatementTree.{image_atomic, work_group_uniform_load, call, ray_query}
+use Rattle.naga_ir.specs.StatementTree.{control_barrier, memory_barrier, store, atomic}
+use Rattle.naga_ir.specs.StatementTree.{work_group_uniform_load, call}
 use Rattle.naga_ir.specs.StatementTree.{subgroup_ballot, subgroup_gather}
-use Rattle.naga_ir.specs.StatementTree.{subgroup_collective_operation, cooperative_store}
-use Rattle.naga_ir.specs.StatementTree.{ray_pipeline_function, StatementTree, simple, block, branch}
+use Rattle.naga_ir.specs.StatementTree.{subgroup_collective_operation}
+use Rattle.naga_ir.specs.StatementTree.{StatementTree, simple, block, branch}
 use Rattle.naga_ir.specs.StatementTree.{switch, loop, BlockTree, no_statements, statement}
 use Rattle.naga_ir.specs.StatementTree.{CaseTrees, no_cases, case}
 use Rattle.naga_ir.specs.declared.expression.Expression as ir
@@ -35,7 +36,8 @@ use Rattle.module_meaning.specs.FunctionShapes.{function_shape, statement_shape,
 use Rattle.module_meaning.specs.FunctionShapes.{cases_shape}
 use Rattle.module_meaning.specs.Ranges.{simple_in_range, statement_in_range, block_in_range}
 use Rattle.module_meaning.specs.Ranges.{cases_in_range, is_below}
-use Rattle.module_meaning.specs.StatementShapes.{simple_shape, store_shape}
+use Rattle.module_meaning.specs.StatementShapes.{act_operator, asked, simple_shape, store_shape}
+use Rattle.module_meaning.specs.OperatorTable.{Operator}
 use Rattle.module_meaning.specs.StatementsFit.{value_has_type, is_returned, are_passed, calls, is_call}
 use Rattle.module_meaning.specs.StatementsFit.{is_answered, is_result, is_result_if, is_result_of}
 use Rattle.module_meaning.specs.StatementsFit.{is_atomic_result, is_uniform_load_result}
@@ -217,6 +219,12 @@ module _ (m : Module) (info : ModuleInfo) (f : Function) (es : List ExpressionIn
             result_at (is_result_of g) h (call_result context f.expressions h g)
             (and_parts (is_some callee.result) (is_result (is_result_of g) f h) fits).1
 
+    -- an act that asks for an operator
+    own_at : (s : SimpleStatement) (o : Option Operator) → IsWorded p own (asked o s) →
+        ResultFits shape (simple_result s) → IsRegular p callees own (asked o s)
+    own_at s None worded result = tt
+    own_at s (Some op) worded result = (worded, result)
+
     line_at : (breaks continues : Bool) (s : SimpleStatement) →
         simple_in_range count (length f.expressions) s ≡ true →
         simple_is_sound m f known breaks continues s ≡ true →
@@ -231,27 +239,22 @@ module _ (m : Module) (info : ModuleInfo) (f : Function) (es : List ExpressionIn
             IsRegular p callees own (store_shape to_atomic pointer value)
         by true worded = (worded, tt)
         by false worded = tt
-    line_at breaks continues (image_store image coordinate array_index value) within fits worded = (worded, tt)
     line_at breaks continues (atomic pointer fun value outcome) within fits worded =
         let one =
         and_parts (operand_is m.types known (points_to_atomic m.types) pointer)
         (is_result_if is_atomic_result f outcome) fits in
         (worded, result_if is_atomic_result outcome (λ h. atomic_result context f.expressions h) one.1)
-    line_at breaks continues (image_atomic image coordinate array_index fun value) within fits worded = (worded, tt)
     line_at breaks continues (work_group_uniform_load pointer outcome) within fits worded =
         (worded, result_at is_uniform_load_result outcome (uniform_load_result context f.expressions outcome) fits)
     line_at breaks continues (call function arguments outcome) within fits worded =
         call_at function arguments outcome (ltb-true function count (and_parts (nat_lt function count) _ within).0) fits worded
-    line_at breaks continues (ray_query query) within fits worded = (worded, tt)
     line_at breaks continues (subgroup_ballot outcome predicate) within fits worded =
         (worded, result_at is_ballot_result outcome (ballot_result context f.expressions outcome) fits)
     line_at breaks continues (subgroup_gather mode argument outcome) within fits worded =
         (worded, result_at is_subgroup_result outcome (subgroup_result context f.expressions outcome) fits)
     line_at breaks continues (subgroup_collective_operation op collective argument outcome) within fits worded =
         (worded, result_at is_subgroup_result outcome (subgroup_result context f.expressions outcome) fits)
-    line_at breaks continues (cooperative_store target data_) within fits worded = (worded, tt)
-    line_at breaks continues (ray_pipeline_function fun) within fits worded = (worded, tt)
-    line_at breaks continues _ within fits worded = tt
+    line_at breaks continues s within fits worded = own_at s (act_operator s) worded tt
 
     -- the last case doesn't fall through
     falls_at : (falls : Bool) (cs : CaseTrees) → last_falls_through falls cs ≡ false →

@@ -20,7 +20,7 @@ use Rattle.module_meaning.specs.ExpressionOperators.{level_of}
 use Rattle.module_meaning.specs.ExpressionShapes.{built}
 use Rattle.module_meaning.specs.ExpressionShapes.{constant_tree}
 use Rattle.module_meaning.specs.ExpressionShapes.{applied_shape, applied_or, part_shape, part_selector}
-use Rattle.module_meaning.specs.ExpressionShapes.{shape_of, asking}
+use Rattle.module_meaning.specs.ExpressionShapes.{shape_of}
 use Rattle.module_meaning.specs.FunctionShapes.{function_shape, shapes_from}
 use Rattle.module_meaning.specs.ModuleShapes.{initialiser}
 use Rattle.module_meaning.specs.OperatorTable.{Operator, WithoutForm, PartAt, run_word, asks}
@@ -73,7 +73,7 @@ module _ (m : Module) (info : ModuleInfo) (are : TypesAreCounted m) (p : shapes.
   applied_words : (o : Operator) → TypeIsSound o → (xs : List ℕ) → WordFits p own (Some (applied_shape o xs))
   applied_words o is xs = by (asks o) refl
     where
-      by : (b : Bool) → asks o ≡ b → WordFits p own (Some (if b then Request (asking o) (run_word o) xs no_constant else operator_shape o xs))
+      by : (b : Bool) → asks o ≡ b → WordFits p own (Some (if b then Request (run_word o) xs no_constant else operator_shape o xs))
       by true does = (operator_asks o is does, tt)
       by false none = operator_any (λ e. WordFits p own (Some e)) o xs (λ j l r. tt) (operator_operates o is none)
 

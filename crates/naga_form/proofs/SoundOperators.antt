@@ -6,8 +6,6 @@ use Rattle.std.proofs.lemmas.Option.{same_Some}
 use Rattle.naga_ir.specs.declared.expression.CooperativeData.{CooperativeData}
 use Rattle.naga_ir.specs.declared.expression.Expression.{Expression}
 use Rattle.naga_ir.specs.declared.expression.Expression.TheVariants as expression
-use Rattle.naga_ir.specs.declared.expression.ImageQuery.{ImageQuery}
-use Rattle.naga_ir.specs.declared.expression.ImageQuery.TheVariants as query
 use Rattle.naga_ir.specs.declared.expression.SwizzleComponent.{SwizzleComponent}
 use Rattle.naga_ir.specs.declared.module.Module.{Module}
 use Rattle.naga_ir.specs.declared.types.CooperativeRole.{CooperativeRole}
@@ -21,11 +19,13 @@ use Rattle.naga_info.specs.declared.info.TypeResolution.TheVariants.{Handle, Val
 use Rattle.module_meaning.specs.Conversions.{converted_scalar}
 use Rattle.module_meaning.specs.ExpressionOperators.{ExpressionContext, applied_operator, constructor, cast}
 use Rattle.module_meaning.specs.ExpressionOperators.{cast_to, matrix_load, load_operator, part_operator}
-use Rattle.module_meaning.specs.ExpressionOperators.{is_atomic_pointer, sample_operator, query_operator}
+use Rattle.module_meaning.specs.ExpressionOperators.{is_atomic_pointer, sample_operator}
 use Rattle.module_meaning.specs.ExpressionOperators.{scalar_behind, type_known, has_parts}
 use Rattle.module_meaning.specs.OperatorTable.{Operator, Construct, CooperativeLoad, WithoutForm, Cast}
 use Rattle.module_meaning.specs.OperatorTable.{ValueOf, MatrixLoad, PartAt, AtomicLoad, Level}
-use Rattle.module_meaning.specs.OperatorTable.{SpellsAType, TypeIsSound, asks}
+use Rattle.module_meaning.specs.OperatorTable.{Convert, Reinterpret, SpellsAType, TypeIsSound, asks}
+use Rattle.module_meaning.specs.OperatorTable.{is_untyped}
+use Rattle.module_meaning.proofs.OwnOperators.{own_is_untyped}
 use Rattle.module_meaning.specs.ExpressionContexts.{expression_context}
 use Rattle.module_meaning.specs.Types.{called_spelling, type_names, spelled_resolution}
 use Rattle.module_meaning.proofs.ExpressionForms.{called_spelled}
@@ -33,6 +33,14 @@ use Rattle.wgsl_text.specs.Reading.{type_layout}
 use Rattle.wgsl_text.specs.Types.{TypeSpecifier}
 use Rattle.naga_form.specs.TypeTrees.{resolution_tree}
 use Rattle.naga_form.proofs.SameValues.{TypesAreCounted, IsFit, spelling_of, tree_is}
+
+-- an operator that takes no type
+pub untyped_is_sound : (o : Operator) → is_untyped o ≡ true → TypeIsSound o
+untyped_is_sound (CooperativeLoad row_major spelling) u = absurd cc
+untyped_is_sound (Construct spelling components) u = absurd cc
+untyped_is_sound (Convert spelling) u = absurd cc
+untyped_is_sound (Reinterpret spelling) u = absurd cc
+untyped_is_sound _ u = tt
 
 module _ (m : Module) (are : TypesAreCounted m) where
   spells : (r : TypeResolution) → IsFit m r → (w : List ℕ) → spelled_resolution (type_names m) r ≡ Some w → SpellsAType w
@@ -118,10 +126,6 @@ module _ (m : Module) (are : TypesAreCounted m) where
     sampling_is_sound of_depths None level compares clamped arrayed offset = (tt, refl)
     sampling_is_sound of_depths (Some component) level compares clamped arrayed offset = (tt, refl)
 
-    query_is_sound : (q : ImageQuery) → TypeIsSound (query_operator q)
-    query_is_sound (query.Size level) = tt
-    query_is_sound _ = tt
-
     same_sound : (a o : Operator) → Some a ≡ Some o → TypeIsSound a → TypeIsSound o
     same_sound a o e is = subst TypeIsSound (same_Some a o e) is
 
@@ -129,21 +133,8 @@ module _ (m : Module) (are : TypesAreCounted m) where
     pub applied_is_sound : (e : Expression) (o : Operator) → applied_operator context e ≡ Some o → TypeIsSound o
     applied_is_sound (expression.Compose ty parts) o e = same_sound _ o e (constructor_is_sound ty _)
     applied_is_sound (expression.AccessIndex base index) o e = part_is_sound base index o e
-    applied_is_sound (expression.Splat size value) o e = same_sound _ o e tt
     applied_is_sound (expression.Load pointer) o e = atomic_is_sound pointer o e
     applied_is_sound (expression.ImageSample image sampler gather coordinate array_index offset level depth_ref clamp) o e = same_sound _ o e (sampling_is_sound _ gather _ _ clamp _ _).0
-    applied_is_sound (expression.ImageLoad image coordinate array_index sample level) o e = same_sound _ o e tt
-    applied_is_sound (expression.ImageQuery image q) o e = same_sound _ o e (query_is_sound q)
-    applied_is_sound (expression.Unary op operand) o e = same_sound _ o e tt
-    applied_is_sound (expression.Binary op left right) o e = same_sound _ o e tt
-    applied_is_sound (expression.Select condition accept reject) o e = same_sound _ o e tt
-    applied_is_sound (expression.Derivative axis ctrl operand) o e = same_sound _ o e tt
-    applied_is_sound (expression.Relational fun argument) o e = same_sound _ o e tt
-    applied_is_sound (expression.Math fun arg arg1 arg2 arg3) o e = same_sound _ o e tt
     applied_is_sound (expression.As operand kind convert) o e = same_sound _ o e (cast_is_sound kind convert (type_known context operand))
-    applied_is_sound (expression.ArrayLength array) o e = same_sound _ o e tt
-    applied_is_sound (expression.RayQueryGetIntersection q committed) o e = same_sound _ o e tt
-    applied_is_sound (expression.RayQueryVertexPositions q committed) o e = same_sound _ o e tt
     applied_is_sound (expression.CooperativeLoad columns rows role place) o e = same_sound _ o e (load_is_sound columns rows role place)
-    applied_is_sound (expression.CooperativeMultiplyAdd x y z) o e = same_sound _ o e tt
-    applied_is_sound _ o e = absurd (cc)
+    applied_is_sound e o is = untyped_is_sound o (own_is_untyped e o is)

@@ -28,7 +28,7 @@ use Rattle.module_meaning.specs.AgreeingOperators.{Group, function_group}
 use Rattle.module_meaning.specs.ExpressionOperators.{applied_operator, constructor, load_operator, type_with}
 use Rattle.module_meaning.specs.ExpressionOperators.{is_composite, has_parts, part_operator}
 use Rattle.module_meaning.specs.ExpressionShapes.{Declared, constant_tree, tree_over, tree_within}
-use Rattle.module_meaning.specs.ExpressionShapes.{built, trees, applied_or, asking}
+use Rattle.module_meaning.specs.ExpressionShapes.{built, trees, applied_or}
 use Rattle.module_meaning.specs.ExpressionShapes.{own_selector, selector, part_selector, part_shape}
 use Rattle.module_meaning.specs.ExpressionShapes.{written_zero, shape_of, letter}
 use Rattle.module_meaning.specs.FunctionShapes.{function_shape}
@@ -140,7 +140,7 @@ module _ (m : ir_module.Module) (info : ModuleInfo)
       where
         by : (b : Bool) → asks o ≡ b →
             IsOneOf x (signatures_of p own (handle_type own h)
-            (Some (if b then Request (asking o) (run_word o) (expression_operands e) no_constant
+            (Some (if b then Request (run_word o) (expression_operands e) no_constant
             else operator_shape o (expression_operands e)))) → IsOfExpression m info x
         by true asked among = absurd (no_signature x among)
         by false asked among =

@@ -29,11 +29,12 @@ use Rattle.shader_runs.specs.Program as shapes
 use Rattle.shader_runs.specs.Program.{Act, Barrier, Break, Continue, Emit, Kill, Return, Store}
 use Rattle.shader_runs.specs.Program.{binds, binds_as, expression_of, from, holds_continue}
 use Rattle.shader_runs.specs.Program.{operands_of}
+use Rattle.shader_runs.specs.Program.{is_pure}
 use Rattle.shader_runs.specs.ProgramRun.{barrier_words}
 use Rattle.shader_runs.specs.Scope.{Absent, Availability, Barred, Bound, Everywhere, Handles}
 use Rattle.shader_runs.specs.Scope.{Inline, Naming, after, after_all, after_emit, after_one}
 use Rattle.shader_runs.specs.Scope.{at_start, availability_without_name, bound_name, forgotten_if}
-use Rattle.shader_runs.specs.Scope.{is_constant_below, is_pure, named_after, named_by, named_by_all}
+use Rattle.shader_runs.specs.Scope.{is_constant_below, named_after, named_by, named_by_all}
 use Rattle.shader_runs.specs.Scope.{start_availability, usable_all, with_emitted_handle}
 use Rattle.shader_runs.specs.World.{update}
 use Rattle.shader_runs.proofs.Sources.{forgotten_bound}
@@ -50,7 +51,7 @@ use Rattle.naga_form.specs.Expressions.{value_form, value_forms}
 use Rattle.naga_form.specs.Statements.{act_line, barrier_lines, cases_form, label_form, let_form}
 use Rattle.naga_form.specs.Statements.{lets_form, line_form, lines_form, loop_form, optional_form}
 use Rattle.naga_form.specs.Statements.{return_line, shape_form, then_if}
-use Rattle.naga_form.proofs.ActWords.{AreCalled, barriers_called}
+use Rattle.naga_form.proofs.CalledWords.{AreCalled, barriers_called}
 use Rattle.naga_form.proofs.Fits.{named_by_all_is, named_by_is, named_is, named_one}
 use Rattle.naga_form.proofs.FittingStatements.{AllFit, CasesFit, ResultIs, ShapeFits, StatementFits}
 use Rattle.naga_form.proofs.ModulePlaces.{expression_is}

@@ -36,7 +36,7 @@ use Rattle.wgsl_text.specs.Types.{Named}
 use Rattle.wgsl_text.proofs.Text.{text-append}
 use Rattle.module_meaning.specs.Accepted.{is_accepted}
 use Rattle.module_meaning.specs.ExpressionOperators.{ExpressionContext, is_atomic_pointer}
-use Rattle.module_meaning.specs.ExpressionShapes.{Declared, shape_of, applied_shape, asking}
+use Rattle.module_meaning.specs.ExpressionShapes.{Declared, shape_of, applied_shape}
 use Rattle.module_meaning.specs.ExpressionShapes.{part_shape, part_selector, applied_or}
 use Rattle.module_meaning.specs.ExpressionTypes.{is_bool, is_bool_of, have_their_types}
 use Rattle.module_meaning.specs.FunctionShapes.{function_shape, statement_shape}
@@ -174,13 +174,13 @@ selector_values m r _ cs is fits = absurd cc
 -- ---- shapes
 -- what holds of each shape that an operator gives holds of that of an operator
 pub applied_any : (P : shapes.Expression → Type 0) (op : Operator) (xs : List ℕ) →
-    P (Request (asking op) (run_word op) xs no_constant) →
+    P (Request (run_word op) xs no_constant) →
     ((j : ShortCircuit) (l r : ℕ) → P (shapes.Logical j l r)) →
     P (shapes.Operator (run_word op) xs) → P (applied_shape op xs)
 applied_any P op xs request circuit word = by (asks op)
   where
     by : (b : Bool) →
-        P (if b then Request (asking op) (run_word op) xs no_constant else operator_shape op xs)
+        P (if b then Request (run_word op) xs no_constant else operator_shape op xs)
     by true = request
     by false = operator_any P op xs circuit word
 

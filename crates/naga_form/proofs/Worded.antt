@@ -4,30 +4,24 @@
 use Rattle.std.proofs.Common.{◌≡◌, ℕ, ◌<◌, ◌≤◌, Bool, true, false, ◌&&◌, ◌||◌, List, [], Option, Some}
 use Rattle.std.proofs.Common.{None, refl, sym, ◌∙◌, subst, arith, nat_lt, codes, not}
 use Rattle.std.specs.Prelude.{unwrap_or}
-use Rattle.std.specs.Option.{is_some}
+use Rattle.std.specs.Option.{is_some, option_map_or}
 use Rattle.std.proofs.lemmas.Bool.{and_parts, or_right, ltb-true}
-use Rattle.naga_ir.specs.StatementTree.{SimpleStatement}
-use Rattle.naga_ir.specs.StatementTree.{control_barrier, memory_barrier, store, image_store, atomic}
-use Rattle.naga_ir.specs.StatementTree.{image_atomic, work_group_uniform_load, call, ray_query}
-use Rattle.naga_ir.specs.StatementTree.{subgroup_ballot, subgroup_gather}
-use Rattle.naga_ir.specs.StatementTree.{subgroup_collective_operation, cooperative_store}
-use Rattle.naga_ir.specs.StatementTree.{ray_pipeline_function, StatementTree, simple, block, branch}
+use Rattle.naga_ir.specs.StatementTree.{SimpleStatement, control_barrier, memory_barrier, store, call}
+use Rattle.naga_ir.specs.StatementTree.{StatementTree, simple, block, branch}
 use Rattle.naga_ir.specs.StatementTree.{switch, loop, BlockTree, no_statements, statement}
 use Rattle.naga_ir.specs.StatementTree.{CaseTrees, no_cases, case, has_no_statements}
 use Rattle.wgsl_text.specs.Requests.{is_request}
 use Rattle.module_meaning.specs.Numbers.{label_fits_32_bits}
 use Rattle.module_meaning.specs.ExpressionOperators.{ExpressionContext, is_atomic_pointer}
 use Rattle.module_meaning.specs.FunctionShapes.{statement_shape, statements_shape, cases_shape}
-use Rattle.module_meaning.specs.OperatorTable.{Operator, TexelStore, TexelChange, AtomicStore}
-use Rattle.module_meaning.specs.OperatorTable.{AtomicChange, UniformLoad, Ballot, Collective}
-use Rattle.module_meaning.specs.OperatorTable.{FromSubgroup, CooperativeStore, TraceRay, asks}
-use Rattle.module_meaning.specs.OperatorTable.{Barrier, StorageKept, WorkgroupKept, SubgroupKept}
-use Rattle.module_meaning.specs.OperatorTable.{TextureKept, RayStep}
-use Rattle.module_meaning.specs.OperatorTable.{operator_word, own_word, run_word, TypeIsSound}
+use Rattle.module_meaning.specs.OperatorTable.{Operator, AtomicStore, Barrier, StorageKept}
+use Rattle.module_meaning.specs.OperatorTable.{WorkgroupKept, SubgroupKept, TextureKept, asks}
+use Rattle.module_meaning.specs.OperatorTable.{has_word, is_untyped, operator_word, own_word, run_word}
+use Rattle.module_meaning.specs.OperatorTable.{TypeIsSound}
 use Rattle.module_meaning.specs.Ranges.{simple_in_range, statement_in_range, block_in_range}
 use Rattle.module_meaning.specs.Ranges.{cases_in_range, is_below}
-use Rattle.module_meaning.specs.StatementShapes.{simple_shape, store_shape, change_of, source_of}
-use Rattle.module_meaning.specs.StatementShapes.{barrier_bits}
+use Rattle.module_meaning.specs.StatementShapes.{act_operator, asked, barrier_bits, simple_shape}
+use Rattle.module_meaning.specs.StatementShapes.{store_shape}
 use Rattle.module_meaning.specs.StatementForms.{simple_has_form, statement_has_form, block_has_forms}
 use Rattle.module_meaning.specs.StatementForms.{cases_have_forms}
 use Rattle.shader_runs.specs.Premises.{AsksBy, EachAsks, IsNoName}
@@ -37,6 +31,7 @@ use Rattle.shader_runs.specs.ProgramRun.{barrier_words, word_if}
 use Rattle.shader_runs.specs.Scope.{Naming}
 use Rattle.shader_runs.specs.Value.{Bytes}
 use Rattle.naga_form.proofs.OperatorEvents.{asks_as_distinguished}
+use Rattle.naga_form.proofs.SoundOperators.{untyped_is_sound}
 use Rattle.naga_form.proofs.Regular.{IsWorded, AreWorded, CasesAreWorded}
 
 -- ---- names
@@ -91,9 +86,14 @@ module _ (all : Bool) (p : shapes.Module) (f : Naming) (free : AsksFreely all p 
       (one_asks bits.texture (codes "textureBarrier") []
       (word_asks (Barrier true TextureKept) refl refl tt) tt)))
 
-  store_has_word : (row_major : Bool) → is_some (operator_word (CooperativeStore row_major)) ≡ true
-  store_has_word true = refl
-  store_has_word false = refl
+  -- an act that asks for an operator
+  own_worded : (s : SimpleStatement) (o : Option Operator) →
+      (all || option_map_or has_word o true) ≡ true →
+      option_map_or (λ op. asks op && is_untyped op) o true ≡ true → IsWorded p f (asked o s)
+  own_worded s None has is = tt
+  own_worded s (Some op) has is =
+      let both = and_parts (asks op) (is_untyped op) is in
+      free.operators op has both.0 (untyped_is_sound op both.1)
 
   module _ (a : ExpressionContext) (count expressions : ℕ) (earlier : count ≤ f.names.earlier) where
     line_worded : (s : SimpleStatement) → simple_in_range count expressions s ≡ true →
@@ -105,28 +105,10 @@ module _ (all : Bool) (p : shapes.Module) (f : Naming) (free : AsksFreely all p 
         by : (to_atomic : Bool) → IsWorded p f (store_shape to_atomic pointer value)
         by true = word_asks AtomicStore refl refl tt
         by false = tt
-    line_worded (image_store image coordinate array_index value) within has =
-        word_asks (TexelStore (is_some array_index)) refl refl tt
-    line_worded (atomic pointer fun value outcome) within has =
-        word_asks (AtomicChange (change_of fun)) refl refl tt
-    line_worded (image_atomic image coordinate array_index fun value) within has =
-        free.operators (TexelChange (change_of fun) (is_some array_index)) has refl tt
-    line_worded (work_group_uniform_load pointer outcome) within has =
-        word_asks UniformLoad refl refl tt
     line_worded (call function arguments outcome) within has =
         let lt = ltb-true function count (and_parts (nat_lt function count) _ within).0 in
         free.callees function (omega (arith, lt, earlier))
-    line_worded (ray_query query) within has = free.operators RayStep has refl tt
-    line_worded (subgroup_ballot outcome predicate) within has =
-        word_asks (Ballot (is_some predicate)) refl refl tt
-    line_worded (subgroup_gather mode argument outcome) within has =
-        word_asks (FromSubgroup (source_of mode)) refl refl tt
-    line_worded (subgroup_collective_operation op collective argument outcome) within has =
-        free.operators (Collective op collective) has refl tt
-    line_worded (cooperative_store target place) within has =
-        word_asks (CooperativeStore place.row_major) (store_has_word place.row_major) refl tt
-    line_worded (ray_pipeline_function fun) within has = word_asks TraceRay refl refl tt
-    line_worded _ within has = tt
+    line_worded s within has = own_worded s (act_operator s) has refl
 
     mutual
       statement_worded : (s : StatementTree) → statement_in_range count expressions s ≡ true →

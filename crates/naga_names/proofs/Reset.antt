@@ -218,7 +218,7 @@ names_in-insert old new key name updates q = ap (option_map string_bytes) (updat
     either b = elim b as (λ t. option_map string_bytes (cond t (Some name) (hash.get same_key old q)) ≡ cond t (Some (string_bytes name)) (names_in old q)) [ true ↦ refl | false ↦ refl ]
 
 -- ---- loops over items
-enumerate_from-append : {X : Type 0} (n : ℕ) (xs ys : List X) → enumerate_from n (xs ++ ys) ≡ enumerate_from n xs ++ enumerate_from (n + length xs) ys
+pub enumerate_from-append : {X : Type 0} (n : ℕ) (xs ys : List X) → enumerate_from n (xs ++ ys) ≡ enumerate_from n xs ++ enumerate_from (n + length xs) ys
 enumerate_from-append n [] ys = ap (λ m. enumerate_from m ys) (sym (add-zero n))
 enumerate_from-append n (x ∷ xs) ys =
     let long : n + 1 + length xs ≡ n + length (x ∷ xs) = omega arith in

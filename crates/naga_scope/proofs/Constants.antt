@@ -18,7 +18,8 @@ use Rattle.naga_ir.specs.declared.module.Module.{Module}
 use Rattle.naga_info.specs.declared.info.ExpressionInfo.{ExpressionInfo}
 use Rattle.naga_info.specs.declared.info.ModuleInfo.{ModuleInfo}
 use Rattle.shader_runs.specs.Program.{Function, expression_of, operands_of}
-use Rattle.shader_runs.specs.Scope.{is_pure, all_constant, constant_test}
+use Rattle.shader_runs.specs.Program.{is_pure}
+use Rattle.shader_runs.specs.Scope.{all_constant, constant_test}
 use Rattle.shader_runs.specs.Scope.{is_constant_below, start_availability, at_start}
 use Rattle.shader_runs.specs.Premises.{AllBelow}
 use Rattle.module_meaning.specs.FunctionShapes.{function_shape}

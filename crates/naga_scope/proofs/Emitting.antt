@@ -20,11 +20,11 @@ use Rattle.naga_names.specs.Keys.{NameMap}
 use Rattle.shader_runs.specs.World.{update}
 use Rattle.shader_runs.specs.Program.{Function, binds, binds_as, expression_of}
 use Rattle.shader_runs.specs.Program.{operands_of, from}
+use Rattle.shader_runs.specs.Program.{is_pure, is_emittable}
 use Rattle.shader_runs.specs.Scope as runs
-use Rattle.shader_runs.specs.Scope.{Naming, Handles, is_pure, is_new, is_emittable, usable_all}
-use Rattle.shader_runs.specs.Scope.{with_emitted_handle, after_one, after_emit, named_after}
+use Rattle.shader_runs.specs.Scope.{Naming, Handles, is_new, usable_all}
+use Rattle.shader_runs.specs.Scope.{with_emitted_handle, after_one}
 use Rattle.shader_runs.specs.Scope.{may_emit}
-use Rattle.shader_runs.specs.Scope.{may_emit_all}
 use Rattle.module_meaning.specs.ExpressionLabels.{label_of}
 use Rattle.module_meaning.specs.Names.{numbered_name}
 use Rattle.naga_form.proofs.Fits.{named_is}

@@ -1,7 +1,7 @@
 -- The shapes of a function's expressions have the kinds and the operands of these, and a `let` binds
 -- what is used as often as its kind asks.
-use Rattle.std.proofs.Common.{◌≡◌, ℕ, Bool, ◌||◌, true, false, List, [], ◌∷◌, map}
-use Rattle.std.proofs.Common.{length, get_or, nat_lt, Option, Some, None, refl, sym, ap, ◌∙◌}
+use Rattle.std.proofs.Common.{◌≡◌, ℕ, Bool, ◌&&◌, ◌||◌, true, false, List, [], ◌∷◌}
+use Rattle.std.proofs.Common.{nat_lt, Option, Some, None, refl, sym, ap, ◌∙◌}
 use Rattle.std.specs.Prelude.{slice_get, if◌then◌else◌}
 use Rattle.std.specs.Option.{is_some, option_map_or}
 use Rattle.naga_ir.specs.Kinds.{kind_of}
@@ -17,47 +17,31 @@ use Rattle.naga_info.specs.declared.info.ModuleInfo.{ModuleInfo}
 use Rattle.shader_runs.specs.Program.{Expression, Load, Operator, Access, AccessIndex, Logical}
 use Rattle.shader_runs.specs.Program.{Argument, Constant, Global, Local, Request, Result, Swizzle}
 use Rattle.shader_runs.specs.Program.{operands_of}
-use Rattle.shader_runs.specs.Program.{Function, expression_of, is_counted, is_named, binds_as, binds}
+use Rattle.shader_runs.specs.Program.{Function, expression_of, is_counted, is_named, binds}
 use Rattle.shader_runs.specs.Scope.{Handles, Availability, is_present, is_constant_leaf}
-use Rattle.shader_runs.specs.Scope.{is_emittable}
-use Rattle.shader_runs.specs.Scope.{is_pure, usable, usable_as}
+use Rattle.shader_runs.specs.Scope.{usable, usable_as}
 use Rattle.shader_runs.specs.Value.{Selector}
-use Rattle.naga_info.specs.declared.info.TypeResolution.TheVariants.{Handle}
-use Rattle.module_meaning.specs.ExpressionOperators.{ExpressionContext, cast, constructor}
-use Rattle.module_meaning.specs.ExpressionOperators.{type_known}
+use Rattle.module_meaning.specs.ExpressionOperators.{ExpressionContext}
 use Rattle.module_meaning.specs.ExpressionOperators.{is_atomic_pointer}
-use Rattle.module_meaning.specs.ExpressionShapes.{asking}
-use Rattle.module_meaning.specs.Shapes.{operator_shape}
-use Rattle.module_meaning.specs.OperatorTable.{asks, run_word}
-use Rattle.shader_runs.specs.Program.{no_constant}
-use Rattle.module_meaning.proofs.ExpressionShapes.{cast_asks, constructor_asks}
 use Rattle.module_meaning.specs.ExpressionShapes.{Declared, shape_of, applied_or, applied_shape}
 use Rattle.module_meaning.specs.ExpressionShapes.{part_selector, part_shape}
-use Rattle.module_meaning.specs.BindingCounts.{is_bound_by_uses}
+use Rattle.module_meaning.specs.BindingCounts.{is_bound_by_uses, uses_of}
 use Rattle.module_meaning.specs.FunctionShapes.{function_shape}
 use Rattle.module_meaning.proofs.BindingCounts.{bound_by_uses_at}
 use Rattle.module_meaning.specs.OperatorTable.{Operator as TableOperator, AtomicLoad, BinarySign}
-use Rattle.module_meaning.specs.OperatorTable.{CooperativeLoad, MatrixLoad, PartAt, WithoutForm}
-use Rattle.naga_ir.specs.declared.types.CooperativeRole.{CooperativeRole}
-use Rattle.naga_ir.specs.declared.types.CooperativeSize.{CooperativeSize}
+use Rattle.module_meaning.specs.OperatorTable.{CooperativeLoad}
 use Rattle.module_meaning.specs.ShapeKinds.{shape_kind}
 use Rattle.module_meaning.specs.ExpressionContexts.{declared, types_known}
 use Rattle.module_meaning.specs.Types.{declared_type}
 use Rattle.module_meaning.proofs.ExpressionShapes.{kind_shaped, shape_kinds, shape_operands}
-use Rattle.module_meaning.proofs.Shapes.{operator_bound}
 use Rattle.naga_form.proofs.Fits.{named_is, mapped_length}
 use Rattle.module_meaning.specs.ExpressionLabels.{label_of}
 use Rattle.naga_form.proofs.ModulePlaces.{expression_at, no_expression_at}
 use Rattle.naga_form.proofs.WellFormed.{applied_any}
 use Rattle.naga_scope.specs.Availabilities.{kind_at, operands_at, is_pure_kind, is_constant_kind}
-use Rattle.naga_scope.specs.Availabilities.{is_emittable_kind, is_image_operation, usable_by}
-use Rattle.module_meaning.specs.ExpressionOperators.{is_depth_image, level_of, query_operator}
-use Rattle.module_meaning.specs.ExpressionOperators.{sample_operator}
-use Rattle.naga_ir.specs.Operands.{cooperative_operands, query_operands}
+use Rattle.naga_scope.specs.Availabilities.{is_emittable_kind, usable_by}
 use Rattle.naga_ir.specs.declared.expression.ImageQuery.{ImageQuery}
-use Rattle.naga_ir.specs.declared.expression.ImageQuery.TheVariants as query
-use Rattle.naga_ir.specs.declared.expression.SwizzleComponent.{SwizzleComponent}
-use Rattle.shader_runs.specs.Program.{is_asked}
+use Rattle.shader_runs.specs.Program.{is_emittable, is_pure}
 
 -- ---- the runs' words for shapes are tests of their kind
 pure_shape : (o : Option Expression) → is_pure o ≡ is_pure_kind (shape_kind o)
@@ -71,7 +55,7 @@ pure_shape (Some (Access base index)) = refl
 pure_shape (Some (AccessIndex selector base)) = refl
 pure_shape (Some (Swizzle letters vector)) = refl
 pure_shape (Some (Logical circuit left right)) = refl
-pure_shape (Some (Request asking word xs ts)) = refl
+pure_shape (Some (Request word xs ts)) = refl
 pure_shape (Some Result) = refl
 pure_shape None = refl
 
@@ -86,7 +70,7 @@ constant_shape (Some (Access base index)) = refl
 constant_shape (Some (AccessIndex selector base)) = refl
 constant_shape (Some (Swizzle letters vector)) = refl
 constant_shape (Some (Logical circuit left right)) = refl
-constant_shape (Some (Request asking word xs ts)) = refl
+constant_shape (Some (Request word xs ts)) = refl
 constant_shape (Some Result) = refl
 constant_shape None = refl
 
@@ -101,21 +85,9 @@ emittable_shape (Some (Access base index)) = refl
 emittable_shape (Some (AccessIndex selector base)) = refl
 emittable_shape (Some (Swizzle letters vector)) = refl
 emittable_shape (Some (Logical circuit left right)) = refl
-emittable_shape (Some (Request asking word xs ts)) = refl
+emittable_shape (Some (Request word xs ts)) = refl
 emittable_shape (Some Result) = refl
 emittable_shape None = refl
-
-never_bound : (f : Function) (h : ℕ) (o : Option Expression) → is_emittable o ≡ false →
-    binds_as f h o ≡ false
-never_bound f h (Some (Load p)) none = absurd cc
-never_bound f h (Some (Request a w xs es)) none = absurd cc
-never_bound f h (Some (Operator w xs)) none = absurd cc
-never_bound f h (Some (Logical j l r)) none = absurd cc
-never_bound f h (Some (Swizzle w v)) none = absurd cc
-never_bound f h (Some (Access b i)) none = absurd cc
-never_bound f h (Some (AccessIndex x b)) none = absurd cc
-never_bound f h (Some _) none = refl
-never_bound f h None none = refl
 
 -- a test that doesn't tell requests from loads holds of an expression's kind as of its shape's
 shaped_test : (test : ExpressionKind → Bool) → test kind.Request ≡ test kind.Load →
@@ -239,131 +211,21 @@ module _ (m : Module) (info : ModuleInfo) (f : ir_function.Function) (es : List 
           ∙ (usable_own h e (s h) ∙ sym (ap (λ o. usable_by f o (s h)) at))
 
   -- ---- what is bound
-  -- how often a handle is used
-  abbrev count : ℕ → ℕ
-  count h = get_or (map (λ e. e.ref_count) es) h 0
-
-  -- whether it has a name, or is used so often
-  abbrev named_or : ℕ → Bool → Bool
-  named_or h counts = is_some (label_of f h) || counts
-
   -- what counts has a name, or is used as often as its kind asks
-  counted : (h : ℕ) {e : ir.Expression} → slice_get f.expressions h ≡ Some e →
-      is_counted shape h ≡ named_or h (is_bound_by_uses e (count h))
-  counted h {e} at =
-      ap (λ b. is_named shape h || b) (bound_by_uses_at f.expressions es h e at)
-      ∙ ap (λ b. b || is_bound_by_uses e (count h)) (named_is m info f es h)
+  counted : (h : ℕ) (e : ir.Expression) → slice_get f.expressions h ≡ Some e →
+      is_counted shape h ≡ (is_some (label_of f h) || is_bound_by_uses e (uses_of es h))
+  counted h e at =
+      ap (λ b. is_named shape h || b) (bound_by_uses_at es f.expressions h e at)
+      ∙ ap (λ b. b || is_bound_by_uses e (uses_of es h)) (named_is m info f es h)
 
-  -- an operator that asks for nothing is bound where it counts
-  silent_binds : (h : ℕ) (op : TableOperator) (xs : List ℕ) → asks op ≡ false →
-      binds_as shape h (Some (applied_shape op xs)) ≡ is_counted shape h
-  silent_binds h op xs silent =
-      ap
-      (λ b. binds_as shape h
-      (Some
-      (if b then Request (asking op) (run_word op) xs no_constant else operator_shape op xs)))
-      silent
-      ∙ operator_bound shape h op xs
-
-  -- a question to an image is always bound
-  query_bound : (h : ℕ) (query : ImageQuery) (xs : List ℕ) →
-      binds_as shape h (Some (applied_shape (query_operator query) xs)) ≡ true
-  query_bound h (query.Size level) xs = refl
-  query_bound h query.NumLevels xs = refl
-  query_bound h query.NumLayers xs = refl
-  query_bound h query.NumSamples xs = refl
-
-  -- the load of a matrix is bound where it counts, whether its type has a form or not
-  load_binds : (h : ℕ) (columns rows : CooperativeSize) (role : CooperativeRole) (row_major : Bool)
-      (o : Option (List ℕ)) (xs : List ℕ) →
-      binds_as shape h
-      (Some
-      (applied_shape
-      (option_map_or (CooperativeLoad row_major) o
-      (WithoutForm (MatrixLoad columns rows role row_major))) xs)) ≡
-      is_counted shape h
-  load_binds h columns rows role row_major None xs = refl
-  load_binds h columns rows role row_major (Some w) xs = refl
-
-  -- what an Emit may give is bound where it has a name, and from its number of uses on, or always
-  pub emitted_binds : (h : ℕ) (e : ir.Expression) →
-      slice_get f.expressions h ≡ Some e →
-      is_emittable_kind (kind_of e) ≡ true →
-      (is_image_operation e || named_or h (is_bound_by_uses e (count h))) ≡ binds shape h
+  -- what an Emit may give is bound where it counts
+  pub emitted_binds : (h : ℕ) (e : ir.Expression) → slice_get f.expressions h ≡ Some e →
+      is_emittable_kind (kind_at f.expressions h) ≡ true →
+      (is_some (label_of f h) || is_bound_by_uses e (uses_of es h)) ≡ binds shape h
   emitted_binds h e at may =
-      sym
-      (ap (binds_as shape h) (expression_at m info f es h e at)
-      ∙ own e at may)
-    where
-      own : (e : ir.Expression) → slice_get f.expressions h ≡ Some e → is_emittable_kind (kind_of e) ≡ true →
-          binds_as shape h (Some (shape_of d f.expressions h e)) ≡
-          (is_image_operation e || named_or h (is_bound_by_uses e (count h)))
-      own (expression.Load pointer) at may = by (is_atomic_pointer d.context pointer)
-        where
-          by : (atomic : Bool) →
-              binds_as shape h
-              (Some
-              (applied_or (Load pointer) (pointer ∷ [])
-              (if atomic then Some AtomicLoad else None))) ≡
-              named_or h (is_bound_by_uses (expression.Load pointer) (count h))
-          by true = counted h at
-          by false = counted h at
-      own (expression.Unary op expr) at may = counted h at
-      own (expression.Binary op left right) at may =
-          operator_bound shape h (BinarySign op) (left ∷ right ∷ []) ∙ counted h at
-      own (expression.Compose ty components) at may =
-          let op = constructor d.context (Handle ty) (length components.items) in
-          silent_binds h op components.items (constructor_asks d.context (Handle ty) _)
-          ∙ counted h at
-      own (expression.ZeroValue ty) at may = absurd cc
-      own (expression.Access base index) at may = counted h at
-      own (expression.AccessIndex base index) at may =
-          by (part_selector d base index) ∙ counted h at
-        where
-          by : (o : Option Selector) →
-              binds_as shape h (Some (part_shape base index o)) ≡ is_counted shape h
-          by (Some x) = refl
-          by None = silent_binds h (WithoutForm (PartAt index)) (base ∷ []) refl
-      own (expression.Select condition accept reject) at may = counted h at
-      own (expression.Splat size value) at may = counted h at
-      own (expression.Swizzle size vector pattern) at may = counted h at
-      own (expression.Derivative axis how expr) at may = counted h at
-      own (expression.As operand kind convert) at may =
-          let op = cast d.context kind convert (type_known d.context operand) in
-          silent_binds h op (operand ∷ []) (cast_asks d.context kind convert _)
-          ∙ counted h at
-      own (expression.Math fun arg arg1 arg2 arg3) at may = counted h at
-      own (expression.Relational fun argument) at may = counted h at
-      own
-          (expression.ImageSample
-          image sampler gather coordinate array_index offset level depth_ref clamp) at may =
-          by gather
-        where
-          by : (g : Option SwizzleComponent) →
-              is_asked shape h
-              (asking
-              (sample_operator
-              (option_map_or is_depth_image (type_known d.context image) false)
-              g (level_of level) (is_some depth_ref) clamp
-              (is_some array_index) (is_some offset))) ≡ true
-          by None = refl
-          by (Some c) = refl
-      own (expression.ImageLoad image coordinate array_index sample level) at may = refl
-      own (expression.ImageQuery image query) at may = query_bound h query (image ∷ query_operands query)
-      own (expression.ArrayLength array) at may = counted h at
-      own (expression.CooperativeLoad columns rows role place) at may =
-          load_binds h columns rows role place.row_major _ (cooperative_operands place)
-          ∙ counted h at
-      own (expression.CooperativeMultiplyAdd x y z) at may = counted h at
-      own (expression.RayQueryGetIntersection query committed) at may = counted h at
-      own (expression.RayQueryVertexPositions query committed) at may = counted h at
-      own (expression.Literal value) at may = absurd cc
-      own (expression.FunctionArgument number) at may = absurd cc
-      own (expression.LocalVariable handle) at may = absurd cc
-      own _ at may = absurd cc
+      sym (ap (λ b. b && is_counted shape h) (emittable_at h ∙ may) ∙ counted h e at)
 
   -- and nothing else is
   pub others_bind : (h : ℕ) → is_emittable_kind (kind_at f.expressions h) ≡ false →
       false ≡ binds shape h
-  others_bind h none =
-      sym (never_bound shape h (expression_of shape h) (emittable_at h ∙ none))
+  others_bind h none = sym (ap (λ b. b && is_counted shape h) (emittable_at h ∙ none))

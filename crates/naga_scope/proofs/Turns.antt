@@ -13,8 +13,9 @@ use Rattle.naga_scope.specs.Continues.{any_continue, before_continue, count_befo
 use Rattle.naga_scope.specs.Walks.{after_each}
 use Rattle.shader_runs.specs.Program as shapes
 use Rattle.shader_runs.specs.Program.{Statements, binds, expression_of, from, operands_of}
+use Rattle.shader_runs.specs.Program.{is_pure}
 use Rattle.shader_runs.specs.Scope.{Absent, Availability, Barred, Bound, Everywhere, Handles, Inline, Names, Naming, after, after_all, after_emit, after_one, after_result}
-use Rattle.shader_runs.specs.Scope.{availability_without_name, bound_name, fits, fits_all, forgotten_handles, forgotten_if, forgotten_one, is_new, is_pure, named_after, named_by, named_by_all}
+use Rattle.shader_runs.specs.Scope.{availability_without_name, bound_name, fits, fits_all, forgotten_handles, forgotten_if, forgotten_one, is_new, named_after, named_by, named_by_all}
 use Rattle.shader_runs.specs.Scope.{usable_all, with_emitted_handle}
 use Rattle.shader_runs.specs.World.{update}
 

@@ -81,16 +81,6 @@ is_emittable_kind kind.Load = true
 is_emittable_kind kind.Request = true
 is_emittable_kind _ = false
 
--- an operation on an image
-abbrev pub is_image_operation : ir.Expression → Bool
-is_image_operation
-    (expression.ImageSample
-    image sampler gather coordinate array_index offset level depth_ref clamp) =
-    true
-is_image_operation (expression.ImageLoad image coordinate array_index sample level) = true
-is_image_operation (expression.ImageQuery image query) = true
-is_image_operation e = false
-
 -- what is in scope at the start of a function is so by these availabilities too
 abbrev pub KeepsStart : Shape → runs.Handles → Type 0
 KeepsStart f s =

@@ -1,9 +1,9 @@
 //! What kind of thing an expression is to the rules of scope, and which expressions a `let` binds
 //! where they are emitted.
 
-ghost use Rattle.std.specs.Prelude.{◌≡◌, ◌||◌, List, get_or, map, slice_get};
+ghost use Rattle.std.specs.Prelude.{◌≡◌, ◌||◌, slice_get};
 ghost use Rattle.std.specs.Option.{is_some, option_map};
-ghost use Rattle.module_meaning.specs.BindingCounts.{is_bound_by_uses, uses_to_bind};
+ghost use Rattle.module_meaning.specs.BindingCounts.{is_bound_by_uses, uses_of, uses_to_bind};
 ghost use Rattle.module_meaning.specs.FunctionShapes.{function_shape};
 ghost use Rattle.module_meaning.specs.ExpressionLabels.{label_of};
 ghost use Rattle.naga_info.specs.declared.info.ModuleInfo.{ModuleInfo};
@@ -11,7 +11,7 @@ ghost use Rattle.naga_ir.specs.declared.module.Module.{Module};
 ghost use Rattle.shader_runs.specs.Program.{binds};
 ghost use Rattle.naga_scope.specs.Availabilities.{is_constant_kind, is_emittable_kind};
 ghost use Rattle.naga_scope.specs.Availabilities.{is_pure_kind};
-ghost use Rattle.naga_scope.specs.Availabilities.{is_image_operation, kind_at};
+ghost use Rattle.naga_scope.specs.Availabilities.{kind_at};
 
 use naga_back::BakeRefCount;
 use naga_info::FunctionInfo;
@@ -50,7 +50,7 @@ pub(crate) fn is_named(function: &Function, handle: Handle<Expression>) -> bool
 
 /// How often the expression with this handle is used.
 fn count_of(info: &FunctionInfo, handle: Handle<Expression>) -> usize
-    ensures { result ≡ get_or (map (λ e. e.ref_count) info.now) handle 0 }
+    ensures { result ≡ uses_of info.now handle }
 {
     match info.expressions.get(handle.index()) {
         Some(known) => known.ref_count,
@@ -99,24 +99,15 @@ pub(crate) fn is_constant_leaf(kind: ExpressionKind) -> bool
     }
 }
 
-/// Whether an expression is an operation on an image, which a `let` binds however often it is used.
-fn asks_an_image(expression: &Expression) -> bool
-    ensures { result ≡ is_image_operation expression.now }
-{
-    match expression {
-        Expression::ImageSample { .. }
-        | Expression::ImageLoad { .. }
-        | Expression::ImageQuery { .. } => true,
-        _ => false,
-    }
-}
-
-/// From how many uses on a `let` binds an expression: naga's number, but one for the load of a
-/// cooperative matrix too, since that reads memory.
+/// From how many uses on a `let` binds an expression: none for an operation on an image, one for the
+/// load of a cooperative matrix, since that reads memory, and naga's number for any other.
 fn uses_to_bind(expression: &Expression) -> usize
     ensures { result ≡ uses_to_bind expression.now }
 {
     match expression {
+        Expression::ImageSample { .. }
+        | Expression::ImageLoad { .. }
+        | Expression::ImageQuery { .. } => 0,
         Expression::CooperativeLoad { .. } => 1,
         _ => expression.bake_ref_count(),
     }
@@ -131,15 +122,15 @@ fn is_asked_for(
     expression: &Expression,
 ) -> bool
     ensures { result ≡ (is_some (label_of function.now handle)
-        || is_bound_by_uses expression.now
-        (get_or (map (λ e. e.ref_count) info.now) handle 0)) }
+        || is_bound_by_uses expression.now (uses_of info.now handle)) }
 {
     is_named(function, handle) || count_of(info, handle) >= uses_to_bind(expression)
 }
 
-/// Whether a `let` binds the expression with this handle where it is emitted: an operation on an
-/// image, a `Load`, a derivative or the load of a cooperative matrix with a use, or another operator,
-/// but no part at an index, with two, and whatever a front end named.
+/// Whether a `let` binds the expression with this handle where it is emitted: what an `Emit` may give,
+/// where a front end named it or it is used as often as its kind asks. An operation on an image asks for
+/// no use, a `Load`, a derivative and the load of a cooperative matrix for one, a part at an index for
+/// the greatest number of them, and any other operator for two.
 pub fn binds(
     types: &UniqueArena<Type_>,
     function: &Function,
@@ -151,8 +142,7 @@ pub fn binds(
 {
     match expression_at(function, handle) {
         Some(expression) => {
-            is_emittable(expression.kind())
-                && (asks_an_image(expression) || is_asked_for(function, info, handle, expression))
+            is_emittable(expression.kind()) && is_asked_for(function, info, handle, expression)
         }
         None => false,
     }

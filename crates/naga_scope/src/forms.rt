@@ -19,12 +19,13 @@ ghost use Rattle.naga_scope.specs.Tables.{AreTablesOf};
 ghost use Rattle.wgsl_text.specs.Words.{stands_in};
 ghost use Rattle.wgsl_words.specs.Words.{scalar_word};
 
+use crate::called::called_str;
 use crate::tables::ModuleTables;
 use module_meaning::type_parts::{converted_scalar, known_has_parts};
 use naga_info::{FunctionInfo, TypeResolution};
 use naga_ir::{
-    CooperativeRole, CooperativeSize, Expression, Handle, Literal, Module, RelationalFunction,
-    SampleLevel, Scalar, ScalarKind, SwizzleComponent, Type_, TypeInner, UniqueArena,
+    CooperativeRole, CooperativeSize, Expression, Handle, Literal, Module, SampleLevel, Scalar,
+    ScalarKind, SwizzleComponent, Type_, TypeInner, UniqueArena,
 };
 use naga_names::NameKey;
 use std::collections::HashMap;
@@ -44,27 +45,33 @@ pub(crate) fn is_written(
     ensures { result ≡ expression_is_written «module».now info.now expression.now }
 {
     match expression {
+        Expression::Literal(literal) => literal_has_form(*literal),
         Expression::Constant(constant) => tables.writes(module, *constant),
+        Expression::ZeroValue(ty) => tables.is_spellable(module, *ty),
         Expression::GlobalVariable(variable) => variable.index() < module.global_variables.len(),
         Expression::Override(_)
-        | Expression::Access { .. }
         | Expression::FunctionArgument(_)
         | Expression::LocalVariable(_)
+        | Expression::Access { .. }
+        | Expression::Swizzle { .. }
         | Expression::Load { .. }
         | Expression::Unary { .. }
         | Expression::Binary { .. }
-        | Expression::Select { .. }
-        | Expression::Splat { .. }
-        | Expression::Swizzle { .. }
-        | Expression::Derivative { .. }
-        | Expression::ImageQuery { .. }
-        | Expression::ArrayLength(_)
-        | Expression::CooperativeMultiplyAdd { .. }
         | Expression::CallResult(_)
         | Expression::AtomicResult { .. }
         | Expression::WorkGroupUniformLoadResult { .. }
         | Expression::SubgroupBallotResult
         | Expression::SubgroupOperationResult { .. } => true,
+        Expression::RayQueryProceedResult => false,
+        Expression::Compose { ty, .. } => tables.is_spellable(module, *ty),
+        Expression::AccessIndex { base, index } => {
+            part_is_written(module, tables, names, info, *base, *index)
+        }
+        Expression::As {
+            expr,
+            kind,
+            convert,
+        } => is_converted(&module.types, info, *expr, *kind, *convert),
         Expression::ImageSample {
             gather,
             level,
@@ -72,30 +79,13 @@ pub(crate) fn is_written(
             clamp_to_edge,
             ..
         } => sampling_has_form(*gather, *level, depth_ref.is_some(), *clamp_to_edge),
-        Expression::AccessIndex { base, index } => {
-            part_is_written(module, tables, names, info, *base, *index)
-        }
-        Expression::ImageLoad { sample, level, .. } => sample.is_none() || level.is_none(),
-        Expression::ZeroValue(ty) => tables.is_spellable(module, *ty),
-        Expression::Compose { ty, .. } => tables.is_spellable(module, *ty),
-        Expression::As {
-            expr,
-            kind,
-            convert,
-        } => is_converted(&module.types, info, *expr, *kind, *convert),
-        Expression::Math { fun, .. } => fun.try_to_wgsl().is_some(),
-        Expression::Relational { fun, .. } => match fun {
-            RelationalFunction::All | RelationalFunction::Any => true,
-            RelationalFunction::IsNan | RelationalFunction::IsInf => false,
-        },
         Expression::CooperativeLoad {
             columns,
             rows,
             role,
             data_,
         } => is_loaded(&module.types, info, *columns, *rows, *role, data_.pointer),
-        Expression::Literal(literal) => literal_has_form(*literal),
-        _ => false,
+        _ => called_str(expression).is_some(),
     }
 }
 

@@ -4,6 +4,7 @@
 #![tactic(auto)]
 
 pub mod binding;
+mod called;
 mod changes;
 pub mod check;
 pub mod continues;
@@ -21,6 +22,7 @@ pub mod tables;
 mod written;
 
 pub use binding::binds;
+pub use called::{called_str, derivative_str, image_query_str};
 pub use continues::split_at_continue;
 pub use declarations::{FormlessDeclaration, FormlessHead, formless_declaration, formless_head};
 pub use forms::{sampling_has_form, scalar_behind, whole_known};

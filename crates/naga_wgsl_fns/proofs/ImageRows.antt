@@ -2,14 +2,14 @@
 use Rattle.std.proofs.Common.{◌≡◌, ℕ, zero, suc, ◌<◌, Bool, true, false, List, [], ◌∷◌, ◌++◌, codes}
 use Rattle.std.proofs.Common.{Option, Some, None, refl, sym, ap, ap₂, ◌∙◌, arith, length, map}
 use Rattle.std.proofs.Common.{append_assoc, decimal}
-use Rattle.std.specs.Prelude.{slice_get, ◌||◌, if◌then◌else◌}
+use Rattle.std.specs.Prelude.{slice_get, ◌||◌}
 use Rattle.std.specs.List.{list_all}
-use Rattle.std.specs.Option.{is_none, is_some, option_map_or, option_to_list}
+use Rattle.std.specs.Option.{is_some, option_map_or, option_to_list}
 use Rattle.std.proofs.lemmas.Bool.{and_parts}
 use Rattle.std.proofs.lemmas.List.{append-nil}
 use Rattle.module_meaning.specs.ExpressionOperators.{level_of, query_operator}
 use Rattle.module_meaning.specs.ExpressionOperators.{sample_operator, texel_of}
-use Rattle.module_meaning.specs.OperatorTable.{Sample, Splat, Texel, if_word, run_word}
+use Rattle.module_meaning.specs.OperatorTable.{Sample, Splat, Texel, has_word, if_word, run_word}
 use Rattle.module_meaning.specs.OperatorTable.{zero_is_written}
 use Rattle.module_meaning.specs.WrittenOut.{is_written_out, written_out_over, written_out_within}
 use Rattle.naga_form.proofs.Operators.{query_is_called}
@@ -51,7 +51,8 @@ use Rattle.wgsl_text.specs.Text.{text}
 use Rattle.wgsl_text.specs.Types.{Named}
 
 -- ---- words
-pub texel_row : (arrayed : Bool) (sample level : Option ℕ) → (is_none sample || is_none level) ≡ true →
+pub texel_row : (arrayed : Bool) (sample level : Option ℕ) →
+    has_word (Texel arrayed (texel_of (is_some sample) (is_some level))) ≡ true →
     codes "textureLoad" ≡ run_word (Texel arrayed (texel_of (is_some sample) (is_some level)))
 texel_row arrayed None None is = refl
 texel_row arrayed None (Some l) is = refl

@@ -9,7 +9,8 @@ use Rattle.float_numerals.specs.Texts as numeral_texts
 use Rattle.float_numerals.specs.Texts.{double_exponent, double_fraction, double_whole}
 use Rattle.float_numerals.specs.Texts.{fraction_digits, whole_digits}
 use Rattle.naga_form.specs.Literals.{power_form}
-use Rattle.wgsl_text.specs.Text.{fraction_text, power_text, precision_text, text}
+use Rattle.float_numerals.specs.Texts.{fraction_text}
+use Rattle.wgsl_text.specs.Text.{power_text, precision_text, text}
 use Rattle.wgsl_text.specs.Token as token
 use Rattle.wgsl_text.specs.Token.{Double, Half, Precision, Single, TokenPiece}
 use Rattle.naga_wgsl_fns.specs.Literals.{i32_text, i64_text, i16_text, u16_text}
@@ -59,11 +60,7 @@ token_row false whole fraction precision =
 token_row true whole fraction precision =
     ap (λ v. 45 ∷ v) (append-nil (whole ++ (fraction_text fraction ++ precision_text precision)))
 
--- the grammar's texts of a fraction and of a power are those of a numeral
-fraction_same : (ds : List ℕ) → numeral_texts.fraction_text ds ≡ fraction_text ds
-fraction_same [] = refl
-fraction_same (d ∷ ds) = refl
-
+-- the grammar's text of a power is that of a numeral
 power_same : (e : ℤ) → numeral_texts.exponent_text e ≡ power_text (power_form e)
 power_same (pos zero) = refl
 power_same (pos (suc n)) = refl
@@ -77,10 +74,8 @@ plain_row d precision =
     let whole = whole_digits d in
     let fraction = fraction_digits d in
     let letters = precision_text precision in
-    append_assoc sign (whole ++ numeral_texts.fraction_text fraction) letters
-    ∙ ap (λ v. sign ++ v)
-    (append_assoc whole (numeral_texts.fraction_text fraction) letters
-    ∙ ap (λ v. whole ++ (v ++ letters)) (fraction_same fraction))
+    append_assoc sign (whole ++ fraction_text fraction) letters
+    ∙ ap (λ v. sign ++ v) (append_assoc whole (fraction_text fraction) letters)
     ∙ sym (token_row d.negative whole fraction precision)
 
 pub single_row : (d : Decimal) → numeral_texts.single_text d ≡ f32_text d
@@ -98,13 +93,12 @@ double_row d =
     let whole = double_whole d in
     let fraction = double_fraction d in
     let power = double_exponent d in
-    let pointed = numeral_texts.fraction_text fraction in
+    let pointed = fraction_text fraction in
     let raised = numeral_texts.exponent_text power in
     append_assoc sign (whole ++ (pointed ++ raised)) (codes "lf")
     ∙ ap (λ v. sign ++ v)
     (append_assoc whole (pointed ++ raised) (codes "lf")
     ∙ ap (λ v. whole ++ v)
     (append_assoc pointed raised (codes "lf")
-    ∙ ap (λ v. v ++ (raised ++ codes "lf")) (fraction_same fraction)
-    ∙ ap (λ v. fraction_text fraction ++ (v ++ codes "lf")) (power_same power)))
+    ∙ ap (λ v. pointed ++ (v ++ codes "lf")) (power_same power)))
     ∙ sym (token_row d.negative whole fraction (Double (power_form power)))

@@ -453,7 +453,6 @@ signed_row f table handle can within =
       where
         of_expression : (e : ir.Expression) → slice_get (expressions f) handle ≡ Some e →
             is_signed (as_value (own_plain (naming f) (source f) operand e)) ≡ is_prefix (Some e)
-        of_expression (expression.Literal value) at = refl
         of_expression (expression.Constant c) at = constant_unsigned f.shader.now (type_names_of f) c
         of_expression (expression.ZeroValue ty) at =
             called_unsigned _ (constructor_called (context f) (Handle ty) 0)
@@ -469,44 +468,19 @@ signed_row f table handle can within =
             parted (Some (expression.Access base index)) at base refl
         of_expression (expression.AccessIndex base index) at =
             parted (Some (expression.AccessIndex base index)) at base refl
-        of_expression (expression.FunctionArgument number) at = refl
-        of_expression (expression.Override o) at = refl
         of_expression (expression.GlobalVariable v) at =
             (variable_unsigned (is_handle_variable f.shader.now v) (global_name (module_names f.shader.now) v)).0
-        of_expression (expression.LocalVariable local) at = refl
         of_expression (expression.Load pointer) at =
             loaded pointer (is_atomic_pointer (context f) pointer)
-        of_expression (expression.Unary op x) at = refl
-        of_expression (expression.Binary op l r) at = refl
-        of_expression (expression.Select c a r) at = refl
-        of_expression (expression.Splat size x) at = refl
-        of_expression (expression.Swizzle size v pattern) at = refl
-        of_expression (expression.Derivative axis how x) at = refl
-        of_expression (expression.Math fun x y z w) at = refl
-        of_expression (expression.Relational fun x) at = refl
-        of_expression
-            (expression.ImageSample
-            image sampler gather coordinate array_index offset level depth_ref clamp) at =
-            refl
-        of_expression (expression.ImageLoad image coordinate array_index sample level) at = refl
         of_expression (expression.ImageQuery image query) at =
             called_unsigned (query_operator query) (query_is_called query) None
             (value_forms operand (image ∷ query_operands query))
-        of_expression (expression.ArrayLength array) at = refl
         of_expression (expression.CooperativeLoad columns rows role place) at =
             called_unsigned _ (load_called (context f) columns rows role place)
             (operator_type (context f) (source f).type_names
             (expression.CooperativeLoad columns rows role place))
             (value_forms operand (cooperative_operands place))
-        of_expression (expression.CooperativeMultiplyAdd x y z) at = refl
-        of_expression (expression.CallResult function) at = refl
-        of_expression (expression.AtomicResult ty comparison) at = refl
-        of_expression (expression.WorkGroupUniformLoadResult ty) at = refl
-        of_expression (expression.SubgroupOperationResult ty) at = refl
-        of_expression expression.SubgroupBallotResult at = refl
-        of_expression expression.RayQueryProceedResult at = refl
-        of_expression (expression.RayQueryGetIntersection query committed) at = refl
-        of_expression (expression.RayQueryVertexPositions query committed) at = refl
+        of_expression _ at = refl
 
     whole : is_signed (as_value (own_form f table handle)) ≡ is_prefix (slice_get (expressions f) handle)
     whole = own (slice_get (expressions f) handle) refl

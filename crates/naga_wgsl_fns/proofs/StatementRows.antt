@@ -1,13 +1,13 @@
 -- The texts of statements, from what is written of them in turn.
 use Rattle.module_meaning.specs.Written.{statement_roots}
 use Rattle.naga_scope.specs.Changes.{statement_changes}
-use Rattle.naga_ir.specs.StatementTree.{image_store, atomic, image_atomic, work_group_uniform_load, call, ray_query}
-use Rattle.naga_ir.specs.StatementTree.{subgroup_ballot, subgroup_gather, subgroup_collective_operation, cooperative_store, ray_pipeline_function}
+use Rattle.naga_ir.specs.StatementTree.{call}
 use Rattle.std.proofs.Common.{Vec, Global}
 use Rattle.naga_ir.specs.declared.statement.SwitchCase.{SwitchCase}
 use Rattle.naga_ir.specs.declared.flags.Barrier.{Barrier}
-use Rattle.naga_ir.specs.StatementTree.{SimpleStatement}
-use Rattle.module_meaning.specs.StatementShapes.{simple_shape, store_shape}
+use Rattle.naga_ir.specs.StatementTree.{SimpleStatement, control_barrier, memory_barrier}
+use Rattle.module_meaning.specs.StatementShapes.{act_operator, asked, simple_shape, store_shape}
+use Rattle.module_meaning.specs.OperatorTable.{Operator}
 use Rattle.wgsl_text.specs.Expressions.{NoArguments}
 use Rattle.shader_runs.specs.Scope.{after, after_result, named_by}
 use Rattle.naga_ir.specs.Operands.{own_operands, own_result, simple_operands, simple_result}
@@ -21,7 +21,7 @@ use Rattle.std.proofs.lemmas.Bool.{and_parts, leb-true, ltb-true}
 use Rattle.std.proofs.lemmas.List.{append-nil, drop_all}
 use Rattle.naga_ir.specs.StatementTree.{BlockTree, StatementTree, emit, return, simple, statement}
 use Rattle.naga_ir.specs.StatementTree.{store, break, continue, kill, block, branch, switch, loop, no_statements}
-use Rattle.std.specs.Option.{option_map, option_to_list}
+use Rattle.std.specs.Option.{is_some, option_map, option_to_list}
 use Rattle.naga_ir.specs.StatementViews.{tree_of, block_of}
 use Rattle.naga_ir.specs.declared.statement.Range.{Range}
 use Rattle.naga_ir.specs.declared.statement.Statement.{Statement}
@@ -171,24 +171,29 @@ abbrev outcome_in : shapes.Statement → Option ℕ
 outcome_in (shapes.Act action xs outcome) = outcome
 outcome_in _ = None
 
--- a statement that does so, with its operands and its result
-record Asks (a : ExpressionContext) (st : StatementTree) : Type 0 where
-  pub acts : IsTrue (acts (statement_shape a st))
-  pub operands : operands_in (statement_shape a st) ≡ own_operands st
-  pub outcome : outcome_in (statement_shape a st) ≡ own_result st
+-- a statement that does so, with these operands and this result
+record Asks (shape : shapes.Statement) (xs : List ℕ) (outcome : Option ℕ) : Type 0 where
+  pub acts : IsTrue (acts shape)
+  pub operands : operands_in shape ≡ xs
+  pub outcome : outcome_in shape ≡ outcome
 
-asks : (a : ExpressionContext) (st : StatementTree) → IsTrue (is_act st) → Asks a st
-asks a (simple (image_store image coordinate array_index value)) act = record { acts = refl; operands = refl; outcome = refl }
-asks a (simple (atomic pointer fun value outcome)) act = record { acts = refl; operands = refl; outcome = refl }
-asks a (simple (image_atomic image coordinate array_index fun value)) act = record { acts = refl; operands = refl; outcome = refl }
-asks a (simple (work_group_uniform_load pointer outcome)) act = record { acts = refl; operands = refl; outcome = refl }
+asks_for : (s : SimpleStatement) (o : Option Operator) → IsTrue (is_some o) →
+    Asks (asked o s) (simple_operands s) (simple_result s)
+asks_for s (Some op) act = record { acts = refl; operands = refl; outcome = refl }
+asks_for s None act = absurd cc
+
+asks : (a : ExpressionContext) (st : StatementTree) → IsTrue (is_act st) →
+    Asks (statement_shape a st) (own_operands st) (own_result st)
 asks a (simple (call function arguments outcome)) act = record { acts = refl; operands = refl; outcome = refl }
-asks a (simple (ray_query query)) act = record { acts = refl; operands = refl; outcome = refl }
-asks a (simple (subgroup_ballot outcome predicate)) act = record { acts = refl; operands = refl; outcome = refl }
-asks a (simple (subgroup_gather mode argument outcome)) act = record { acts = refl; operands = refl; outcome = refl }
-asks a (simple (subgroup_collective_operation op collective argument outcome)) act = record { acts = refl; operands = refl; outcome = refl }
-asks a (simple (cooperative_store target place)) act = record { acts = refl; operands = refl; outcome = refl }
-asks a (simple (ray_pipeline_function fun)) act = record { acts = refl; operands = refl; outcome = refl }
+asks a (simple (emit first last)) act = absurd cc
+asks a (simple break) act = absurd cc
+asks a (simple continue) act = absurd cc
+asks a (simple (return value)) act = absurd cc
+asks a (simple kill) act = absurd cc
+asks a (simple (control_barrier flags)) act = absurd cc
+asks a (simple (memory_barrier flags)) act = absurd cc
+asks a (simple (store pointer value)) act = absurd cc
+asks a (simple s) act = asks_for s (act_operator s) act
 asks a _ act = absurd cc
 
 act_lines : (f : FunctionText) (k : ℕ) (s : Handles) (i : ℕ) (shape : shapes.Statement) → IsTrue (acts shape)

@@ -2,9 +2,9 @@
 -- front ends gave stand in front of a line, s are the handles in scope there, i is the level of the
 -- line, and h is a handle.
 use Rattle.wgsl_text.specs.Statements.{DefaultLabel}
-use Rattle.naga_ir.specs.StatementTree.{ray_query}
 use Rattle.shader_runs.specs.ProgramRun.{barrier_words}
-use Rattle.module_meaning.specs.StatementShapes.{barrier_bits}
+use Rattle.std.specs.Option.{is_some}
+use Rattle.module_meaning.specs.StatementShapes.{act_operator, barrier_bits}
 use Rattle.module_meaning.specs.FunctionShapes.{cases_shape}
 use Rattle.naga_form.specs.Statements.{labels_form, label_form, barrier_lines}
 use Rattle.std.specs.Prelude.{◌∷◌, suc, map}
@@ -17,10 +17,7 @@ use Rattle.std.specs.Prelude.{ℕ, Bool, List, [], ◌++◌, Option, None, Some,
 use Rattle.std.specs.Prelude.{true, false}
 use Rattle.naga_ir.specs.Operands.{simple_result}
 use Rattle.naga_ir.specs.StatementTree.{BlockTree, CaseTrees, SimpleStatement, StatementTree}
-use Rattle.naga_ir.specs.StatementTree.{simple, call, image_store, atomic, image_atomic}
-use Rattle.naga_ir.specs.StatementTree.{work_group_uniform_load, subgroup_ballot, subgroup_gather}
-use Rattle.naga_ir.specs.StatementTree.{subgroup_collective_operation, cooperative_store}
-use Rattle.naga_ir.specs.StatementTree.{ray_pipeline_function}
+use Rattle.naga_ir.specs.StatementTree.{simple, call}
 use Rattle.naga_back.specs.Indentation.{indentation}
 use Rattle.shader_runs.specs.Program.{Action, Asked, Called, binds}
 use Rattle.shader_runs.specs.Form.{word_of}
@@ -121,17 +118,8 @@ lets_text f k s i handles =
 -- ---- acts
 -- a statement that asks for something or calls a function, whatever its operands are
 abbrev pub is_act : StatementTree → Bool
-is_act (simple (image_store image coordinate array_index value)) = true
-is_act (simple (atomic pointer fun value outcome)) = true
-is_act (simple (image_atomic image coordinate array_index fun value)) = true
-is_act (simple (work_group_uniform_load pointer outcome)) = true
 is_act (simple (call function arguments outcome)) = true
-is_act (simple (ray_query query)) = true
-is_act (simple (subgroup_ballot outcome predicate)) = true
-is_act (simple (subgroup_gather mode argument outcome)) = true
-is_act (simple (subgroup_collective_operation op collective argument outcome)) = true
-is_act (simple (cooperative_store target place)) = true
-is_act (simple (ray_pipeline_function fun)) = true
+is_act (simple s) = is_some (act_operator s)
 is_act _ = false
 
 -- by this word

@@ -3,7 +3,7 @@
 ghost use Rattle.std.specs.Prelude.{[], ◌∷◌, ◌<◌, ◌≡◌, length, IsTrue};
 ghost use Rattle.std.specs.Option.{is_some};
 ghost use Rattle.module_meaning.specs.OperatorTable.{Math, Relational, relational_word};
-ghost use Rattle.module_meaning.specs.OperatorTable.{Derivative, run_word};
+ghost use Rattle.module_meaning.specs.OperatorTable.{run_word};
 ghost use Rattle.module_meaning.specs.AlikeTypes.{is_spelled};
 ghost use Rattle.naga_info.specs.declared.info.TypeResolution.TheVariants as resolution;
 ghost use Rattle.naga_form.specs.Operators.{Infix, Prefix, operator_form, unary_form};
@@ -17,14 +17,13 @@ ghost use Rattle.naga_wgsl_fns.specs.Expressions.{pointed_text, reference_text, 
 ghost use Rattle.wgsl_words.specs.Words.{math_word, unary_text};
 
 use crate::functions::FunctionText;
-use crate::images::image_query_str;
 use crate::literal::write_literal;
 use naga_back::binary_operation_str;
 use naga_ir::{
-    BinaryOperator, DerivativeAxis, DerivativeControl, Expression, Handle, LocalVariable,
-    MathFunction, RelationalFunction, Type_, UnaryOperator,
+    BinaryOperator, Expression, Handle, LocalVariable, MathFunction, RelationalFunction, Type_,
+    UnaryOperator,
 };
-use naga_scope::{Availability, Scope};
+use naga_scope::{Availability, Scope, derivative_str, image_query_str};
 use naga_words::words::vector_str;
 use naga_words::{Output, TextSink};
 use std::alloc::Global;
@@ -358,23 +357,6 @@ fn math_function_str(fun: MathFunction) -> &'static str
     match fun.try_to_wgsl() {
         Some(word) => word,
         None => unreachable!(),
-    }
-}
-
-/// The word of a derivative.
-fn derivative_str(axis: DerivativeAxis, control: DerivativeControl) -> &'static str
-    ensures { result.now ≡ run_word (Derivative axis control) }
-{
-    match (axis, control) {
-        (DerivativeAxis::X, DerivativeControl::Coarse) => "dpdxCoarse",
-        (DerivativeAxis::X, DerivativeControl::Fine) => "dpdxFine",
-        (DerivativeAxis::X, DerivativeControl::None) => "dpdx",
-        (DerivativeAxis::Y, DerivativeControl::Coarse) => "dpdyCoarse",
-        (DerivativeAxis::Y, DerivativeControl::Fine) => "dpdyFine",
-        (DerivativeAxis::Y, DerivativeControl::None) => "dpdy",
-        (DerivativeAxis::Width, DerivativeControl::Coarse) => "fwidthCoarse",
-        (DerivativeAxis::Width, DerivativeControl::Fine) => "fwidthFine",
-        (DerivativeAxis::Width, DerivativeControl::None) => "fwidth",
     }
 }
 

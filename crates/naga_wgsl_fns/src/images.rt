@@ -2,7 +2,7 @@
 
 ghost use Rattle.std.specs.Prelude.{◌≡◌, ◌<◌, ◌||◌, Bool, IsTrue, false, length, slice_get, true};
 ghost use Rattle.std.specs.Option.{is_some, option_to_list};
-ghost use Rattle.module_meaning.specs.ExpressionOperators.{level_of, query_operator};
+ghost use Rattle.module_meaning.specs.ExpressionOperators.{level_of};
 ghost use Rattle.module_meaning.specs.ExpressionOperators.{sample_operator};
 ghost use Rattle.module_meaning.specs.OperatorTable.{Sample, run_word, zero_is_written};
 ghost use Rattle.module_meaning.specs.Sampling.{offset_is_written, sampling_is_written};
@@ -18,9 +18,7 @@ ghost use Rattle.naga_wgsl_fns.specs.Images.{is_sampled, offset_text, zero_text}
 
 use crate::functions::FunctionText;
 use naga_back::is_portable;
-use naga_ir::{
-    Expression, Handle, ImageClass, ImageQuery, SampleLevel, SwizzleComponent, TypeInner,
-};
+use naga_ir::{Expression, Handle, ImageClass, SampleLevel, SwizzleComponent, TypeInner};
 use naga_scope::Scope;
 use naga_words::{Output, TextSink};
 use std::alloc::Global;
@@ -268,16 +266,4 @@ fn zero_str(is_whole: bool) -> &'static str
     ensures { result.now ≡ zero_text true is_whole }
 {
     if is_whole { ", 0" } else { ", 0.0" }
-}
-
-/// What asks an image for its size or for one of its counts.
-pub(crate) fn image_query_str(query: ImageQuery) -> &'static str
-    ensures { result.now ≡ run_word (query_operator query) }
-{
-    match query {
-        ImageQuery::Size { .. } => "textureDimensions",
-        ImageQuery::NumLevels => "textureNumLevels",
-        ImageQuery::NumLayers => "textureNumLayers",
-        ImageQuery::NumSamples => "textureNumSamples",
-    }
 }

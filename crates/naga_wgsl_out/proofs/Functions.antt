@@ -66,16 +66,8 @@ use Rattle.module_meaning.proofs.FunctionNumbers.{info_among, type_of_entry_poin
 use Rattle.naga_form.proofs.WrittenFunctions.{entry_point_at}
 use Rattle.naga_wgsl_fns.proofs.FunctionRows.{no_entry_point}
 use Rattle.naga_names.proofs.Refusal.{run_out_unfit}
+use Rattle.naga_names.proofs.Reset.{enumerate_from-append}
 use Rattle.naga_wgsl_out.specs.ModuleRefusals.{KeyIsOutOfRange}
-
--- behind the numbered items of a list stand those of another, numbered on
-numbered_on : {X : Type 0} (n : ℕ) (xs ys : List X) →
-    enumerate_from n (xs ++ ys) ≡ enumerate_from n xs ++ enumerate_from (n + length xs) ys
-numbered_on n [] ys = let same : n ≡ n + 0 = omega arith in ap (λ k. enumerate_from k ys) same
-numbered_on n (x ∷ xs) ys =
-    let moved : (n + 1) + length xs ≡ n + suc (length xs) = omega arith in
-    ap (λ more. (n, x) ∷ more)
-    (numbered_on (n + 1) xs ys ∙ ap (λ k. enumerate_from (n + 1) xs ++ enumerate_from k ys) moved)
 
 -- ---- the lines of functions and of entry points
 module _ (m : Module) (info : ModuleInfo) (flags : WriterFlags)
@@ -211,7 +203,7 @@ written_lines m info flags accepted =
     let first = enumerate_from 0 m.functions in
     let points = entry_functions m.entry_points.items in
     ap (λ t. front_text m info flags ++ t)
-    (ap (lines_of m info flags) (numbered_on 0 m.functions points)
+    (ap (lines_of m info flags) (enumerate_from-append 0 m.functions points)
     ∙ (flat_map-append (line_of m info flags) first (enumerate_from (0 + length m.functions) points)
     ∙ sym (λ i. functions_are i ++ points_are i)))
     ∙ (front_then m info flags (text (functions_pieces functions) ++ text (entry_points_pieces entry_points))

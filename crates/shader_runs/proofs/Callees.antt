@@ -16,7 +16,7 @@ use Rattle.shader_runs.specs.Program.{Action, Asked, Called, Access, AccessIndex
 use Rattle.shader_runs.specs.Program.{Constant, Emit, Argument, Local, Global, Expression, Function}
 use Rattle.shader_runs.specs.Program.{Block, If, Switch, Loop, Return, Act, Store, Label, Load, Logical}
 use Rattle.shader_runs.specs.Program.{Numbered, Operator, Request, Statement, Statements, Swizzle, end}
-use Rattle.shader_runs.specs.Program.{expression_of, from, handle_type, is_asked, is_counted}
+use Rattle.shader_runs.specs.Program.{expression_of, from, handle_type, is_counted}
 use Rattle.shader_runs.specs.Program.{operands_of, then}
 use Rattle.shader_runs.specs.ProgramRun.{Call, KeptValues, action_answer, after_load, after_request}
 use Rattle.shader_runs.specs.ProgramRun.{also, computed_value, constant_values, constants_kept, emit}
@@ -70,9 +70,9 @@ module _ (c : Call) (told : List Function) (body : Statements) where
       (λ v. if_counted (is_counted c.function h)
       (after_load c.environment.parts (handle_type c.function h) c.world h v) kept t)
       (used kept p)
-  one_emitted h (Some (Request a w xs es)) kept t =
+  one_emitted h (Some (Request w xs es)) kept t =
       ap
-      (λ vs. if_counted (is_asked c.function h a)
+      (λ vs. if_counted (is_counted c.function h)
       (after_request c.environment.parts (handle_type c.function h) c.world h w
       (joined_values vs (constant_values c.environment c.meaning es))) kept t)
       (used_all kept xs)

@@ -197,7 +197,7 @@ module _ (p : Module) (f : Naming) (i : ℕ) where
   word_before : (e : Option Expression) → WordFits p f e → WordFits p (before f i) e
   word_before (Some (Constant e)) w = constant_before e w
   word_before (Some (Operator word xs)) w = (w.0, w.1, free_before word w.2)
-  word_before (Some (Request a word xs es)) w = ((w.0.0, free_before word w.0.1), constants_before es w.1)
+  word_before (Some (Request word xs es)) w = ((w.0.0, free_before word w.0.1), constants_before es w.1)
   word_before (Some _) w = tt
   word_before None w = tt
 

@@ -5,9 +5,10 @@ use Rattle.shader_runs.specs.Value.{Bytes}
 use Rattle.shader_runs.specs.Program.{Expression, Statement, Emit, Store, Block, If, Switch, Loop}
 use Rattle.shader_runs.specs.Program.{Return, Barrier, Act, Statements, end, then, Cases, no_case}
 use Rattle.shader_runs.specs.Program.{case, Module, expression_of, operands_of, binds, from}
+use Rattle.shader_runs.specs.Program.{is_emittable}
 use Rattle.shader_runs.specs.ProgramRun.{Call, barrier_words}
 use Rattle.shader_runs.specs.Scope.{Bound, Handles, Names, bound_name, usable, usable_all}
-use Rattle.shader_runs.specs.Scope.{usable_if, is_new, is_emittable, named_after, named_by}
+use Rattle.shader_runs.specs.Scope.{usable_if, is_new, named_after, named_by}
 use Rattle.shader_runs.specs.Scope.{named_by_all, after_one, after, after_all}
 use Rattle.shader_runs.specs.Premises.{FixedName, fixed_name, EachAsks, ActionFits, ReturnFits}
 use Rattle.shader_runs.specs.Premises.{IsResult, FallsFrom, FallsEmpty}

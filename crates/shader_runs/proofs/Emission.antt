@@ -8,9 +8,10 @@ use Rattle.shader_runs.specs.World.{Event, Ask, Read, update, bind}
 use Rattle.shader_runs.specs.Outcome.{Outcome, Done, Next, and_then, Continued, Broke, Returned}
 use Rattle.shader_runs.specs.Outcome.{Stopped, ReachedOrHalted, Gives, or_stuck, reach, unless}
 use Rattle.shader_runs.specs.Program.{Expression, Constant, Argument, Local, Global, Load, Operator}
-use Rattle.shader_runs.specs.Program.{Access, AccessIndex, Logical, Swizzle, Request, AskingRule}
+use Rattle.shader_runs.specs.Program.{Access, AccessIndex, Logical, Swizzle, Request}
 use Rattle.shader_runs.specs.Program.{ConstantTrees, expression_of, handle_type, operands_of}
-use Rattle.shader_runs.specs.Program.{is_counted, is_asked, binds, binds_as, Module}
+use Rattle.shader_runs.specs.Program.{is_counted, binds, binds_as, Module}
+use Rattle.shader_runs.specs.Program.{is_pure, is_emittable}
 use Rattle.shader_runs.specs.ProgramRun.{Call, KeptValues, used_value_as, constant_values}
 use Rattle.shader_runs.specs.ProgramRun.{used_value}
 use Rattle.shader_runs.specs.ProgramRun.{used_values, joined_values, combined_value, computed_value}
@@ -20,8 +21,8 @@ use Rattle.shader_runs.specs.Text.{Apply, Lines}
 use Rattle.shader_runs.specs.TextRun.{Denotation, IsValue, Scope, read_value, as_value, word_answer}
 use Rattle.shader_runs.specs.TextRun.{evaluate_all, value_of, with_value, follow_in_loop, IsPlace}
 use Rattle.shader_runs.specs.Scope.{Availability, Absent, Barred, Everywhere, is_present, is_new}
-use Rattle.shader_runs.specs.Scope.{Inline, Bound, Handles, Names, bound_name, is_pure}
-use Rattle.shader_runs.specs.Scope.{is_emittable, usable, usable_all, availability_without_name}
+use Rattle.shader_runs.specs.Scope.{Inline, Bound, Handles, Names, bound_name}
+use Rattle.shader_runs.specs.Scope.{usable, usable_all, availability_without_name}
 use Rattle.shader_runs.specs.Scope.{with_emitted_handle, after_one}
 use Rattle.shader_runs.specs.Scope.{named_after, after_emit}
 use Rattle.shader_runs.specs.Form.{value_form, place_form, value_forms_then, constant_forms}
@@ -363,10 +364,10 @@ module _ (p : Module) (c : Call) (n : Names) (d : Respond) (facts : Facts p c n 
         (agree_update s kept h (Some value) (λ p. absurd (none p)))))
 
     emit_request : (IsTrue (is_present (s h)) → ⊥) →
-        (b : Bool) (q : AskingRule) (w : Bytes) (xs : List ℕ) (es : ConstantTrees) →
-        WordFits p (naming c n) (Some (Request q w xs es)) → ConstantsInRange p es →
+        (b : Bool) (w : Bytes) (xs : List ℕ) (es : ConstantTrees) →
+        WordFits p (naming c n) (Some (Request w xs es)) → ConstantsInRange p es →
         ConstantsTyped c.environment.parts p c.meaning es →
-        MayBind c n b s x (Some (Request q w xs es)) →
+        MayBind c n b s x (Some (Request w xs es)) →
         GoesOn c n R P Q B s kept (with_emitted_handle b false (usable_all c.function s xs) x s h) f
         (follow_in_loop (words c d) bound tail) →
         Alike R P Q B
@@ -377,7 +378,7 @@ module _ (p : Module) (c : Call) (n : Names) (d : Respond) (facts : Facts p c n 
         (let_if b x (Apply w
         (value_forms_then (written_form (naming c n) s) xs (constant_forms n.outer es))) tail) names
         t)
-    emit_request none true q w xs es y i k m next =
+    emit_request none true w xs es y i k m next =
         let forms = value_forms_then (written_form (naming c n) s) xs (constant_forms n.outer es) in
         request_at none w m.1 next
         (joined_values (used_values c kept xs) (constant_values c.environment c.meaning es))
@@ -392,7 +393,7 @@ module _ (p : Module) (c : Call) (n : Names) (d : Respond) (facts : Facts p c n 
         i (all_here p c n d facts s names kept r xs m.0) t ∙ ap (λ os. reach os t) e)
         ∙ ap (λ q. read_value c.world (as_value q))
         (request_responds p c n d facts.responds w y.0 vs t))
-    emit_request none false q w xs es y i k m next = next kept names t r (agree_refl s kept)
+    emit_request none false w xs es y i k m next = next kept names t r (agree_refl s kept)
 
     emit_one_as : (e : Option Expression) → WordFits p (naming c n) e →
         LeafFits p c.function (handle_type c.function h) e →
@@ -406,7 +407,7 @@ module _ (p : Module) (c : Call) (n : Names) (d : Respond) (facts : Facts p c n 
         (let_if (binds_as c.function h e) x
         (value_form (own_form (naming c n) (written_form (naming c n) s) e)) tail) names t)
     emit_one_as (Some (Load q)) y i l e k m next = emit_load (no_event (Some (Load q)) e (λ vs. refl)) (is_counted c.function h) q m next
-    emit_one_as (Some (Request q w xs es)) y i l e k m next = emit_request (no_event (Some (Request q w xs es)) e (λ vs. refl)) (is_asked c.function h q) q w xs es y i l m next
+    emit_one_as (Some (Request w xs es)) y i l e k m next = emit_request (no_event (Some (Request w xs es)) e (λ vs. refl)) (is_counted c.function h) w xs es y i l m next
     emit_one_as (Some (Operator w xs)) y i l e k m next = emit_pure (is_counted c.function h) (Some (Operator w xs)) e refl y i m next
     emit_one_as (Some (Access u v)) y i l e k m next = emit_pure (is_counted c.function h) (Some (Access u v)) e refl y i m next
     emit_one_as (Some (AccessIndex u v)) y i l e k m next = emit_pure (is_counted c.function h) (Some (AccessIndex u v)) e refl y i m next

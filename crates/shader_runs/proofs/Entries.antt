@@ -13,7 +13,7 @@ use Rattle.shader_runs.specs.Program.{Action, Asked, Called, Label, Numbered, St
 use Rattle.shader_runs.specs.Program.{Store, Block, If, Switch, Loop, Break, Continue, Return, Kill}
 use Rattle.shader_runs.specs.Program.{Barrier, Act, Statements, end, then, Cases, no_case, case}
 use Rattle.shader_runs.specs.Program.{Function, argument_count, expression_of, handle_type}
-use Rattle.shader_runs.specs.Program.{is_counted, is_asked, from}
+use Rattle.shader_runs.specs.Program.{is_counted, from}
 use Rattle.shader_runs.specs.ProgramRun.{Call, KeptValues, constant_values, used_value, used_values}
 use Rattle.shader_runs.specs.ProgramRun.{joined_values, barrier_words, same_label, has_label}
 use Rattle.shader_runs.specs.ProgramRun.{label_if, constants_kept, first_used_all}
@@ -152,11 +152,11 @@ module _ (calls : ℕ → List Value → Course) where
           let parts = c.environment.parts in
           let k = handle_type c.function h in
           chosen_enters (is_counted c.function h) (load_process parts k h kept (used_value c kept p)) (gives (DoneWith kept)) (load_enters parts k h kept (used_value c kept p)) (λ t. tt)
-      one_enters h (Some (Request a w xs es)) kept =
+      one_enters h (Some (Request w xs es)) kept =
           let parts = c.environment.parts in
           let k = handle_type c.function h in
           let o = joined_values (used_values c kept xs) (constant_values c.environment c.meaning es) in
-          chosen_enters (is_asked c.function h a) (ask_process parts k h w kept o) (gives (DoneWith kept)) (ask_enters parts k h w kept o) (λ t. tt)
+          chosen_enters (is_counted c.function h) (ask_process parts k h w kept o) (gives (DoneWith kept)) (ask_enters parts k h w kept o) (λ t. tt)
       one_enters h (Some (Operator w xs)) kept = λ t. tt
       one_enters h (Some (Access b i)) kept = λ t. tt
       one_enters h (Some (AccessIndex x b)) kept = λ t. tt

@@ -15,6 +15,7 @@ use Rattle.shader_runs.specs.Program.{Swizzle, Request, Result, argument_count, 
 use Rattle.shader_runs.specs.Program.{local_pointer, expression_of, handle_type, operands_of}
 use Rattle.shader_runs.specs.Program.{VariableShape, Held, AtPlace, is_held, variable_type}
 use Rattle.shader_runs.specs.Program.{variable_shape_at, Module}
+use Rattle.shader_runs.specs.Program.{is_pure}
 use Rattle.shader_runs.specs.ProgramRun.{Call, KeptValues, constant_value, constant_values}
 use Rattle.shader_runs.specs.ProgramRun.{global_value}
 use Rattle.shader_runs.specs.ProgramRun.{used_value_as, used_value, also, used_values}
@@ -25,7 +26,7 @@ use Rattle.shader_runs.specs.TextRun.{Scope, word_answer, followed_by, as_value,
 use Rattle.shader_runs.specs.TextRun.{evaluate_all, value_of}
 use Rattle.shader_runs.specs.Scope.{Availability, Absent, Barred, Everywhere, Inline, Bound}
 use Rattle.shader_runs.specs.Scope.{Handles}
-use Rattle.shader_runs.specs.Scope.{Names, usable, usable_as, usable_all, is_pure, is_present}
+use Rattle.shader_runs.specs.Scope.{Names, usable, usable_as, usable_all, is_present}
 use Rattle.shader_runs.specs.Form.{Plain, AsValue, AsPlace, value_form, place_form}
 use Rattle.shader_runs.specs.Form.{value_forms_then, constant_form, constant_forms, global_form}
 use Rattle.shader_runs.specs.Form.{own_form, availability_form, written_below, written_form}
@@ -428,7 +429,7 @@ module _ (p : Module) (c : Call) (n : Names) (d : Respond) (facts : Facts p c n 
     inline_there k (Some (Local i)) f l o u us v q m = local_means i u
     inline_there k (Some (Global held i)) f l o u us v q m = global_means held i l.0 l.1
     inline_there k (Some (Load x)) f l o u us v q m = absurd (no_value c.environment.parts k o v (q ∙ unwritten c.environment.parts c.meaning (Some (Load x)) (λ vs. refl) (used_values c kept (x ∷ []))))
-    inline_there k (Some (Request a w xs es)) f l o u us v q m = absurd (no_value c.environment.parts k o v (q ∙ unwritten c.environment.parts c.meaning (Some (Request a w xs es)) (λ vs. refl) (used_values c kept xs)))
+    inline_there k (Some (Request w xs es)) f l o u us v q m = absurd (no_value c.environment.parts k o v (q ∙ unwritten c.environment.parts c.meaning (Some (Request w xs es)) (λ vs. refl) (used_values c kept xs)))
     inline_there k (Some Result) f l o u us v q m = absurd (no_value c.environment.parts k o v (q ∙ unwritten c.environment.parts c.meaning (Some Result) (λ vs. refl) (used_values c kept [])))
     inline_there k (Some (Operator w xs)) f l o u us v q m = operator_there k (Some (Operator w xs)) refl f l o v q us m
     inline_there k (Some (Access b i)) f l o u us v q m = operator_there k (Some (Access b i)) refl f l o v q us m

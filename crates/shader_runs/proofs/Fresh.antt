@@ -7,10 +7,11 @@ use Rattle.shader_runs.specs.Program.{Expression, Statement, Emit, Store, Block,
 use Rattle.shader_runs.specs.Program.{Break, Continue, Return, Kill, Barrier, Act, Statements, end}
 use Rattle.shader_runs.specs.Program.{then, Cases, no_case, case, expression_of, operands_of}
 use Rattle.shader_runs.specs.Program.{is_named, binds, from, Module}
+use Rattle.shader_runs.specs.Program.{is_emittable}
 use Rattle.shader_runs.specs.ProgramRun.{Call}
 use Rattle.shader_runs.specs.Scope.{Availability, Bound, Handles, Names, bound_name, usable}
 use Rattle.shader_runs.specs.Scope.{usable_all}
-use Rattle.shader_runs.specs.Scope.{usable_if, is_new, is_emittable, after_one, named_after}
+use Rattle.shader_runs.specs.Scope.{usable_if, is_new, after_one, named_after}
 use Rattle.shader_runs.specs.Scope.{named_after_all, named_by, named_by_all, named_by_cases, after}
 use Rattle.shader_runs.specs.Scope.{after_all, at_start, may_emit, may_emit_all, may_give, fits}
 use Rattle.shader_runs.specs.Scope.{fits_all, fits_cases}

@@ -13,9 +13,10 @@ use Rattle.shader_runs.specs.Program.{Swizzle, Asked, Statement, Emit, Block, If
 use Rattle.shader_runs.specs.Program.{Statements, end, then, argument_count, local_count}
 use Rattle.shader_runs.specs.Program.{expression_of, handle_type, operands_of, is_named, binds}
 use Rattle.shader_runs.specs.Program.{from, holds_continue, Module}
+use Rattle.shader_runs.specs.Program.{is_pure}
 use Rattle.shader_runs.specs.Scope.{Bound, Handles, Naming, at_start, start_availability}
 use Rattle.shader_runs.specs.Scope.{bound_name}
-use Rattle.shader_runs.specs.Scope.{is_present, usable_as, usable_if, usable_all, is_pure}
+use Rattle.shader_runs.specs.Scope.{is_present, usable_as, usable_if, usable_all}
 use Rattle.shader_runs.specs.Scope.{all_constant, constant_test, is_constant_below}
 use Rattle.shader_runs.specs.Scope.{availability_without_name}
 use Rattle.shader_runs.specs.Scope.{with_emitted_handle, named_after, named_after_all, named_by}

@@ -16,7 +16,7 @@ use Rattle.shader_runs.specs.Program.{Logical, Swizzle, Request, Action, Asked, 
 use Rattle.shader_runs.specs.Program.{Numbered, Statement, Emit, Store, Block, If, Switch, Loop}
 use Rattle.shader_runs.specs.Program.{Break, Continue, Return, Kill, Barrier, Act, Statements, end}
 use Rattle.shader_runs.specs.Program.{then, Cases, no_case, case, Function, argument_count}
-use Rattle.shader_runs.specs.Program.{expression_of, handle_type, operands_of, is_counted, is_asked}
+use Rattle.shader_runs.specs.Program.{expression_of, handle_type, operands_of, is_counted}
 use Rattle.shader_runs.specs.Program.{from}
 use Rattle.shader_runs.specs.ProgramRun.{Call, KeptValues, constant_values, used_value}
 use Rattle.shader_runs.specs.ProgramRun.{used_value_as}
@@ -207,8 +207,8 @@ module _ (w : World) (n : ℕ) where
         (load_process env.parts (handle_type f h) h kept (used_value alone kept p))
         (ap (λ o. after_load env.parts (handle_type f h) w h o kept t) (used_alone kept p)
         ∙ load_performed env.parts (handle_type f h) h kept t (used_value alone kept p))
-    one_performed h (Some (Request a word xs es)) kept t =
-        counted_performed (is_asked f h a)
+    one_performed h (Some (Request word xs es)) kept t =
+        counted_performed (is_counted f h)
         (after_request env.parts (handle_type f h) w h word
         (joined_values (used_values c kept xs) (constant_values env m es))) kept t
         (ask_process env.parts (handle_type f h) h word kept

@@ -15,7 +15,7 @@ use Rattle.shader_runs.specs.Program.{Swizzle, Request, Action, Asked, Called, L
 use Rattle.shader_runs.specs.Program.{Statement, Emit, Store, Block, If, Switch, Loop, Break}
 use Rattle.shader_runs.specs.Program.{Continue, Return, Kill, Barrier, Act, Statements, end, then}
 use Rattle.shader_runs.specs.Program.{Cases, no_case, case, Function, argument_count, expression_of}
-use Rattle.shader_runs.specs.Program.{handle_type, is_counted, is_asked, from}
+use Rattle.shader_runs.specs.Program.{handle_type, is_counted, from}
 use Rattle.shader_runs.specs.ProgramRun.{Call, KeptValues, constant_values, used_value, used_values}
 use Rattle.shader_runs.specs.ProgramRun.{computed_value, joined_values, barrier_words, same_label}
 use Rattle.shader_runs.specs.ProgramRun.{has_label, label_if, constants_kept, first_used_all}
@@ -159,8 +159,8 @@ module _ (c : Call) (calls : ℕ → List Value → Process) where
   abbrev pub emit_one : ℕ → Option Expression → KeptValues → Process
   emit_one h (Some (Load p)) kept =
       if_true (is_counted c.function h) (load_process c.environment.parts (handle_type c.function h) h kept (used_value c kept p)) (gives (DoneWith kept))
-  emit_one h (Some (Request a w xs es)) kept =
-      if_true (is_asked c.function h a)
+  emit_one h (Some (Request w xs es)) kept =
+      if_true (is_counted c.function h)
       (ask_process c.environment.parts (handle_type c.function h) h w kept
       (joined_values (used_values c kept xs) (constant_values c.environment c.meaning es)))
       (gives (DoneWith kept))

@@ -14,15 +14,16 @@ use Rattle.shader_runs.specs.Outcome.{ReachedOrHalted, Gives, Halts, answer, Nex
 use Rattle.shader_runs.specs.Outcome.{and_continue}
 use Rattle.shader_runs.specs.Outcome.{within, and_again, turn, turns, after_switch, branch_by}
 use Rattle.shader_runs.specs.Outcome.{with_integer, or_stuck}
-use Rattle.shader_runs.specs.Program.{AskingRule, ConstantTrees, Expression, Local, Load, Operator}
+use Rattle.shader_runs.specs.Program.{ConstantTrees, Expression, Local, Load, Operator}
 use Rattle.shader_runs.specs.Program.{Access, AccessIndex, Logical, Swizzle, Request, Action, Asked}
 use Rattle.shader_runs.specs.Program.{Called, Label, Numbered, Statement, Emit, Store, Block, If}
 use Rattle.shader_runs.specs.Program.{Switch, Loop, Break, Continue, Return, Kill, Barrier, Act}
 use Rattle.shader_runs.specs.Program.{Statements, end, then, Cases, no_case, case, Function}
 use Rattle.shader_runs.specs.Program.{argument_count, local_count, function_numbered, expression_of}
-use Rattle.shader_runs.specs.Program.{handle_type, operands_of, is_counted, is_asked, binds_as}
+use Rattle.shader_runs.specs.Program.{handle_type, operands_of, is_counted, binds_as}
 use Rattle.shader_runs.specs.Program.{from, holds_continue, any_continue, some_case_continues}
 use Rattle.shader_runs.specs.Program.{Module}
+use Rattle.shader_runs.specs.Program.{is_pure, is_emittable}
 use Rattle.shader_runs.specs.ProgramRun.{Call, KeptValues, constant_values, used_value, used_values}
 use Rattle.shader_runs.specs.ProgramRun.{joined_values, computed_value, if_typed, after_load}
 use Rattle.shader_runs.specs.ProgramRun.{after_request, if_counted, emit_as, emit, with_pointer}
@@ -36,7 +37,7 @@ use Rattle.shader_runs.specs.TextRun.{Scope, no_names}
 use Rattle.shader_runs.specs.Scope.{Availability, Absent, Barred, Everywhere, Inline, Bound}
 use Rattle.shader_runs.specs.Scope.{Handles}
 use Rattle.shader_runs.specs.Scope.{ModuleNames, Names, Naming, bound_name, is_present, is_new}
-use Rattle.shader_runs.specs.Scope.{is_pure, is_emittable, before_local, usable, usable_as}
+use Rattle.shader_runs.specs.Scope.{before_local, usable, usable_as}
 use Rattle.shader_runs.specs.Scope.{usable_all, usable_if, availability_without_name}
 use Rattle.shader_runs.specs.Scope.{with_emitted_handle, after_one, named_after}
 use Rattle.shader_runs.specs.Scope.{named_by, named_by_all, after_emit, after_result, after}
@@ -327,17 +328,17 @@ module _ (p : Module) (c : Call) (n : Names) (sound : Sound p c) where
         subst (λ o. Emits (update s h (Bound x)) (after_load c.environment.parts (handle_type c.function h) c.world h o kept t)) (sym place.1) (answer_kept (c.world t (Read place.0)) (Read place.0))
     emit_load false u q l m = done y
 
-    emit_request : (b u : Bool) (a : AskingRule) (w : Bytes) (xs : List ℕ) (es : ConstantTrees) →
+    emit_request : (b u : Bool) (w : Bytes) (xs : List ℕ) (es : ConstantTrees) →
         ConstantsInRange p es → ConstantsTyped c.environment.parts p c.meaning es →
-        MayBind c n b s x (Some (Request a w xs es)) →
+        MayBind c n b s x (Some (Request w xs es)) →
         Emits (with_emitted_handle b false u x s h)
         (if_counted b (after_request c.environment.parts (handle_type c.function h) c.world h w
         (joined_values (used_values c kept xs) (constant_values c.environment c.meaning es))) kept
         t)
-    emit_request true u a w xs es i k m =
+    emit_request true u w xs es i k m =
         let vs = request_there p c s kept (uses s kept y) sound.environment xs es i k m.0 in
         subst (λ os. Emits (update s h (Bound x)) (after_request c.environment.parts (handle_type c.function h) c.world h w os kept t)) (sym vs.1) (answer_kept (c.world t (Ask w vs.0)) (Ask w vs.0))
-    emit_request false u a w xs es i k m = done y
+    emit_request false u w xs es i k m = done y
 
     value : (e : Option Expression) → expression_of c.function h ≡ e → IsTrue (is_pure e) →
         IsTrue (usable_all c.function s (operands_of e)) →
@@ -370,7 +371,7 @@ module _ (p : Module) (c : Call) (n : Names) (sound : Sound p c) where
         Emits (with_emitted_handle (binds_as c.function h e) (is_pure e)
         (usable_all c.function s (operands_of e)) x s h) (emit_as c h e kept t)
     emit_as_proceeds (Some (Load q)) e l i k z m = emit_load (is_counted c.function h) (usable_all c.function s (q ∷ [])) q l m
-    emit_as_proceeds (Some (Request a w xs es)) e l i k z m = emit_request (is_asked c.function h a) (usable_all c.function s xs) a w xs es i k m
+    emit_as_proceeds (Some (Request w xs es)) e l i k z m = emit_request (is_counted c.function h) (usable_all c.function s xs) w xs es i k m
     emit_as_proceeds (Some (Operator w xs)) e l i k z m = emit_pure _ (Some (Operator w xs)) e refl m
     emit_as_proceeds (Some (Access a b)) e l i k z m = emit_pure _ (Some (Access a b)) e refl m
     emit_as_proceeds (Some (AccessIndex a b)) e l i k z m = emit_pure _ (Some (AccessIndex a b)) e refl m

@@ -76,7 +76,7 @@ module _ (p : Module) (f : Naming) (distinct : AreDistinct p f) where
     leaf_named names knows k (Some (Local i)) fits leaf stands = knows.fixed (LocalName i) stands stands
     leaf_named names knows k (Some (Global held i)) fits leaf stands = knows.fixed (GlobalName i) leaf.0 tt
     leaf_named names knows k (Some (Operator word xs)) fits leaf stands = knows.free word fits.2
-    leaf_named names knows k (Some (Request a word xs es)) fits leaf stands =
+    leaf_named names knows k (Some (Request word xs es)) fits leaf stands =
         (knows.free word fits.0.1, constants_named p f distinct words leaves (local_count f.function) names knows es leaf fits.1)
     leaf_named names knows k _ fits leaf stands = tt
 

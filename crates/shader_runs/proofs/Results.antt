@@ -15,7 +15,7 @@ use Rattle.shader_runs.specs.Program.{Numbered, Default, Statement, Emit, Store,
 use Rattle.shader_runs.specs.Program.{Loop, Break, Continue, Return, Kill, Barrier, Act, Statements}
 use Rattle.shader_runs.specs.Program.{end, then, Cases, no_case, case, Function, argument_count}
 use Rattle.shader_runs.specs.Program.{function_numbered, expression_of, handle_type, is_counted}
-use Rattle.shader_runs.specs.Program.{is_asked, from, Module}
+use Rattle.shader_runs.specs.Program.{from, Module}
 use Rattle.shader_runs.specs.ProgramRun.{Call, KeptValues, constant_values, used_value, used_values}
 use Rattle.shader_runs.specs.ProgramRun.{joined_values, if_typed, after_load, after_request}
 use Rattle.shader_runs.specs.ProgramRun.{if_counted, emit_as, emit, leave, action_answer}
@@ -150,8 +150,8 @@ module _ (k : Option ValueType) where
           (has_type c.environment.parts (handle_type c.function h) (c.world t (Read p)))
           (Read p ∷ t) (update kept h (Some (c.world t (Read p)))))
       go false o = refl
-  emit_as_leads c h (Some (Request a w xs es)) kept t =
-      go (is_asked c.function h a) (joined_values (used_values c kept xs) (constant_values c.environment c.meaning es))
+  emit_as_leads c h (Some (Request w xs es)) kept t =
+      go (is_counted c.function h) (joined_values (used_values c kept xs) (constant_values c.environment c.meaning es))
     where
       go : (b : Bool) (os : Option (List Value)) → Leads k true false (if_counted b (after_request c.environment.parts (handle_type c.function h) c.world h w os) kept t)
       go true None = refl

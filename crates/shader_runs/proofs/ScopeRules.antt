@@ -12,18 +12,19 @@ use Rattle.shader_runs.specs.Program.{Expression, Constant, Argument, Local, Glo
 use Rattle.shader_runs.specs.Program.{Result, Statement, Emit, Store, Block, If, Switch, Loop}
 use Rattle.shader_runs.specs.Program.{Return, Act, Statements, end, then, Cases, no_case, case}
 use Rattle.shader_runs.specs.Program.{Function, argument_count, local_count, expression_of}
-use Rattle.shader_runs.specs.Program.{operands_of, is_counted, is_asked, binds_as, binds, from}
+use Rattle.shader_runs.specs.Program.{operands_of, is_counted, binds_as, binds, from}
 use Rattle.shader_runs.specs.Program.{holds_continue}
+use Rattle.shader_runs.specs.Program.{is_pure, is_emittable}
 use Rattle.shader_runs.specs.Scope.{Availability, Absent, Barred, Everywhere, Inline, Bound}
 use Rattle.shader_runs.specs.Scope.{Handles}
 use Rattle.shader_runs.specs.Scope.{Naming, before_local, bound_name, is_present, is_new, usable_as}
-use Rattle.shader_runs.specs.Scope.{usable, usable_all, usable_if, is_pure, all_constant}
+use Rattle.shader_runs.specs.Scope.{usable, usable_all, usable_if, all_constant}
 use Rattle.shader_runs.specs.Scope.{is_constant_leaf, constant_test, is_constant_below}
 use Rattle.shader_runs.specs.Scope.{start_availability, at_start, availability_without_name}
 use Rattle.shader_runs.specs.Scope.{with_emitted_handle, after_one}
 use Rattle.shader_runs.specs.Scope.{named_after, named_by, named_by_all, after_emit, after}
 use Rattle.shader_runs.specs.Scope.{forgotten_handles, forgotten_one, forgotten_if, after_all}
-use Rattle.shader_runs.specs.Scope.{is_emittable, may_emit, may_emit_all, may_give, fits, fits_all}
+use Rattle.shader_runs.specs.Scope.{may_emit, may_emit_all, may_give, fits, fits_all}
 use Rattle.shader_runs.specs.Scope.{fits_cases, first_values_fit}
 use Rattle.shader_runs.specs.Premises.{AllBelow}
 use Rattle.shader_runs.specs.ScopeRules.{IntroducedHandle, Emitted, AsResult, handle_of, IsAmong}
@@ -98,7 +99,7 @@ older f g v k n d = ⊎_elim (λ d. d) (λ b. absurd (n (brings_itself f g v k b
 -- kinds of expressions
 pure_emittable : (e : Option Expression) → IsTrue (is_pure e) → IsTrue (is_emittable e)
 pure_emittable (Some (Load p)) h = refl
-pure_emittable (Some (Request a w xs es)) h = refl
+pure_emittable (Some (Request w xs es)) h = refl
 pure_emittable (Some _) h = h
 pure_emittable None h = h
 
@@ -148,7 +149,7 @@ not_either false = refl
 unwritten_kind : (f : Function) (h : ℕ) (e : Option Expression) →
     IsTrue (is_emittable e) → is_unwritten f h e ≡ not (binds_as f h e || is_pure e)
 unwritten_kind f h (Some (Load p)) m = not_alone (is_counted f h)
-unwritten_kind f h (Some (Request a w xs es)) m = not_alone (is_asked f h a)
+unwritten_kind f h (Some (Request w xs es)) m = not_alone (is_counted f h)
 unwritten_kind f h (Some (Constant c)) m = absurd (true≢false (sym m))
 unwritten_kind f h (Some (Argument i)) m = absurd (true≢false (sym m))
 unwritten_kind f h (Some (Local i)) m = absurd (true≢false (sym m))

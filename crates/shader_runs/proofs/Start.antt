@@ -9,11 +9,12 @@ use Rattle.shader_runs.specs.World.{Environment, Meaning}
 use Rattle.shader_runs.specs.Program.{Expression, Constant, Operator, Access, AccessIndex, Logical}
 use Rattle.shader_runs.specs.Program.{Swizzle, Function, expression_of, handle_type, operands_of}
 use Rattle.shader_runs.specs.Program.{Module}
+use Rattle.shader_runs.specs.Program.{is_pure}
 use Rattle.shader_runs.specs.ProgramRun.{Call, used_value_as, used_value, also, used_values}
 use Rattle.shader_runs.specs.ProgramRun.{gathered_value, all_of, or_constant, constant_as}
 use Rattle.shader_runs.specs.ProgramRun.{constant_below, constants_kept}
 use Rattle.shader_runs.specs.TextRun.{Scope}
-use Rattle.shader_runs.specs.Scope.{is_pure, all_constant, is_constant_leaf, constant_test}
+use Rattle.shader_runs.specs.Scope.{all_constant, is_constant_leaf, constant_test}
 use Rattle.shader_runs.specs.Scope.{is_constant_below, start_availability, at_start, is_present}
 use Rattle.shader_runs.specs.Scope.{usable}
 use Rattle.shader_runs.specs.Scope.{usable_as, usable_all}

@@ -105,7 +105,7 @@ module _ (f : Naming) (names : Lookup) where
   IsNamed (Some (Local i)) = names (f.names.local_ i) ≡ Some (LocalTarget i)
   IsNamed (Some (Global held i)) = names (f.names.outer.global i) ≡ Some (GlobalTarget i)
   IsNamed (Some (Operator word xs)) = names word ≡ None
-  IsNamed (Some (Request a word xs es)) =
+  IsNamed (Some (Request word xs es)) =
       (names word ≡ None) × (trees_targets names (constant_forms f.names.outer es) ≡ map Some (constants_targets es))
   IsNamed _ = Unit {0}
 
@@ -145,7 +145,7 @@ module _ (f : Naming) (names : Lookup) where
         (both (like a) (like b) (value_targets_of names (operand a) ∙ same.0) (value_targets_of names (operand b) ∙ same.1.0))
     own_resolves (Some (Swizzle letters v)) named same =
         behind (PartTarget (MemberNamed letters)) (value_targets_of names (operand v) ∙ same.0)
-    own_resolves (Some (Request a word xs es)) named same =
+    own_resolves (Some (Request word xs es)) named same =
         word_resolves names word named.0
         (operands_then xs (constant_forms f.names.outer es) (constants_targets es) same named.1)
     own_resolves (Some Result) named same = refl

@@ -19,9 +19,9 @@ use Rattle.shader_runs.specs.Program.{Picking, Joining}
 use Rattle.shader_runs.specs.Program.{ConstantTrees, no_constant, constant, Expression, Constant}
 use Rattle.shader_runs.specs.Program.{Operator, Access, AccessIndex, Logical, Swizzle, Request}
 use Rattle.shader_runs.specs.Program.{Function, expression_of, handle_type, operands_of, Module}
+use Rattle.shader_runs.specs.Program.{is_pure}
 use Rattle.shader_runs.specs.ProgramRun.{index_value_of, part_value, decides, undecided_value}
 use Rattle.shader_runs.specs.ProgramRun.{combined_value, constant_part_by}
-use Rattle.shader_runs.specs.Scope.{is_pure}
 use Rattle.shader_runs.specs.Premises.{constant_type, constant_types_of, handle_types}
 use Rattle.shader_runs.specs.Premises.{ConstantTyped, IsNoPointer}
 use Rattle.shader_runs.specs.Premises.{ConstantsTyped, LeafTyped, IsTypedIn, AllTypedIn}
@@ -400,7 +400,7 @@ module _ (p : Module) (consistent : IsConsistent p) where
 
     leaf_fits : (h : ℕ) (e : Option Expression) → LeafTreesFit p e → ((x : Signature) → IsOneOf x (signatures_of p f (handle_type f h) e) → IsHere h x) → LeafTyped p.parts p m e
     leaf_fits h (Some (Constant e)) fit at = constant_fits e fit (λ x k. spelled h x (at x k))
-    leaf_fits h (Some (Request a w xs es)) fit at = constants_fit es fit (λ x k. spelled h x (at x k))
+    leaf_fits h (Some (Request w xs es)) fit at = constants_fit es fit (λ x k. spelled h x (at x k))
     leaf_fits h (Some _) fit at = tt
     leaf_fits h None fit at = tt
 

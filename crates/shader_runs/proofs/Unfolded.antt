@@ -277,7 +277,7 @@ module _ (p : Module) where
 
     leaf_typed : (e : Option Expression) → LeafTyped parts p m e → LeafTyped parts q m e
     leaf_typed (Some (Constant e)) typed = constant_typed e typed
-    leaf_typed (Some (Request a w xs es)) typed = constants_typed es typed
+    leaf_typed (Some (Request w xs es)) typed = constants_typed es typed
     leaf_typed (Some _) typed = tt
     leaf_typed None typed = tt
 

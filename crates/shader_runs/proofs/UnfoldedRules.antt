@@ -413,7 +413,7 @@ module _ (p : Module) where
   leaf_unfolded f k (Some (Argument i)) fits = fits
   leaf_unfolded f k (Some (Local i)) fits = fits
   leaf_unfolded f k (Some (Global held i)) fits = fits
-  leaf_unfolded f k (Some (Request a w xs es)) fits = fits
+  leaf_unfolded f k (Some (Request w xs es)) fits = fits
   leaf_unfolded f k (Some (Swizzle w v)) fits = fits
   leaf_unfolded f k (Some _) fits = tt
   leaf_unfolded f k None fits = tt

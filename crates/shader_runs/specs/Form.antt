@@ -99,7 +99,7 @@ own_form f operand (Some (Logical j l r)) =
     AsValue (LogicalOf j (value_form (operand l)) (value_form (operand r)))
 own_form f operand (Some (Swizzle w v)) =
     AsValue (PartOf (MemberNamed w) (value_form (operand v)))
-own_form f operand (Some (Request a w xs es)) =
+own_form f operand (Some (Request w xs es)) =
     AsValue (Apply w (value_forms_then operand xs (constant_forms f.names.outer es)))
 own_form f operand (Some Result) = AsValue (LiteralOf (Truth false))
 own_form f operand None = AsValue (LiteralOf (Truth false))

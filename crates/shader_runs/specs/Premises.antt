@@ -22,9 +22,10 @@ use Rattle.shader_runs.specs.Program.{case, Function, argument_count, local_coun
 use Rattle.shader_runs.specs.Program.{function_numbered, expression_of, handle_type, operands_of}
 use Rattle.shader_runs.specs.Program.{VariableShape, Held, AtPlace, is_held, variable_type}
 use Rattle.shader_runs.specs.Program.{variable_shape_at, Module, constant_count, override_types}
+use Rattle.shader_runs.specs.Program.{is_pure}
 use Rattle.shader_runs.specs.ProgramRun.{combined_value, barrier_words, constant_index}
 use Rattle.shader_runs.specs.ProgramRun.{constant_part, constant_logic}
-use Rattle.shader_runs.specs.Scope.{ModuleNames, Names, Naming, is_pure, named_by_all}
+use Rattle.shader_runs.specs.Scope.{ModuleNames, Names, Naming, named_by_all}
 use Rattle.shader_runs.specs.Scope.{fits_function}
 use Rattle.shader_runs.specs.Form.{functions_of}
 
@@ -113,7 +114,7 @@ ConstantsWords p f es = EachWordOf (OperatesBy p f) es
 abbrev pub WordFits : Module → Naming → Option Expression → Type 0
 WordFits p f (Some (Constant e)) = ConstantWords p f e
 WordFits p f (Some (Operator w xs)) = OperatesBy p f w
-WordFits p f (Some (Request a w xs es)) = AsksBy p f w × ConstantsWords p f es
+WordFits p f (Some (Request w xs es)) = AsksBy p f w × ConstantsWords p f es
 WordFits p f _ = Unit {0}
 
 -- operands stand before their expression
@@ -277,7 +278,7 @@ LeafFits p f k (Some (Local i)) = k ≡ PointerType (local_pointer f i)
 LeafFits p f k (Some (Global held i)) =
     let x = variable_shape_at p.globals i in
     (i < length p.globals) × (held ≡ is_held x) × (k ≡ variable_type x)
-LeafFits p f k (Some (Request a w xs es)) = ConstantsInRange p es
+LeafFits p f k (Some (Request w xs es)) = ConstantsInRange p es
 LeafFits p f k (Some (Swizzle w v)) = IsNoPointer (handle_type f v)
 LeafFits p f k _ = Unit {0}
 
@@ -315,7 +316,7 @@ abbrev mutual
 -- the operators in a leaf
 abbrev pub LeafTyped : PartTypes → Module → Meaning → Option Expression → Type 0
 LeafTyped parts p m (Some (Constant e)) = ConstantTyped parts p m e
-LeafTyped parts p m (Some (Request a w xs es)) = ConstantsTyped parts p m es
+LeafTyped parts p m (Some (Request w xs es)) = ConstantsTyped parts p m es
 LeafTyped parts p m _ = Unit {0}
 
 -- each operator of a function gives a value of its handle's type whenever its operands have theirs

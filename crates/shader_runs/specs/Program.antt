@@ -5,7 +5,7 @@
 -- the bodies, and c, d and e what its constructor tells.
 use Rattle.std.specs.Prelude.{ℕ, zero, suc, ℤ, Bool, true, false, cond, List, [], ◌∷◌}
 use Rattle.std.specs.Prelude.{length, Option, Some, None, ◌||◌, nat_eq, get_or, slice_get}
-use Rattle.std.specs.Prelude.{drop}
+use Rattle.std.specs.Prelude.{drop, ◌&&◌}
 use Rattle.shader_runs.specs.Value.{Bytes, PartTypes, Selector, Value, ValueType, BooleanType}
 use Rattle.shader_runs.specs.Value.{PointerType, type_at}
 use Rattle.shader_runs.specs.Value.{ShortCircuit}
@@ -27,12 +27,6 @@ mutual
     no_constant : ConstantTrees
     constant : ConstantTree → ConstantTrees → ConstantTrees
 
--- a read of the kinds that are written by their count
--- alone, or an image operation, which is always written
-pub data AskingRule : Type 0 where
-  WhenCounted : AskingRule
-  Always : AskingRule
-
 -- a variable of the module is told to be held or at a place; a request's last operands may be
 -- constants, which are written out and not by a handle: a level of zero, an offset
 pub data Expression : Type 0 where
@@ -46,8 +40,7 @@ pub data Expression : Type 0 where
   AccessIndex : Selector → (base : ℕ) → Expression
   Swizzle : (letters : Bytes) → (vector : ℕ) → Expression
   Logical : ShortCircuit → (left right : ℕ) → Expression
-  Request : AskingRule → (word : Bytes) → (operands : List ℕ) → (constants : ConstantTrees) →
-      Expression
+  Request : (word : Bytes) → (operands : List ℕ) → (constants : ConstantTrees) → Expression
   Result : Expression
 
 -- a statement that makes events with operands and may give a result
@@ -138,7 +131,7 @@ operands_of (Some (Access b i)) = b ∷ i ∷ []
 operands_of (Some (AccessIndex x b)) = b ∷ []
 operands_of (Some (Swizzle w v)) = v ∷ []
 operands_of (Some (Logical j l r)) = l ∷ r ∷ []
-operands_of (Some (Request a w xs es)) = xs
+operands_of (Some (Request w xs es)) = xs
 operands_of _ = []
 
 -- a front end named the handle
@@ -149,22 +142,24 @@ is_named f h = get_or f.named_expressions h false
 abbrev pub is_counted : Function → ℕ → Bool
 is_counted f h = is_named f h || get_or f.bound_by_uses h false
 
--- a read is written where it counts, an image operation always
-abbrev pub is_asked : Function → ℕ → AskingRule → Bool
-is_asked f h WhenCounted = is_counted f h
-is_asked f h Always = true
+-- an operator, which makes no event
+abbrev pub is_pure : Option Expression → Bool
+is_pure (Some (Operator w xs)) = true
+is_pure (Some (Access b i)) = true
+is_pure (Some (AccessIndex x b)) = true
+is_pure (Some (Logical j l r)) = true
+is_pure (Some (Swizzle w v)) = true
+is_pure _ = false
 
--- an emitted handle that a `let` binds: an operation on images, or another read or an operator that
--- counts
+-- an Emit may give it: it is no result, and not in scope everywhere
+abbrev pub is_emittable : Option Expression → Bool
+is_emittable (Some (Load p)) = true
+is_emittable (Some (Request w xs es)) = true
+is_emittable e = is_pure e
+
+-- a `let` binds what an Emit may give where that counts
 abbrev pub binds_as : Function → ℕ → Option Expression → Bool
-binds_as f h (Some (Load p)) = is_counted f h
-binds_as f h (Some (Request a w xs es)) = is_asked f h a
-binds_as f h (Some (Operator w xs)) = is_counted f h
-binds_as f h (Some (Logical j l r)) = is_counted f h
-binds_as f h (Some (Swizzle w v)) = is_counted f h
-binds_as f h (Some (Access b i)) = is_counted f h
-binds_as f h (Some (AccessIndex x b)) = is_counted f h
-binds_as f h _ = false
+binds_as f h e = is_emittable e && is_counted f h
 
 -- a `let` binds the emitted handle
 abbrev pub binds : Function → ℕ → Bool

@@ -30,7 +30,7 @@ use Rattle.shader_runs.specs.Program.{Label, Numbered, Default, Statement, Emit,
 use Rattle.shader_runs.specs.Program.{Switch, Loop, Break, Continue, Return, Kill, Barrier, Act}
 use Rattle.shader_runs.specs.Program.{Statements, end, then, Cases, no_case, case, Function}
 use Rattle.shader_runs.specs.Program.{argument_count, local_pointer, expression_of, handle_type}
-use Rattle.shader_runs.specs.Program.{operands_of, is_counted, is_asked, from}
+use Rattle.shader_runs.specs.Program.{operands_of, is_counted, from}
 use Rattle.std.specs.Option.{option_map_or}
 
 -- one call of a function: callees are the functions before it and calls what they do, frame is the
@@ -235,12 +235,12 @@ emit_as c h (Some (Load p)) kept t =
     let parts = c.environment.parts in
     let loads = after_load parts (handle_type c.function h) c.world h (used_value c kept p) in
     if_counted (is_counted c.function h) loads kept t
-emit_as c h (Some (Request a w xs es)) kept t =
+emit_as c h (Some (Request w xs es)) kept t =
     let parts = c.environment.parts in
     let constants = constant_values c.environment c.meaning es in
     let values = joined_values (used_values c kept xs) constants in
     let asks = after_request parts (handle_type c.function h) c.world h w values in
-    if_counted (is_asked c.function h a) asks kept t
+    if_counted (is_counted c.function h) asks kept t
 emit_as c h (Some (Operator w xs)) kept t =
     Done (update kept h (computed_value c kept (Some (Operator w xs)))) t
 emit_as c h (Some (Access b i)) kept t =

@@ -5,8 +5,8 @@ use Rattle.shader_runs.specs.Value.{Bytes, Place, Rooted, GlobalRoot, ValueType,
 use Rattle.shader_runs.specs.Value.{OtherType, Value, Pointer, Opaque}
 use Rattle.shader_runs.specs.World.{Event, Ask, Write}
 use Rattle.shader_runs.specs.Outcome.{Gives}
-use Rattle.shader_runs.specs.Program.{Fixed, NamedConstant, no_constant, constant, WhenCounted}
-use Rattle.shader_runs.specs.Program.{Always, Argument, Global, Operator, Access, Request, Result}
+use Rattle.shader_runs.specs.Program.{Fixed, NamedConstant, no_constant, constant}
+use Rattle.shader_runs.specs.Program.{Argument, Global, Operator, Access, Request, Result}
 use Rattle.shader_runs.specs.Program.{Asked, Emit, Store, Return, Barrier, BarrierBits, Act}
 use Rattle.shader_runs.specs.Program.{Function}
 use Rattle.shader_runs.specs.Text.{Tree, Name, LiteralOf, Index, Assign, TextFunction}
@@ -34,7 +34,7 @@ count_function =
     row (Global false 0) (PointerType counter_type)
     ∷ row (literal 5) i32
     ∷ row Result i32
-    ∷ bound_row (Request WhenCounted (codes "atomicLoad") (0 ∷ []) no_constant) i32
+    ∷ bound_row (Request (codes "atomicLoad") (0 ∷ []) no_constant) i32
     ∷ row (Operator (codes "+") (2 ∷ 3 ∷ [])) i32 ∷ []) (
     Act (Asked (codes "atomicStore")) (0 ∷ 1 ∷ []) None
     ∷ Act (Asked (codes "atomicAdd")) (0 ∷ 1 ∷ []) (Some 2)
@@ -101,7 +101,7 @@ level_zero = Opaque (codes "f32") 0
 abbrev pub sample_function : Function
 sample_function =
     let constants = constant (Fixed level_zero) (constant (NamedConstant 0) no_constant) in
-    let sample = Request Always (codes "textureSampleLevel") (0 ∷ 1 ∷ 2 ∷ 3 ∷ []) constants in
+    let sample = Request (codes "textureSampleLevel") (0 ∷ 1 ∷ 2 ∷ 3 ∷ []) constants in
     function_with (coordinate_type ∷ i32 ∷ []) (Some texel_type) [] (
     row (Global true 0) (OtherType layers_type)
     ∷ row (Global true 1) (OtherType sampler_type)
@@ -164,7 +164,7 @@ image_type = codes "texture_2d<f32>"
 
 abbrev pub texel_function : Function
 texel_function =
-    let load = Request Always (codes "textureLoad") (6 ∷ 2 ∷ 4 ∷ []) no_constant in
+    let load = Request (codes "textureLoad") (6 ∷ 2 ∷ 4 ∷ []) no_constant in
     function_with (i32 ∷ pair_type ∷ []) (Some texel_type) [] (
     row (Global true 0) (OtherType images_type)
     ∷ row (Argument 0) i32
@@ -206,17 +206,18 @@ TexelRow =
     IsWorked texel_example texel_text 0 3 vs
     (Gives (Some (texel 403)) (loading ∷ start_events 0 vs []))
 
--- two reads that nobody uses: one of an atomic, one of an image
+-- two reads that nobody uses: one of an atomic, and one of an image, for which a `let` asks for no
+-- use
 abbrev pub unused_function : Function
 unused_function =
-    let load = Request Always (codes "textureLoad") (1 ∷ 2 ∷ 3 ∷ []) no_constant in
+    let load = Request (codes "textureLoad") (1 ∷ 2 ∷ 3 ∷ []) no_constant in
     function_with (pair_type ∷ []) None [] (
     row (Global false 0) (PointerType counter_type)
     ∷ row (Global true 1) (OtherType image_type)
     ∷ row (Argument 0) pair_type
     ∷ row (literal 0) i32
-    ∷ row (Request WhenCounted (codes "atomicLoad") (0 ∷ []) no_constant) i32
-    ∷ row load texel_type ∷ []) (
+    ∷ row (Request (codes "atomicLoad") (0 ∷ []) no_constant) i32
+    ∷ bound_row load texel_type ∷ []) (
     Emit 4 2 ∷ [])
 
 -- its module
@@ -252,7 +253,7 @@ canvas_type = codes "texture_storage_2d<rgba8unorm, write>"
 -- the derivative of an argument is stored to an image
 abbrev pub edge_function : Function
 edge_function =
-    let derivative = Request WhenCounted (codes "dpdx") (2 ∷ []) no_constant in
+    let derivative = Request (codes "dpdx") (2 ∷ []) no_constant in
     function_with (pair_type ∷ texel_type ∷ []) None [] (
     row (Global true 0) (OtherType canvas_type)
     ∷ row (Argument 0) pair_type

@@ -70,8 +70,8 @@ word_target word None = WordTarget word
 word_target word (Some t) = t
 
 abbrev mutual
-  -- the identifiers and words of an expression, each with what it stands for, and where the operands
-  -- of each word end
+  -- the identifiers and words of an expression, each with what it stands for, and where the
+  -- operands of each word end
   pub tree_targets : Lookup → Tree → List (Option Target)
   tree_targets names (Name x) = names x ∷ []
   tree_targets names (LiteralOf v) = Some (LiteralTarget v) ∷ []
@@ -233,7 +233,7 @@ own_targets operand (Some (Access b i)) = operand b ++ operand i
 own_targets operand (Some (AccessIndex x b)) = PartTarget x ∷ operand b
 own_targets operand (Some (Logical j a b)) = LogicTarget j ∷ (operand a ++ operand b)
 own_targets operand (Some (Swizzle letters v)) = PartTarget (MemberNamed letters) ∷ operand v
-own_targets operand (Some (Request a word xs es)) =
+own_targets operand (Some (Request word xs es)) =
     WordTarget word ∷ operands_targets_then operand xs (constants_targets es)
 own_targets operand _ = no_value
 

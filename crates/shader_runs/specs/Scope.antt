@@ -7,8 +7,8 @@ use Rattle.std.specs.Prelude.{ℕ, zero, suc, Bool, true, false, cond, not, nat_
 use Rattle.std.specs.Prelude.{take, length, Option, Some, None, ◌&&◌, ◌||◌}
 use Rattle.shader_runs.specs.Value.{Bytes}
 use Rattle.shader_runs.specs.World.{Vocabulary, update}
-use Rattle.shader_runs.specs.Program.{Expression, Constant, Argument, Local, Global, Load, Operator}
-use Rattle.shader_runs.specs.Program.{Access, AccessIndex, Logical, Swizzle, Request, Statement}
+use Rattle.shader_runs.specs.Program.{Expression, Constant, Argument, Local, Global, is_pure}
+use Rattle.shader_runs.specs.Program.{is_emittable, Statement}
 use Rattle.shader_runs.specs.Program.{Emit, Store, Block, If, Switch, Loop, Return, Act, Statements}
 use Rattle.shader_runs.specs.Program.{end, then, Cases, no_case, case, Function, argument_count}
 use Rattle.shader_runs.specs.Program.{local_count, expression_of, operands_of, is_named, binds}
@@ -91,15 +91,6 @@ usable_all f s (x ∷ xs) = usable f s x && usable_all f s xs
 abbrev pub usable_if : Function → Handles → Option ℕ → Bool
 usable_if f s None = true
 usable_if f s (Some h) = usable f s h
-
--- an operator, which makes no event
-abbrev pub is_pure : Option Expression → Bool
-is_pure (Some (Operator w xs)) = true
-is_pure (Some (Access b i)) = true
-is_pure (Some (AccessIndex x b)) = true
-is_pure (Some (Logical j l r)) = true
-is_pure (Some (Swizzle w v)) = true
-is_pure _ = false
 
 -- the test holds of all these handles
 abbrev pub all_constant : (ℕ → Bool) → List ℕ → Bool
@@ -219,12 +210,6 @@ abbrev pub after_all : Naming → ℕ → Statements → Handles → Handles
 after_all f k end s = s
 after_all f k (then st ss) s =
     forgotten_if (holds_continue st) s (after_all f (named_by f.function st k) ss (after f k st s))
-
--- an Emit of a result, or of what is in scope everywhere, is refused
-abbrev pub is_emittable : Option Expression → Bool
-is_emittable (Some (Load p)) = true
-is_emittable (Some (Request a w xs es)) = true
-is_emittable e = is_pure e
 
 -- a handle may be emitted, and what a name binds has its operands in scope
 abbrev pub may_emit : Function → ℕ → Handles → Bool

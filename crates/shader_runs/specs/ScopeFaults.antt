@@ -9,7 +9,8 @@ use Rattle.std.specs.Prelude.{IsTrue, IsFalse}
 use Rattle.shader_runs.specs.Program.{Statement, Emit, Store, Block, If, Switch, Loop, Return, Act}
 use Rattle.shader_runs.specs.Program.{Action, Statements, then, Cases, case, Label, Function}
 use Rattle.shader_runs.specs.Program.{expression_of, operands_of, binds}
-use Rattle.shader_runs.specs.Scope.{before_local, is_emittable}
+use Rattle.shader_runs.specs.Program.{is_emittable}
+use Rattle.shader_runs.specs.Scope.{before_local}
 use Rattle.shader_runs.specs.ScopeRules.{IntroducedHandle, Emitted, AsResult, handle_of, InScope}
 use Rattle.shader_runs.specs.ScopeRules.{Point, entry_point, behind, behind_turn, WasIntroduced}
 use Rattle.shader_runs.specs.ScopeRules.{ScopeHolds}

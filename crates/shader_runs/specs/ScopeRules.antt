@@ -9,9 +9,10 @@ use Rattle.shader_runs.specs.Program.{ConstantTree, Expression, Constant, Argume
 use Rattle.shader_runs.specs.Program.{Load, Request, Result, Statement, Emit, Store, Block, If}
 use Rattle.shader_runs.specs.Program.{Switch, Loop, Return, Act, Statements, end, then, Cases}
 use Rattle.shader_runs.specs.Program.{no_case, case, Function, argument_count, local_count}
-use Rattle.shader_runs.specs.Program.{expression_of, operands_of, is_counted, is_asked, binds, from}
+use Rattle.shader_runs.specs.Program.{expression_of, operands_of, is_counted, binds, from}
 use Rattle.shader_runs.specs.Program.{holds_continue}
-use Rattle.shader_runs.specs.Scope.{Naming, is_pure, is_emittable, before_local, fits_function}
+use Rattle.shader_runs.specs.Program.{is_pure, is_emittable}
+use Rattle.shader_runs.specs.Scope.{Naming, before_local, fits_function}
 use Rattle.shader_runs.specs.Premises.{AllBelow}
 
 -- a handle that a statement gave, by an Emit or as its result
@@ -91,7 +92,7 @@ InScopeIf f introduced (Some h) = InScope f introduced h
 -- Their Emit is allowed, and brings nothing into scope
 abbrev pub is_unwritten : Function → ℕ → Option Expression → Bool
 is_unwritten f h (Some (Load p)) = not (is_counted f h)
-is_unwritten f h (Some (Request a w xs es)) = not (is_asked f h a)
+is_unwritten f h (Some (Request w xs es)) = not (is_counted f h)
 is_unwritten f h _ = false
 
 -- what was given, one emitted handle later

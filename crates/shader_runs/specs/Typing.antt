@@ -62,7 +62,7 @@ signatures_of p f k (Some (Logical j l r)) =
     } ∷ []
 signatures_of p f k (Some (Swizzle w v)) =
     record { word = PartWord (MemberNamed w); operands = handle_types f (v ∷ []); result = k } ∷ []
-signatures_of p f k (Some (Request a w xs es)) = constants_signatures p es
+signatures_of p f k (Some (Request w xs es)) = constants_signatures p es
 signatures_of p f k _ = []
 
 -- in a list
@@ -127,7 +127,7 @@ abbrev mutual
 -- the same of the constants in an expression
 abbrev pub LeafTreesFit : Module → Option Expression → Type 0
 LeafTreesFit p (Some (Constant e)) = TreeFits p e
-LeafTreesFit p (Some (Request a w xs es)) = TreesFit p es
+LeafTreesFit p (Some (Request w xs es)) = TreesFit p es
 LeafTreesFit p _ = Unit {0}
 
 -- what is spelled alike over operands of types alike has a result of types alike

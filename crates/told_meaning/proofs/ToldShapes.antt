@@ -7,7 +7,7 @@
 use Rattle.std.proofs.Common.{◌≡◌, ℕ, zero, suc, ◌+◌, List, [], ◌∷◌, ◌++◌, map, reverse}
 use Rattle.std.proofs.Common.{refl, ap, ◌∙◌}
 use Rattle.std.specs.Prelude.{Some, if◌then◌else◌, nat_eq, slice_get}
-use Rattle.std.specs.List.{AllZip, list_any}
+use Rattle.std.specs.List.{AllZip, enumerate_from, list_any}
 use Rattle.std.specs.Option.{option_and_then, option_map}
 use Rattle.indexmap.specs.IndexMap.{keys}
 use Rattle.naga_ir.specs.declared.expression.Expression as ir
@@ -19,7 +19,7 @@ use Rattle.naga_ir.specs.declared.types.TypeInner.TheVariants as inner
 use Rattle.naga_info.specs.declared.info.ExpressionInfo.{ExpressionInfo}
 use Rattle.naga_info.specs.declared.info.ModuleInfo.{ModuleInfo}
 use Rattle.naga_info.specs.declared.info.TypeResolution.TheVariants.{Handle, Value}
-use Rattle.module_meaning.specs.BindingCounts.{are_bound_by_uses, is_bound_by_uses}
+use Rattle.module_meaning.specs.BindingCounts.{are_bound_by_uses, is_bound_by_uses, uses_of}
 use Rattle.module_meaning.specs.ExpressionContexts.{declared, types_known}
 use Rattle.module_meaning.specs.ExpressionOperators.{applied_operator}
 use Rattle.module_meaning.specs.ExpressionShapes.{constant_tree, Declared, sample_shape, shape_of}
@@ -92,12 +92,20 @@ named_same named h (x ∷ xs) [] r = absurd r
 named_same named h (x ∷ xs) (y ∷ ys) r =
     ap (λ bs. list_any (nat_eq h) named ∷ bs) (named_same named (h + 1) xs ys r.1)
 
+bound_behind_same : (known : List ExpressionInfo) (n : ℕ) (xs ys : List ir.Expression) →
+    AllZip IsToldExpression xs ys →
+    map (λ p. is_bound_by_uses p.1 (uses_of known p.0)) (enumerate_from n ys) ≡
+    map (λ p. is_bound_by_uses p.1 (uses_of known p.0)) (enumerate_from n xs)
+bound_behind_same known n [] [] r = refl
+bound_behind_same known n [] (y ∷ ys) r = absurd r
+bound_behind_same known n (x ∷ xs) [] r = absurd r
+bound_behind_same known n (x ∷ xs) (y ∷ ys) r =
+    λ i. along (λ e. is_bound_by_uses e (uses_of known n)) (λ v w r. refl) x y r.0 i
+    ∷ bound_behind_same known (n + 1) xs ys r.1 i
+
 bound_same : (xs ys : List ir.Expression) (es : List ExpressionInfo) →
     AllZip IsToldExpression xs ys → are_bound_by_uses ys es ≡ are_bound_by_uses xs es
-bound_same xs ys es r =
-    zipped_mapped_same IsToldExpression (λ e k. is_bound_by_uses e k.ref_count)
-    (λ e k. is_bound_by_uses e k.ref_count)
-    (λ e d k q. along (λ e. is_bound_by_uses e k.ref_count) (λ v w r. refl) e d q) xs ys es r
+bound_same xs ys es r = bound_behind_same es 0 xs ys r
 
 -- ---- functions
 module _ (m new : ir_module.Module) (all : IsToldModule m new) (info : ModuleInfo) where

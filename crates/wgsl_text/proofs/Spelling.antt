@@ -18,7 +18,8 @@ use Rattle.wgsl_text.specs.Token.{KeywordEnable, KeywordOverride, Suffix, NoSuff
 use Rattle.wgsl_text.specs.Token.{SuffixU, SuffixLi, SuffixLu, Token, Fixed, Word, Number}
 use Rattle.wgsl_text.specs.Token.{ZeroPointZero, Foreign, Decimal, Power, NoPower, Precision, Half}
 use Rattle.wgsl_text.specs.Token.{Single, Double}
-use Rattle.wgsl_text.specs.Text.{precision_text, fraction_text, decimal_tail, fraction_at}
+use Rattle.float_numerals.specs.Texts.{fraction_text}
+use Rattle.wgsl_text.specs.Text.{precision_text, decimal_tail, fraction_at}
 use Rattle.wgsl_text.specs.Token.{AreDigits, IsPower, IsPrecision}
 use Rattle.wgsl_text.specs.Text.{power_text, power_at, digits_at}
 use Rattle.wgsl_text.specs.Text.{power_of_digits, power_after_letter, after_power, starts_with_lf}

@@ -19,7 +19,8 @@ use Rattle.wgsl_text.specs.Token.{Caret, Not, Tilde, EqualsEquals, NotEquals, Le
 use Rattle.wgsl_text.specs.Token.{BarBar, LessLess, Suffix, NoSuffix, SuffixI, SuffixU, SuffixLi}
 use Rattle.wgsl_text.specs.Token.{SuffixLu, Token, Fixed, Word, Number, ZeroPointZero, Foreign}
 use Rattle.wgsl_text.specs.Token.{Decimal, Power, NoPower, PowerOf, Precision, Half, Single, Double}
-use Rattle.wgsl_text.specs.Text.{precision_text, fraction_text, decimal_tail, fraction_at}
+use Rattle.float_numerals.specs.Texts.{fraction_text}
+use Rattle.wgsl_text.specs.Text.{precision_text, decimal_tail, fraction_at}
 use Rattle.wgsl_text.specs.Token.{AreDigits, IsPower, IsPrecision}
 use Rattle.wgsl_text.specs.Text.{power_text, power_at, digits_at}
 use Rattle.wgsl_text.specs.Text.{power_of_digits, power_after_letter, after_power, starts_with_lf}

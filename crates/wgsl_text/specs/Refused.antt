@@ -24,8 +24,8 @@ pub record RefusedTexts : Type 0 where
   -- a number without a suffix
   pub plain_number : IsNoExpression (codes "1")
   pub plain_argument : IsNoExpression (codes "f(x, 1)")
-  -- a number with a point and no suffix, an `f32` with a power of ten, one of hexadecimal digits, and
-  -- one without a digit after its point
+  -- a number with a point and no suffix, an `f32` with a power of ten, one of hexadecimal digits,
+  -- and one without a digit after its point
   pub plain_fraction : IsNoExpression (codes "1.5")
   pub power_of_single : IsNoExpression (codes "1e5f")
   pub hexadecimal : IsNoExpression (codes "0x1f")

@@ -8,6 +8,7 @@ use Rattle.std.specs.Str.{bytes_eq}
 use Rattle.std.specs.Char.{is_ascii_digit}
 use Rattle.std.specs.Str.Parse.{digits_value}
 use Rattle.std.specs.Fmt.{decimal}
+use Rattle.float_numerals.specs.Texts.{fraction_text}
 use Rattle.wgsl_text.specs.Token.{Mark, OpenParen, CloseParen, OpenBracket, CloseBracket, OpenBrace}
 use Rattle.wgsl_text.specs.Token.{CloseBrace, Comma, Semicolon, Colon, Dot, At, Equals, LessThan}
 use Rattle.wgsl_text.specs.Token.{GreaterThan, Plus, Minus, Star, Slash, Percent, Ampersand, Bar}
@@ -91,11 +92,6 @@ abbrev pub precision_text : Precision → List ℕ
 precision_text Half = codes "h"
 precision_text Single = codes "f"
 precision_text (Double power) = power_text power ++ codes "lf"
-
--- a point and the digits after it, if there are any
-abbrev pub fraction_text : List ℕ → List ℕ
-fraction_text [] = []
-fraction_text (b ∷ ds) = 46 ∷ b ∷ ds
 
 -- what stands after the whole part of a number of a floating-point type
 abbrev pub decimal_tail : List ℕ → Precision → List ℕ

@@ -62,8 +62,8 @@ pub fn one_reading_of_a_function()
     ensures unique { AreReadOnce ReadsFunction }
 {}
 
-/// The text of an entry point is read as that entry point and no other, and no tokens are read as two
-/// entry points.
+/// The text of an entry point is read as that entry point and no other, and no tokens are read as
+/// two entry points.
 pub fn one_reading_of_an_entry_point()
     ensures layout { (e : EntryPoint) → IsEntryPoint e →
         HasOneReading ReadsEntryPoint (entry_point_layout e) e }
