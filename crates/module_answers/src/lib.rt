@@ -1,5 +1,5 @@
-//! What is told of a module by those that read it from JSON: its text, the place of a fault, and
-//! where the members of its structs stand. Programs and libraries can share it.
+//! What is told of a module by those that read it from JSON: its text, the place of a fault or of a
+//! refusal, and where the members of its structs stand. Programs and libraries can share it.
 #![tactic(auto)]
 
 mod layouts;
@@ -7,5 +7,5 @@ mod places;
 mod writing;
 
 pub use layouts::layout_table;
-pub use places::JsonPlace;
+pub use places::{JsonPlace, JsonRefusalPlace};
 pub use writing::{Written, flags_for, write, write_told};

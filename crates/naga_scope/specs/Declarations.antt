@@ -23,11 +23,15 @@ use Rattle.naga_ir.specs.declared.binding.BuiltIn.{BuiltIn}
 use Rattle.naga_ir.specs.declared.module.Constant.{Constant}
 use Rattle.naga_ir.specs.declared.module.EntryPoint.{EntryPoint}
 use Rattle.naga_ir.specs.declared.module.Function.{Function}
+use Rattle.naga_ir.specs.declared.module.GlobalVariable.{GlobalVariable}
 use Rattle.naga_ir.specs.declared.module.Module.{Module}
+use Rattle.naga_ir.specs.declared.module.Override.{Override}
 use Rattle.naga_ir.specs.declared.types.StructMember.{StructMember}
 use Rattle.naga_ir.specs.declared.types.Type_.{Type_}
 use Rattle.naga_layout.specs.Types.{arrays_are_kept, placed_members}
 use Rattle.naga_names.specs.Reset.{members_of}
+use Rattle.naga_scope.specs.declared.declarations.DeclarationPlace.{DeclarationPlace}
+use Rattle.naga_scope.specs.declared.declarations.DeclarationPlace.TheVariants as place
 use Rattle.naga_scope.specs.declared.declarations.FormlessDeclaration.{FormlessDeclaration}
 use Rattle.naga_scope.specs.declared.declarations.FormlessDeclaration.TheVariants as declaration
 use Rattle.naga_scope.specs.declared.declarations.FormlessHead.{FormlessHead}
@@ -64,6 +68,15 @@ abbrev pub Finds : {X F : Type 0} → List X → (HasForm : (i : ℕ) → X → 
 Finds {X} xs HasForm IsFormless None = (i : ℕ) (x : X) → slice_get xs i ≡ Some x → HasForm i x
 Finds {X} xs HasForm IsFormless (Some it) =
     (i : ℕ) × (x : X) × (slice_get xs i ≡ Some x) × IsFormless i x it
+
+-- the item with this place in its list has none, as is told of it
+abbrev pub IsOfItem : {F : Type 0} → ℕ → (F → Type 0) → ℕ × F → Type 0
+IsOfItem i IsFormless found = (found.0 ≡ i) × IsFormless found.1
+
+-- and so has the declaration
+abbrev pub IsPlaced :
+    DeclarationPlace → (FormlessDeclaration → Type 0) → DeclarationPlace × FormlessDeclaration → Type 0
+IsPlaced place IsFormless found = (found.0 ≡ place) × IsFormless found.1
 
 -- ---- types and initialisers
 -- the type that is told, and the initialiser if there is one, have forms
@@ -170,3 +183,28 @@ pub record EntryPointHasForm (p : EntryPoint) : Type 0 where
 abbrev pub IsFormlessEntryPoint : EntryPoint → FormlessHead → Type 0
 IsFormlessEntryPoint p (head.BuiltIn v) = IsFormlessPassed p.function v
 IsFormlessEntryPoint p head.Stage = IsFalse (stage_has_form p p.stage)
+
+-- ---- where it stands
+abbrev pub IsFormlessFunction : Function → FormlessDeclaration → Type 0
+IsFormlessFunction f (declaration.Head (head.BuiltIn v)) = IsFormlessPassed f v
+IsFormlessFunction f it = ⊥
+
+abbrev pub IsFormlessHeadOf : EntryPoint → FormlessDeclaration → Type 0
+IsFormlessHeadOf p (declaration.Head it) = IsFormlessEntryPoint p it
+IsFormlessHeadOf p it = ⊥
+
+-- it has no form in this declaration of the module
+abbrev pub IsFormlessIn : Module → DeclarationPlace → FormlessDeclaration → Type 0
+IsFormlessIn m (place.Struct h) it =
+    (t : Type_) × (slice_get m.types h ≡ Some t) × IsFormlessType m h t it
+IsFormlessIn m (place.Constant h) it =
+    (c : Constant) × (slice_get m.constants h ≡ Some c) × IsFormlessConstant m c it
+IsFormlessIn m (place.Override h) it =
+    (o : Override) × (slice_get m.overrides h ≡ Some o) × IsFormlessValue m o.ty o.init it
+IsFormlessIn m (place.GlobalVariable h) it =
+    (g : GlobalVariable) × (slice_get m.global_variables h ≡ Some g)
+    × IsFormlessValue m g.ty g.init it
+IsFormlessIn m (place.Function h) it =
+    (f : Function) × (slice_get m.functions h ≡ Some f) × IsFormlessFunction f it
+IsFormlessIn m (place.EntryPoint i) it =
+    (p : EntryPoint) × (slice_get m.entry_points.items i ≡ Some p) × IsFormlessHeadOf p it

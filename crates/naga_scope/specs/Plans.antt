@@ -24,7 +24,8 @@ use Rattle.naga_names.specs.Naming.{HasNamed, Names}
 use Rattle.naga_scope.specs.ExpressionNames.{IsRefusalOfLabels}
 use Rattle.naga_scope.specs.Availabilities.{TextPoint, handles_of}
 use Rattle.naga_scope.specs.Changes.{block_changes}
-use Rattle.naga_scope.specs.FormlessStatements.{formless_statement}
+use Rattle.naga_scope.specs.FormlessStatements.{IsFormlessAt, formless_statement}
+use Rattle.naga_scope.specs.ScopeFaults.{IsScopeFault}
 use Rattle.naga_scope.specs.declared.known_function.KnownFunction.{KnownFunction}
 use Rattle.naga_scope.specs.Log.{HasRoom}
 use Rattle.naga_scope.specs.declared.plan.PlanError.{PlanError}
@@ -59,14 +60,15 @@ pub record IsPlan (explicit : Bool) (m : Module) (info : ModuleInfo) (f : ir.Fun
   pub changes : HasRoom plan.scope (block_changes f.body)
   pub formed : WrittenHaveForms explicit m info f es
 
--- why there is no plan of it, where the namer was this: it breaks a rule of scope at some place,
+-- why there is no plan of it, where the namer was this: it breaks a rule of scope with this fault,
 -- this statement is the first without a form, a written handle has none, a type that is spelled has
 -- none, a label gets no name, or memory ran out
 abbrev pub IsRefusalToPlan : (explicit : Bool) → Module → ModuleInfo → ir.Function →
     List ExpressionInfo → Names → PlanError → Type 0
-IsRefusalToPlan explicit m info f es namer OutOfScope = HasScopeFault (function_shape m info f es)
-IsRefusalToPlan explicit m info f es namer (StatementWithoutForm it) =
-    formless_statement f.body ≡ Some it
+IsRefusalToPlan explicit m info f es namer (OutOfScope fault) =
+    IsScopeFault (function_shape m info f es) fault
+IsRefusalToPlan explicit m info f es namer (StatementWithoutForm n it) =
+    (formless_statement f.body ≡ Some it) × IsFormlessAt f.body n it
 IsRefusalToPlan explicit m info f es namer (WithoutForm h) =
     IsWrittenIn m info f es h
     × IsSomeAnd (slice_get f.expressions h)

@@ -8,3 +8,4 @@ pub mod Declarations
 pub mod Items
 pub mod Structs
 pub mod Variables
+pub mod Unwritable

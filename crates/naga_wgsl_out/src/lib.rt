@@ -21,6 +21,7 @@ pub mod sinks;
 mod structs;
 pub mod to_wgsl;
 pub mod types;
+mod unwritable;
 pub mod valid;
 mod variables;
 pub mod wgsl;

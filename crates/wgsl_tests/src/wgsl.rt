@@ -6,8 +6,9 @@ use naga_wgsl_out::builder::{FunctionBuilder, ModuleBuilder};
 use naga_wgsl_out::info::{accepts, count, unaccepted};
 use naga_wgsl_out::ir::{Binding, BuiltIn, Place, Sampling, Scalar, ShaderStage};
 use naga_wgsl_out::wgsl::{
-    CheckedError, Error, Writer, WriterFlags, names_of, no_flags, write_binding, write_checked,
-    write_function, write_string,
+    CheckedError, Construct, Error, FunctionPart, Refusal, RefusalPlace, ScopeFault, Writer,
+    WriterFlags, names_of, no_flags, unwritable, write_binding, write_checked, write_function,
+    write_string,
 };
 use sample_modules::Row;
 use std::alloc::Global;
@@ -41,6 +42,28 @@ fn a_module_is_written(rt: HostRuntime) {
     reads(&rt, writer.finish().as_str(), STORE_WITH_TYPES);
     assert_eq!(rt; WriterFlags::EXPLICIT_TYPES.bits(), 1);
     assert_eq!(rt; WriterFlags::PORTABLE.bits(), 2);
+}
+
+/// A `continuing`, the store in which has number 4, uses what a `continue` may skip.
+#[test]
+fn a_refusal_tells_where(rt: HostRuntime) {
+    let alloc = rt.alloc();
+    let shader = sample(&rt, alloc, Row::Continue);
+    assert!(rt; accepts(&shader.module, &shader.info));
+    let found = unwritable(alloc, &shader.module, &shader.info, no_flags());
+    let fault = ScopeFault::Operand {
+        statement: 4,
+        operand: Place::from_index(3),
+    };
+    let wanted = Refusal {
+        construct: Construct::OutOfScope,
+        place: RefusalPlace::Function(Place::from_index(0), FunctionPart::Scope(fault)),
+    };
+    assert_eq!(rt; found.expect(&rt, "memory"), Some(wanted));
+    let shader = sample(&rt, alloc, Row::Store);
+    assert!(rt; accepts(&shader.module, &shader.info));
+    let found = unwritable(alloc, &shader.module, &shader.info, no_flags());
+    assert_eq!(rt; found.expect(&rt, "memory"), None);
 }
 
 const NAMED: &str = "fn e(x: i32) -> i32 {\n    let x_1 = (x + x);\n    return x_1;\n}\n";

@@ -2,10 +2,10 @@
 
 use crate::failure::Failure;
 use crate::texts::{Style, write_in};
-use module_answers::{JsonPlace, Written};
+use module_answers::{JsonPlace, JsonRefusalPlace, Written};
 use naga_json::{Known, ReadError, known_of};
 use naga_wgsl_out::info::Unaccepted;
-use naga_wgsl_out::wgsl::Error;
+use naga_wgsl_out::wgsl::{Error, Refusal};
 use serde_json::{Map, Value};
 use std::alloc::{AllocError, Global};
 use std::fmt::Display;
@@ -134,21 +134,30 @@ fn tell_written(
     written: Written<String>,
     members: &mut Members,
 ) -> Result<(), AllocError> {
-    let Written { answer, sink } = written;
+    let Written {
+        answer,
+        refusal,
+        sink,
+    } = written;
     match answer {
         Ok(()) => put(alloc, "text", Value::String(sink), members),
         Err(Error::Memory(error)) => Err(error),
-        Err(reason) => tell_refused(alloc, reason, sink, members),
+        Err(reason) => tell_refused(alloc, reason, refusal, sink, members),
     }
 }
 
+/// Tells what the module is refused for, where that stands, and the text in front of it.
 fn tell_refused(
     alloc: Global,
     reason: Error,
+    refusal: Option<Refusal>,
     text: String,
     members: &mut Members,
 ) -> Result<(), AllocError> {
     tell(alloc, "refused", reason, members)?;
+    if let Some(refusal) = refusal {
+        tell(alloc, "place", JsonRefusalPlace(refusal.place), members)?;
+    }
     put(alloc, "text", Value::String(text), members)
 }
 

@@ -5,10 +5,10 @@ use crate::inputs::known_of;
 use crate::lines::answer_lines;
 use crate::texts::write_in;
 use crate::words::{Request, Task, request_of};
-use module_answers::{JsonPlace, Written, layout_table};
+use module_answers::{JsonPlace, JsonRefusalPlace, Written, layout_table};
 use naga_json::Known;
 use naga_wgsl_out::info::{Unaccepted, unaccepted};
-use naga_wgsl_out::wgsl::Error;
+use naga_wgsl_out::wgsl::{Error, Refusal};
 use std::alloc::Global;
 use std::fmt::Display;
 use std::io::{BufReader, Read, Write};
@@ -156,11 +156,24 @@ fn tell_layouts<O: Write, E: Write>(alloc: Global, known: &Known, out: &mut O, e
 }
 
 fn print_written<O: Write, E: Write>(written: Written<String>, out: &mut O, err: &mut E) -> u8 {
-    let Written { answer, sink } = written;
-    match answer {
-        Ok(()) => print(sink, out, err),
-        Err(error) => tell_error(error, err),
+    let Written {
+        answer,
+        refusal,
+        sink,
+    } = written;
+    match (answer, refusal) {
+        (Ok(()), _) => print(sink, out, err),
+        (Err(_), Some(refusal)) => refuse_at(refusal, err),
+        (Err(error), None) => tell_error(error, err),
     }
+}
+
+/// Tells what the module is refused for, and where that stands.
+fn refuse_at<E: Write>(refusal: Refusal, err: &mut E) -> u8 {
+    let construct = refusal.construct;
+    let place = JsonRefusalPlace(refusal.place);
+    let _ = writeln!(err, "refused: {construct}: {place}");
+    REFUSED
 }
 
 /// Tells why the module is refused, or that memory was.

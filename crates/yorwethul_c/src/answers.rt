@@ -159,7 +159,7 @@ fn told_written(alloc: Global, written: Written<Limited>) -> Answer
     ensures { SaysOfWritten written.answer written.sink.text result.status
         (string_bytes result.text) }
 {
-    let Written { answer, sink } = written;
+    let Written { answer, sink, .. } = written;
     match answer {
         Ok(()) => settled(alloc, Status::Done, String::from_str(alloc, sink.text())),
         Err(error) => told_error(alloc, error),

@@ -309,13 +309,21 @@ const MODULES: &[(&str, Task, Style, Told)] = &[
         FLOAT_LITERAL,
         Task::Write,
         PLAIN,
-        (REFUSED, "", "refused: float literal\n"),
+        (
+            REFUSED,
+            "",
+            "refused: float literal: module.functions[0].expressions[0]\n",
+        ),
     ),
     (
         INFINITE_LITERAL,
         Task::Write,
         STANDARD,
-        (REFUSED, "", "refused: float literal\n"),
+        (
+            REFUSED,
+            "",
+            "refused: float literal: module.functions[0].expressions[0]\n",
+        ),
     ),
     (FLOAT_LITERAL, Task::Check, STANDARD, (0, "accepted\n", "")),
     (
@@ -363,7 +371,11 @@ const MODULES: &[(&str, Task, Style, Told)] = &[
         STRUCTS,
         Task::Write,
         STANDARD,
-        (REFUSED, "", "refused: member off its alignment\n"),
+        (
+            REFUSED,
+            "",
+            "refused: member off its alignment: module.types[2]\n",
+        ),
     ),
     (STRUCTS, Task::Layout, STANDARD, (0, LAYOUTS, "")),
 ];
