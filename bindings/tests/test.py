@@ -236,7 +236,7 @@ def test_lines(folder, _):
         if answer.get("error", "").endswith(": no truth value"):
             continue
         if "refused" in answer:
-            wanted = (REFUSED, answer["refused"])
+            wanted = (REFUSED, "{refused}: {place}".format(**answer))
         elif "text" in answer:
             wanted = (DONE, answer["text"])
         elif "not_accepted" in answer:
@@ -298,8 +298,11 @@ def wanted_of(answer, text):
     if last.startswith("not accepted: "):
         _, fault = last.removeprefix("not accepted: ").split(": ", 1)
         return NOT_ACCEPTED, (text if text and text.endswith(f": {fault}") else fault)
+    if last.startswith("at: "):
+        return REFUSED, f'{front.rpartition("refused: ")[2]}: {last.removeprefix("at: ")}'
     if last.startswith("refused: "):
-        return REFUSED, last.removeprefix("refused: ")
+        construct = last.removeprefix("refused: ")
+        return REFUSED, (text if text and text.startswith(f"{construct}: module") else construct)
     return DONE, answer
 
 

@@ -10,6 +10,9 @@ pub enum Error {
     Refused {
         /// The construct: `float literal`.
         construct: String,
+        /// Where it stands: `module.functions[0].expressions[3]`. It is empty where memory was
+        /// refused to find it.
+        place: String,
     },
     /// The module is not accepted with what is known of it.
     #[non_exhaustive]
@@ -46,7 +49,7 @@ impl Error {
     /// The construct for which the module is refused.
     pub fn construct(&self) -> Option<&str> {
         match self {
-            Error::Refused { construct } => Some(construct),
+            Error::Refused { construct, .. } => Some(construct),
             _ => None,
         }
     }
@@ -54,7 +57,9 @@ impl Error {
     /// The place in the JSON, where one is told.
     pub fn place(&self) -> Option<&str> {
         match self {
-            Error::NotAccepted { place, .. } | Error::NoModule { place, .. } => Some(place)
+            Error::Refused { place, .. }
+            | Error::NotAccepted { place, .. }
+            | Error::NoModule { place, .. } => Some(place)
                 .filter(|place| !place.is_empty())
                 .map(String::as_str),
             _ => None,
@@ -65,7 +70,10 @@ impl Error {
 impl fmt::Display for Error {
     fn fmt(&self, f: &mut fmt::Formatter<'_>) -> fmt::Result {
         match self {
-            Error::Refused { construct } => write!(f, "refused: {construct}"),
+            Error::Refused { construct, place } if place.is_empty() => {
+                write!(f, "refused: {construct}")
+            }
+            Error::Refused { construct, place } => write!(f, "refused: {construct}: {place}"),
             Error::NotAccepted { place, fault } => write!(f, "not accepted: {place}: {fault}"),
             Error::NoModule { place, problem } if place.is_empty() => {
                 write!(f, "no module: {problem}")

@@ -205,7 +205,10 @@ fn memory(length: usize) -> Result<Vec<u8>, Error> {
 fn answer(status: u32, text: String) -> Result<String, Error> {
     Err(match status {
         sys::DONE => return Ok(text),
-        sys::REFUSED => Error::Refused { construct: text },
+        sys::REFUSED => {
+            let (construct, place) = refused_at(&text);
+            Error::Refused { construct, place }
+        }
         sys::NOT_ACCEPTED => {
             let (place, fault) = placed(&text);
             Error::NotAccepted { place, fault }
@@ -220,6 +223,14 @@ fn answer(status: u32, text: String) -> Result<String, Error> {
         // an unknown flag too: the flags here are known
         unknown => Error::Unknown(unknown),
     })
+}
+
+/// The construct in front of its place, and the place, which is empty where none is told.
+fn refused_at(text: &str) -> (String, String) {
+    match text.find(": module") {
+        Some(at) => (text[..at].into(), text[at + 2..].into()),
+        None => (text.into(), String::new()),
+    }
 }
 
 /// The place in front of a reason, and the reason.

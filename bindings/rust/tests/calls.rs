@@ -83,7 +83,7 @@ fn an_empty_module_has_an_empty_text() {
 }
 
 #[test]
-fn a_refused_module_tells_the_construct() {
+fn a_refused_module_tells_the_construct_and_its_place() {
     let half = DOUBLE
         .replace("\"Sint\"", "\"Float\"")
         .replace(r#"{"FunctionArgument": 0}"#, r#"{"Literal": {"F32": 0.5}}"#);
@@ -91,7 +91,9 @@ fn a_refused_module_tells_the_construct() {
     assert!(told.contains("0.5f"), "{told}");
     let error = write_json(&half, Flags::empty()).unwrap_err();
     assert_eq!(error.construct(), Some("float literal"));
-    assert_eq!(error.to_string(), "refused: float literal");
+    let place = error.place().unwrap();
+    assert!(place.starts_with("module.functions[0].expressions["), "{place}");
+    assert_eq!(error.to_string(), format!("refused: float literal: {place}"));
     assert_eq!(check_json(&half), Ok(()));
 }
 

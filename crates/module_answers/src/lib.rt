@@ -7,5 +7,5 @@ mod places;
 mod writing;
 
 pub use layouts::layout_table;
-pub use places::{JsonPlace, JsonRefusalPlace};
+pub use places::{JsonPlace, JsonRefusal, JsonRefusalPlace, label_at};
 pub use writing::{Written, flags_for, write, write_told};

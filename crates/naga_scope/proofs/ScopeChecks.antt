@@ -21,9 +21,9 @@ use Rattle.naga_scope.specs.declared.scope_faults.ScopeFault.TheVariants.{GivenB
 use Rattle.shader_runs.specs.Program.{Statement, Emit, Store, Block, If, Switch, Loop, Return, Act}
 use Rattle.shader_runs.specs.Program.{Statements, end, then, Cases, no_case, case, Function}
 use Rattle.shader_runs.specs.Program.{Break, Continue, Kill, Barrier}
-use Rattle.shader_runs.specs.Program.{expression_of, operands_of, binds, from}
+use Rattle.shader_runs.specs.Program.{expression_of, operands_of, binds, from, is_emittable}
 use Rattle.shader_runs.specs.Scope.{Handles, Naming, before_local, bound_name, at_start, is_new}
-use Rattle.shader_runs.specs.Scope.{usable, usable_all, usable_if, is_emittable, after_one, after}
+use Rattle.shader_runs.specs.Scope.{usable, usable_all, usable_if, after_one, after}
 use Rattle.shader_runs.specs.Scope.{after_all, named_after, named_by, named_by_all, may_emit}
 use Rattle.shader_runs.specs.Scope.{may_emit_all, may_give, fits, fits_all, fits_cases}
 use Rattle.shader_runs.specs.Scope.{first_values_fit, fits_function}

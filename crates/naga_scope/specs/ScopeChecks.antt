@@ -14,10 +14,9 @@ use Rattle.naga_scope.specs.declared.scope_faults.ScopeFault.TheVariants.{Emitte
 use Rattle.naga_scope.specs.declared.scope_faults.ScopeFault.TheVariants.{GivenBefore, NeedsNoEmit}
 use Rattle.shader_runs.specs.Program.{Statement, Emit, Store, Block, If, Switch, Loop, Return, Act}
 use Rattle.shader_runs.specs.Program.{Statements, end, then, Cases, no_case, case, Function}
-use Rattle.shader_runs.specs.Program.{expression_of, operands_of, binds, from}
+use Rattle.shader_runs.specs.Program.{expression_of, operands_of, binds, from, is_emittable}
 use Rattle.shader_runs.specs.Scope.{Handles, Naming, before_local, at_start, is_new, usable}
-use Rattle.shader_runs.specs.Scope.{is_emittable, after_one, after, after_all, named_after, named_by}
-use Rattle.shader_runs.specs.Scope.{named_by_all}
+use Rattle.shader_runs.specs.Scope.{after_one, after, after_all, named_after, named_by, named_by_all}
 
 -- nothing is wrong, or there is a fault
 abbrev pub Checked : Type 0

@@ -12,8 +12,8 @@ use Rattle.naga_scope.specs.declared.scope_faults.ScopeFault.TheVariants.{Emitte
 use Rattle.naga_scope.specs.declared.scope_faults.ScopeFault.TheVariants.{GivenBefore, NeedsNoEmit}
 use Rattle.shader_runs.specs.Program.{Statement, Block, If, Switch, Loop, Statements, end, then}
 use Rattle.shader_runs.specs.Program.{Cases, no_case, case, Function, binds, expression_of}
-use Rattle.shader_runs.specs.Program.{operands_of}
-use Rattle.shader_runs.specs.Scope.{before_local, is_emittable}
+use Rattle.shader_runs.specs.Program.{is_emittable, operands_of}
+use Rattle.shader_runs.specs.Scope.{before_local}
 use Rattle.shader_runs.specs.ScopeFaults.{GivesAt, IsOutOfScopeAt, UsesAt}
 use Rattle.shader_runs.specs.ScopeRules.{Emitted, IntroducedHandle, Point, WasIntroduced, behind}
 use Rattle.shader_runs.specs.ScopeRules.{behind_turn, entry_point, handle_of}

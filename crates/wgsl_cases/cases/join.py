@@ -165,7 +165,7 @@ class Expected:
             raise case.error("a module that is not accepted has no text and no refusal")
         if plain == (None, None) and typed != (None, None):
             raise case.error("with types alone: what is written without them is not told")
-        if self.place is not None and self.refusals[0] is None:
+        if self.place is not None and self.refusals == [None, None]:
             raise case.error("a place of what is not refused")
         if self.portable is not None and self.refusals != [None, None]:
             raise case.error("a module that is not written has no portable text")

@@ -2,9 +2,10 @@
 
 use crate::failure::Failure;
 use crate::texts::{Style, write_in};
-use module_answers::{JsonPlace, JsonRefusalPlace, Written};
+use module_answers::{JsonPlace, JsonRefusalPlace, Written, label_at};
 use naga_json::{Known, ReadError, known_of};
 use naga_wgsl_out::info::Unaccepted;
+use naga_wgsl_out::ir::Module;
 use naga_wgsl_out::wgsl::{Error, Refusal};
 use serde_json::{Map, Value};
 use std::alloc::{AllocError, Global};
@@ -124,7 +125,7 @@ fn tell_known(
     members: &mut Members,
 ) -> Result<(), AllocError> {
     match write_in(alloc, style, known) {
-        Ok(written) => tell_written(alloc, written, members),
+        Ok(written) => tell_written(alloc, written, &known.module, members),
         Err(unaccepted) => tell_unaccepted(alloc, unaccepted, members),
     }
 }
@@ -132,6 +133,7 @@ fn tell_known(
 fn tell_written(
     alloc: Global,
     written: Written<String>,
+    module: &Module,
     members: &mut Members,
 ) -> Result<(), AllocError> {
     let Written {
@@ -142,7 +144,7 @@ fn tell_written(
     match answer {
         Ok(()) => put(alloc, "text", Value::String(sink), members),
         Err(Error::Memory(error)) => Err(error),
-        Err(reason) => tell_refused(alloc, reason, refusal, sink, members),
+        Err(reason) => tell_refused(alloc, reason, refusal, module, sink, members),
     }
 }
 
@@ -151,12 +153,16 @@ fn tell_refused(
     alloc: Global,
     reason: Error,
     refusal: Option<Refusal>,
+    module: &Module,
     text: String,
     members: &mut Members,
 ) -> Result<(), AllocError> {
     tell(alloc, "refused", reason, members)?;
     if let Some(refusal) = refusal {
         tell(alloc, "place", JsonRefusalPlace(refusal.place), members)?;
+        if let Some(label) = label_at(module, refusal.place) {
+            tell(alloc, "function", label, members)?;
+        }
     }
     put(alloc, "text", Value::String(text), members)
 }

@@ -5,9 +5,10 @@ use crate::inputs::known_of;
 use crate::lines::answer_lines;
 use crate::texts::write_in;
 use crate::words::{Request, Task, request_of};
-use module_answers::{JsonPlace, JsonRefusalPlace, Written, layout_table};
+use module_answers::{JsonPlace, JsonRefusal, Written, label_at, layout_table};
 use naga_json::Known;
 use naga_wgsl_out::info::{Unaccepted, unaccepted};
+use naga_wgsl_out::ir::Module;
 use naga_wgsl_out::wgsl::{Error, Refusal};
 use std::alloc::Global;
 use std::fmt::Display;
@@ -132,7 +133,7 @@ fn print_text<O: Write, E: Write>(
     err: &mut E,
 ) -> u8 {
     match write_in(alloc, request.style, known) {
-        Ok(written) => print_written(written, out, err),
+        Ok(written) => print_written(written, &known.module, out, err),
         Err(unaccepted) => refuse_unaccepted(unaccepted, err),
     }
 }
@@ -155,7 +156,12 @@ fn tell_layouts<O: Write, E: Write>(alloc: Global, known: &Known, out: &mut O, e
     }
 }
 
-fn print_written<O: Write, E: Write>(written: Written<String>, out: &mut O, err: &mut E) -> u8 {
+fn print_written<O: Write, E: Write>(
+    written: Written<String>,
+    module: &Module,
+    out: &mut O,
+    err: &mut E,
+) -> u8 {
     let Written {
         answer,
         refusal,
@@ -163,17 +169,18 @@ fn print_written<O: Write, E: Write>(written: Written<String>, out: &mut O, err:
     } = written;
     match (answer, refusal) {
         (Ok(()), _) => print(sink, out, err),
-        (Err(_), Some(refusal)) => refuse_at(refusal, err),
+        (Err(_), Some(refusal)) => refuse_at(refusal, module, err),
         (Err(error), None) => tell_error(error, err),
     }
 }
 
-/// Tells what the module is refused for, and where that stands.
-fn refuse_at<E: Write>(refusal: Refusal, err: &mut E) -> u8 {
-    let construct = refusal.construct;
-    let place = JsonRefusalPlace(refusal.place);
-    let _ = writeln!(err, "refused: {construct}: {place}");
-    REFUSED
+/// Tells what the module is refused for, where that stands, and the label of the function there.
+fn refuse_at<E: Write>(refusal: Refusal, module: &Module, err: &mut E) -> u8 {
+    let told = JsonRefusal(refusal);
+    match label_at(module, refusal.place) {
+        Some(label) => refuse(format_args!("{told}, in {label:?}"), err),
+        None => refuse(told, err),
+    }
 }
 
 /// Tells why the module is refused, or that memory was.

@@ -9,11 +9,11 @@ ghost use Rattle.yorwethul_c.specs.Answers.{TellsOfWriting};
 use crate::nesting::nests_past;
 use crate::status::{Status, status_of};
 use bitflags::Flags;
-use module_answers::{JsonPlace, Written, layout_table, write, write_told};
+use module_answers::{JsonPlace, JsonRefusal, Written, layout_table, write, write_told};
 use naga_json::{Known, ReadError, read_known};
 use naga_wgsl_out::info::{Unaccepted, unaccepted};
 use naga_wgsl_out::sinks::Limited;
-use naga_wgsl_out::wgsl::{Error, WriterFlags};
+use naga_wgsl_out::wgsl::{Error, Refusal, WriterFlags};
 use std::alloc::{AllocError, Global};
 use std::fmt::Display;
 
@@ -159,20 +159,35 @@ fn told_written(alloc: Global, written: Written<Limited>) -> Answer
     ensures { SaysOfWritten written.answer written.sink.text result.status
         (string_bytes result.text) }
 {
-    let Written { answer, sink, .. } = written;
+    let Written {
+        answer,
+        refusal,
+        sink,
+    } = written;
     match answer {
         Ok(()) => settled(alloc, Status::Done, String::from_str(alloc, sink.text())),
-        Err(error) => told_error(alloc, error),
+        Err(error) => told_error(alloc, error, refusal),
     }
 }
 
-fn told_error(alloc: Global, error: Error) -> Answer
+fn told_error(alloc: Global, error: Error, refusal: Option<Refusal>) -> Answer
     ensures { SaysOfError error result.status (string_bytes result.text) }
 {
     match status_of(&error) {
         Status::OutOfMemory => out_of_memory(alloc),
         Status::TooLong => told(alloc, Status::TooLong, "text of more than 67108864 bytes"),
-        status => told(alloc, status, error),
+        status => told_refusal(alloc, status, error, refusal),
+    }
+}
+
+/// A status with the construct that is refused and its place, or with the error where no place was
+/// found.
+fn told_refusal(alloc: Global, status: Status, error: Error, refusal: Option<Refusal>) -> Answer
+    ensures { Says status result.status (string_bytes result.text) }
+{
+    match refusal {
+        Some(refusal) => told(alloc, status, JsonRefusal(refusal)),
+        None => told(alloc, status, error),
     }
 }
 
