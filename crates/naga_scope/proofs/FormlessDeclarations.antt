@@ -42,9 +42,9 @@ use Rattle.naga_scope.specs.declared.declarations.FormlessDeclaration.{FormlessD
 use Rattle.naga_scope.specs.declared.declarations.FormlessDeclaration.TheVariants as declaration
 use Rattle.naga_scope.specs.declared.declarations.FormlessHead.{FormlessHead}
 use Rattle.naga_scope.specs.declared.declarations.FormlessHead.TheVariants as head
-use Rattle.naga_scope.specs.Declarations.{BindingHasForm, ConstantHasForm, EntryPointHasForm, Finds, IsFormlessBinding}
+use Rattle.naga_scope.specs.Declarations.{BindingHasForm, ConstantHasForm, ConstantsHaveForms, Each, EntryPointHasForm, Finds, FindsFirst, FunctionsHaveForms, HaveFormsBefore, IsFormlessBinding}
 use Rattle.naga_scope.specs.Declarations.{IsFormlessConstant, IsFormlessDeclaration, IsFormlessEntryPoint, IsFormlessHead}
-use Rattle.naga_scope.specs.Declarations.{IsFormlessIn, IsFormlessPassed, IsFormlessType, IsFormlessValue, IsOfItem, IsPlaced, PassedHasForm, TypeHasForm}
+use Rattle.naga_scope.specs.Declarations.{IsFormlessIn, IsFormlessPassed, IsFormlessType, IsFormlessValue, OverridesHaveForms, PassedHasForm, TypeHasForm, TypesHaveForms, VariablesHaveForms}
 use Rattle.naga_scope.specs.Declarations.{FindsMember, IsFormlessStruct, IsOtherStride, StructHasForm, ValueHasForm, concerned_among}
 use Rattle.wgsl_layout.proofs.FirstFaults.{fault_stands, none_kept}
 use Rattle.wgsl_layout.specs.Faults.{StandsAmong, first_fault}
@@ -195,62 +195,64 @@ module _ (m : Module) where
   variables_lack (declaration.Misplaced fault) (i, g, at, lacks) = absurd lacks
   variables_lack (declaration.Stride ty) (i, g, at, lacks) = absurd lacks
 
-  -- what is found, and where it stands
+  -- what is found, where it stands, and that it is the first
   pub record IsFound (found : DeclarationPlace × FormlessDeclaration) : Type 0 where
     pub some : IsFormlessDeclaration m found.1
     pub place : IsFormlessIn m found.0 found.1
+    pub first : HaveFormsBefore m found.0
+
+  -- what is said of a place is said of one that is the same
+  at_place : (at here : DeclarationPlace) (it : FormlessDeclaration) → at ≡ here → IsFormlessDeclaration m it →
+      IsFormlessIn m here it → HaveFormsBefore m here → IsFound (at, it)
+  at_place at here it same some stands first = record {
+    some = some;
+    place = subst (λ at. IsFormlessIn m at it) (sym same) stands;
+    first = subst (HaveFormsBefore m) (sym same) first;
+  }
 
   pub of_types : (found : DeclarationPlace × FormlessDeclaration) →
-      Finds m.types (TypeHasForm m) (λ h t. IsPlaced (place.Struct h) (IsFormlessType m h t)) (Some found) → IsFound found
-  of_types (at, it) (h, t, there, (same, lacks)) = record {
-    some = types_lack it (h, t, there, lacks);
-    place = subst (λ at. IsFormlessIn m at it) (sym same) (t, there, lacks);
-  }
+      FindsFirst m.types (TypeHasForm m) (λ h. place.Struct h) (IsFormlessType m) (Some found) → IsFound found
+  of_types (at, it) (h, t, there, same, earlier, lacks) =
+      at_place at (place.Struct h) it same (types_lack it (h, t, there, lacks)) (t, there, lacks) earlier
 
-  pub of_constants : (found : DeclarationPlace × FormlessDeclaration) →
-      Finds m.constants (λ i. ConstantHasForm m) (λ h c. IsPlaced (place.Constant h) (IsFormlessConstant m c)) (Some found) → IsFound found
-  of_constants (at, it) (h, c, there, (same, lacks)) = record {
-    some = constants_lack it (h, c, there, lacks);
-    place = subst (λ at. IsFormlessIn m at it) (sym same) (c, there, lacks);
-  }
+  module _ (types : TypesHaveForms m) where
+    pub of_constants : (found : DeclarationPlace × FormlessDeclaration) →
+        FindsFirst m.constants (λ i. ConstantHasForm m) (λ h. place.Constant h) (λ i. IsFormlessConstant m) (Some found) → IsFound found
+    of_constants (at, it) (h, c, there, same, earlier, lacks) =
+        at_place at (place.Constant h) it same (constants_lack it (h, c, there, lacks)) (c, there, lacks) (types, earlier)
 
-  pub of_overrides : (found : DeclarationPlace × FormlessDeclaration) →
-      Finds m.overrides (λ i o. ValueHasForm m o.ty o.init) (λ h o. IsPlaced (place.Override h) (IsFormlessValue m o.ty o.init)) (Some found) → IsFound found
-  of_overrides (at, it) (h, o, there, (same, lacks)) = record {
-    some = overrides_lack it (h, o, there, lacks);
-    place = subst (λ at. IsFormlessIn m at it) (sym same) (o, there, lacks);
-  }
+    module _ (constants : ConstantsHaveForms m) where
+      pub of_overrides : (found : DeclarationPlace × FormlessDeclaration) →
+          FindsFirst m.overrides (λ i o. ValueHasForm m o.ty o.init) (λ h. place.Override h) (λ i o. IsFormlessValue m o.ty o.init) (Some found) → IsFound found
+      of_overrides (at, it) (h, o, there, same, earlier, lacks) =
+          at_place at (place.Override h) it same (overrides_lack it (h, o, there, lacks)) (o, there, lacks) (types, constants, earlier)
 
-  pub of_variables : (found : DeclarationPlace × FormlessDeclaration) →
-      Finds m.global_variables (λ i g. ValueHasForm m g.ty g.init) (λ h g. IsPlaced (place.GlobalVariable h) (IsFormlessValue m g.ty g.init)) (Some found) → IsFound found
-  of_variables (at, it) (h, g, there, (same, lacks)) = record {
-    some = variables_lack it (h, g, there, lacks);
-    place = subst (λ at. IsFormlessIn m at it) (sym same) (g, there, lacks);
-  }
+      module _ (overrides : OverridesHaveForms m) where
+        pub of_variables : (found : DeclarationPlace × FormlessDeclaration) →
+            FindsFirst m.global_variables (λ i g. ValueHasForm m g.ty g.init) (λ h. place.GlobalVariable h) (λ i g. IsFormlessValue m g.ty g.init) (Some found) → IsFound found
+        of_variables (at, it) (h, g, there, same, earlier, lacks) =
+            at_place at (place.GlobalVariable h) it same (variables_lack it (h, g, there, lacks)) (g, there, lacks) (types, constants, overrides, earlier)
 
-  pub of_functions : (h : ℕ) (v : BuiltIn) →
-      Finds m.functions (λ i. PassedHasForm) (λ h f. IsOfItem h (IsFormlessPassed f)) (Some (h, v)) →
-      IsFound (place.Function h, declaration.Head (head.BuiltIn v))
-  of_functions h v (i, f, there, (same, lacks)) = record {
-    some = (i, function_lacks i f there v lacks);
-    place = subst (λ h. IsFormlessIn m (place.Function h) (declaration.Head (head.BuiltIn v))) (sym same) (f, there, lacks);
-  }
+        module _ (variables : VariablesHaveForms m) where
+          pub of_functions : (found : ℕ × BuiltIn) →
+              FindsFirst m.functions (λ i. PassedHasForm) (λ h. h) (λ i. IsFormlessPassed) (Some found) →
+              IsFound (place.Function found.0, declaration.Head (head.BuiltIn found.1))
+          of_functions (at, v) (h, f, there, same, earlier, lacks) =
+              at_place (place.Function at) (place.Function h) (declaration.Head (head.BuiltIn v)) (ap (λ h. place.Function h) same)
+              (h, function_lacks h f there v lacks) (f, there, lacks) (types, constants, overrides, variables, earlier)
 
-  pub of_entry_points : (j : ℕ) (it : FormlessHead) →
-      Finds m.entry_points.items (λ i. EntryPointHasForm) (λ i p. IsOfItem i (IsFormlessEntryPoint p)) (Some (j, it)) →
-      IsFound (place.EntryPoint j, declaration.Head it)
-  of_entry_points j it (i, p, there, (same, lacks)) = record {
-    some = (length m.functions + i, entry_point_lacks i p there it lacks);
-    place = subst (λ j. IsFormlessIn m (place.EntryPoint j) (declaration.Head it)) (sym same) (p, there, lacks);
-  }
+          pub of_entry_points : FunctionsHaveForms m → (found : ℕ × FormlessHead) →
+              FindsFirst m.entry_points.items (λ i. EntryPointHasForm) (λ i. i) (λ i. IsFormlessEntryPoint) (Some found) →
+              IsFound (place.EntryPoint found.0, declaration.Head found.1)
+          of_entry_points functions (at, it) (j, p, there, same, earlier, lacks) =
+              at_place (place.EntryPoint at) (place.EntryPoint j) (declaration.Head it) (ap (λ j. place.EntryPoint j) same)
+              (length m.functions + j, entry_point_lacks j p there it lacks) (p, there, lacks)
+              (types, constants, overrides, variables, functions, earlier)
 
   -- where nothing is found, all has a form
-  module _ (in_types : Finds m.types (TypeHasForm m) (IsFormlessType m) None)
-      (in_constants : Finds m.constants (λ i. ConstantHasForm m) (λ i. IsFormlessConstant m) None)
-      (in_overrides : Finds m.overrides (λ i o. ValueHasForm m o.ty o.init) (λ i o. IsFormlessValue m o.ty o.init) None)
-      (in_variables : Finds m.global_variables (λ i g. ValueHasForm m g.ty g.init) (λ i g. IsFormlessValue m g.ty g.init) None)
-      (in_functions : Finds m.functions (λ i. PassedHasForm) (λ i. IsFormlessPassed) None)
-      (in_entry_points : Finds m.entry_points.items (λ i. EntryPointHasForm) (λ i. IsFormlessEntryPoint) None) where
+  module _ (in_types : TypesHaveForms m) (in_constants : ConstantsHaveForms m) (in_overrides : OverridesHaveForms m)
+      (in_variables : VariablesHaveForms m) (in_functions : FunctionsHaveForms m)
+      (in_entry_points : Each m.entry_points.items (λ i. EntryPointHasForm)) where
     types_formed : (ty : ℕ) → IsDeclaredType m ty → IsTrue (is_spellable m (Handle ty))
     types_formed _ (MemberType h i t s at declared there) = ((in_types h t at declared).each i s there).type
     types_formed _ (ConstantType i k at is_named) = (in_constants i k at is_named).type

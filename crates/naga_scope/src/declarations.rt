@@ -7,11 +7,12 @@ ghost use Rattle.module_meaning.specs.FunctionNumbers.{IsFunctionOf, function_nu
 ghost use Rattle.module_meaning.specs.Layouts.{module_rule};
 ghost use Rattle.naga_layout.specs.Types.{arrays_are_kept};
 ghost use Rattle.naga_scope.specs.Declarations.{BindingHasForm, ConstantHasForm};
-ghost use Rattle.naga_scope.specs.Declarations.{EntryPointHasForm, Finds, FindsMember};
+ghost use Rattle.naga_scope.specs.Declarations.{EntryPointHasForm, Finds, FindsFirst, FindsMember};
+ghost use Rattle.naga_scope.specs.Declarations.{HaveFormsBefore};
 ghost use Rattle.naga_scope.specs.Declarations.{IsFormlessBinding, IsFormlessConstant};
 ghost use Rattle.naga_scope.specs.Declarations.{IsFormlessDeclaration, IsFormlessEntryPoint};
 ghost use Rattle.naga_scope.specs.Declarations.{IsFormlessHead, IsFormlessIn, IsFormlessMember};
-ghost use Rattle.naga_scope.specs.Declarations.{IsFormlessStruct, IsOfItem, IsPlaced};
+ghost use Rattle.naga_scope.specs.Declarations.{IsFormlessStruct};
 ghost use Rattle.naga_scope.specs.Declarations.{IsFormlessPassed, IsFormlessType, IsFormlessValue};
 ghost use Rattle.naga_scope.specs.Declarations.{IsOtherStride, MemberHasForm, PassedHasForm};
 ghost use Rattle.naga_scope.specs.Declarations.{StructHasForm, TypeHasForm, ValueHasForm};
@@ -98,6 +99,7 @@ pub fn formless_declaration(
     ensures none { IfNone result (DeclarationsHaveForms «module».now) }
     ensures some { IfSome result (λ found. IsFormlessDeclaration «module».now found.1) }
     ensures place { IfSome result (λ found. IsFormlessIn «module».now found.0 found.1) }
+    ensures first { IfSome result (λ found. HaveFormsBefore «module».now found.0) }
 {
     if let Some(formless) = formless_in_structs(module, tables) {
         return Some(formless);
@@ -134,8 +136,8 @@ fn formless_in_structs(
     tables: &ModuleTables,
 ) -> Option<(DeclarationPlace, FormlessDeclaration)>
     requires tables { AreTablesOf «module».now tables.now }
-    ensures { Finds «module».now.types (TypeHasForm «module».now)
-        (λ h t. IsPlaced (DeclarationPlace.Struct h) (IsFormlessType «module».now h t)) result }
+    ensures { FindsFirst «module».now.types (TypeHasForm «module».now)
+        (λ h. DeclarationPlace.Struct h) (IsFormlessType «module».now) result }
 {
     for (handle, ty) in module.types.iter() {
         if let Some(formless) = formless_in_type(module, tables, handle, ty) {
@@ -274,8 +276,8 @@ fn formless_in_constants(
     tables: &ModuleTables,
 ) -> Option<(DeclarationPlace, FormlessDeclaration)>
     requires tables { AreTablesOf «module».now tables.now }
-    ensures { Finds «module».now.constants (λ i. ConstantHasForm «module».now)
-        (λ h c. IsPlaced (DeclarationPlace.Constant h) (IsFormlessConstant «module».now c)) result }
+    ensures { FindsFirst «module».now.constants (λ i. ConstantHasForm «module».now)
+        (λ h. DeclarationPlace.Constant h) (λ i. IsFormlessConstant «module».now) result }
 {
     for (handle, constant) in module.constants.iter() {
         if let Some(formless) = formless_constant(module, tables, constant) {
@@ -307,9 +309,9 @@ fn formless_in_overrides(
     tables: &ModuleTables,
 ) -> Option<(DeclarationPlace, FormlessDeclaration)>
     requires tables { AreTablesOf «module».now tables.now }
-    ensures { Finds «module».now.overrides (λ i o. ValueHasForm «module».now o.ty o.init)
-        (λ h o. IsPlaced (DeclarationPlace.Override h)
-        (IsFormlessValue «module».now o.ty o.init)) result }
+    ensures { FindsFirst «module».now.overrides (λ i o. ValueHasForm «module».now o.ty o.init)
+        (λ h. DeclarationPlace.Override h)
+        (λ i o. IsFormlessValue «module».now o.ty o.init) result }
 {
     for (handle, item) in module.overrides.iter() {
         if let Some(formless) = formless_value(module, tables, item.ty, item.init) {
@@ -325,9 +327,9 @@ fn formless_in_variables(
     tables: &ModuleTables,
 ) -> Option<(DeclarationPlace, FormlessDeclaration)>
     requires tables { AreTablesOf «module».now tables.now }
-    ensures { Finds «module».now.global_variables (λ i g. ValueHasForm «module».now g.ty g.init)
-        (λ h g. IsPlaced (DeclarationPlace.GlobalVariable h)
-        (IsFormlessValue «module».now g.ty g.init)) result }
+    ensures { FindsFirst «module».now.global_variables
+        (λ i g. ValueHasForm «module».now g.ty g.init) (λ h. DeclarationPlace.GlobalVariable h)
+        (λ i g. IsFormlessValue «module».now g.ty g.init) result }
 {
     for (handle, variable) in module.global_variables.iter() {
         if let Some(formless) = formless_value(module, tables, variable.ty, variable.init) {
@@ -365,7 +367,7 @@ fn formless_value(
 
 /// The first value without a word that a function takes or gives, and the function.
 fn formless_in_functions(functions: &Arena<Function>) -> Option<(Handle<Function>, BuiltIn)>
-    ensures { Finds functions.now (λ i. PassedHasForm) (λ h f. IsOfItem h (IsFormlessPassed f))
+    ensures { FindsFirst functions.now (λ i. PassedHasForm) (λ h. h) (λ i. IsFormlessPassed)
         result }
 {
     for (handle, function) in functions.iter() {
@@ -404,8 +406,8 @@ fn formless_in_arguments(arguments: &[FunctionArgument]) -> Option<BuiltIn>
 /// The first value without a word that an entry point takes or gives, or its stage without a form,
 /// and the index of the entry point.
 fn formless_in_entry_points(entry_points: &[EntryPoint]) -> Option<(usize, FormlessHead)>
-    ensures { Finds entry_points.now (λ i. EntryPointHasForm)
-        (λ i p. IsOfItem i (IsFormlessEntryPoint p)) result }
+    ensures { FindsFirst entry_points.now (λ i. EntryPointHasForm) (λ i. i)
+        (λ i. IsFormlessEntryPoint) result }
 {
     for index in 0..entry_points.len() {
         if let Some(formless) = formless_entry_point(&entry_points[index]) {

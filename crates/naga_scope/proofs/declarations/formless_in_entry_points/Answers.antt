@@ -7,7 +7,7 @@ use Rattle.naga_scope.proofs.declarations.formless_in_entry_points.Goals as goal
 pub returns-in-Some : goal.returns-in-Some
 returns-in-Some c =
     let here = slice_get_read c.args.entry_points.now (length c.args.entry_points.now) c.loop-index.index c.index-entry_points-index.result refl c.loop-index-test.true c.index-entry_points-index.is in
-    (c.loop-index.index, c.index-entry_points-index.result, here, (refl, c.in-Some.ensures))
+    (c.loop-index.index, c.index-entry_points-index.result, here, refl, c.loop-index.invariant.formed, c.in-Some.ensures)
 
 pub loop-index-preserved : goal.loop-index-preserved
 loop-index-preserved c =

@@ -1,5 +1,5 @@
 use Rattle.std.proofs.Common.{refl}
-use Rattle.naga_scope.proofs.Searching.{here_left, next_left, none_left}
+use Rattle.naga_scope.proofs.Searching.{before_left, here_left, next_left, none_left}
 use Rattle.naga_scope.specs.Declarations.{PassedHasForm}
 use Rattle.naga_scope.proofs.declarations.formless_in_functions.Goals as goal
 
@@ -8,7 +8,10 @@ returns-in-Some-formless_passed c =
     let here =
     here_left (λ i. PassedHasForm) c.args.functions.now c.loop-handle.handle-iterator c.next.new.self c.in-Some.handle c.in-Some.function.now c.in-Some.ensures.steps
     c.loop-handle.invariant in
-    (c.in-Some.handle, c.in-Some.function.now, here, (refl, c.in-Some-formless_passed.ensures))
+    let earlier =
+    before_left (λ i. PassedHasForm) c.args.functions.now c.loop-handle.handle-iterator c.next.new.self c.in-Some.handle c.in-Some.function.now c.in-Some.ensures.steps
+    c.loop-handle.invariant in
+    (c.in-Some.handle, c.in-Some.function.now, here, refl, earlier, c.in-Some-formless_passed.ensures)
 
 pub loop-handle-preserved : goal.loop-handle-preserved
 loop-handle-preserved c =

@@ -1,5 +1,5 @@
 use Rattle.std.proofs.Common.{refl}
-use Rattle.naga_scope.proofs.Searching.{here_left, next_left, none_left}
+use Rattle.naga_scope.proofs.Searching.{before_left, here_left, next_left, none_left}
 use Rattle.naga_scope.specs.Declarations.{ValueHasForm}
 use Rattle.naga_ir.specs.declared.module.Override.{Override}
 use Rattle.naga_scope.proofs.declarations.formless_in_overrides.Goals as goal
@@ -10,7 +10,10 @@ returns-in-Some-formless_value c =
     let here =
     here_left (λ i (o : Override). ValueHasForm m o.ty o.init) m.overrides c.loop-handle.handle-iterator c.next.new.self c.in-Some.handle c.in-Some.item.now c.in-Some.ensures.steps
     c.loop-handle.invariant in
-    (c.in-Some.handle, c.in-Some.item.now, here, (refl, c.in-Some-formless_value.ensures))
+    let earlier =
+    before_left (λ i (o : Override). ValueHasForm m o.ty o.init) m.overrides c.loop-handle.handle-iterator c.next.new.self c.in-Some.handle c.in-Some.item.now c.in-Some.ensures.steps
+    c.loop-handle.invariant in
+    (c.in-Some.handle, c.in-Some.item.now, here, refl, earlier, c.in-Some-formless_value.ensures)
 
 pub loop-handle-preserved : goal.loop-handle-preserved
 loop-handle-preserved c =
