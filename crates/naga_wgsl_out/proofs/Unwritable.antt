@@ -35,7 +35,7 @@ use Rattle.naga_wgsl_fns.specs.declared.plans.FunctionPart.{FunctionPart}
 use Rattle.naga_wgsl_out.proofs.ExpressionNames.{none_past}
 use Rattle.naga_wgsl_out.proofs.ModuleScopes.{all_planned_formed, all_planned_hold}
 use Rattle.naga_wgsl_out.specs.ModuleRefusals.{HasAllNames, HasNamedBefore, NamerIsFull, NothingIsRefused}
-use Rattle.naga_wgsl_out.specs.Unwritable.{IsUnspelled, IsWritable, StandsAtPart, StandsInFunction, StandsInLabels}
+use Rattle.naga_wgsl_out.specs.Unwritable.{AreWritableBefore, IsUnspelled, IsWritable, StandsAtPart, StandsInFunction, StandsInLabels}
 use Rattle.naga_wgsl_out.specs.Writing.{HasPlan}
 
 -- ---- a function that is refused
@@ -110,6 +110,16 @@ pub one_writable : (explicit : Bool) (m : Module) (info : ModuleInfo) (n : ℕ) 
 one_writable explicit m info n old new before here = record {
   planned = below_more (HasPlan explicit m info) n before.planned here.planned;
   named = here.named;
+}
+
+-- so a construct in the next one is the first
+pub before_writable : (explicit : Bool) (m : Module) (info : ModuleInfo) (names : NameMap) (n : ℕ) (namer : Names) →
+    DeclarationsHaveForms m → HasAllNames m names → AreWritable explicit m info n namer →
+    AreWritableBefore explicit m info n
+before_writable explicit m info names n namer declarations has all = record {
+  declarations = declarations;
+  nameable = has.nameable;
+  planned = all.planned;
 }
 
 -- where all have one, nothing is refused

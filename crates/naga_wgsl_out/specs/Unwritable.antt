@@ -3,8 +3,9 @@
 -- Throughout, m is the module, info what is known of it, f is a function, known what is known of its
 -- expressions, number that of a function or an entry point, explicit says whether `let`s tell types,
 -- it is a construct and at is where it stands.
-use Rattle.std.specs.Prelude.{◌≡◌, ℕ, ◌+◌, ◌⊎◌, Bool, List, Some, IsFalse, IsSomeAnd, codes, length}
-use Rattle.std.specs.Prelude.{slice_get}
+use Rattle.std.specs.Prelude.{◌≡◌, ℕ, ◌+◌, ◌<◌, ◌⊎◌, Bool, List, Some, IsFalse, IsSomeAnd, codes}
+use Rattle.std.specs.Prelude.{length, slice_get}
+use Rattle.module_meaning.specs.DeclarationForms.{DeclarationsHaveForms}
 use Rattle.module_meaning.specs.ExpressionForms.{expression_has_form}
 use Rattle.module_meaning.specs.FunctionNumbers.{all_functions, all_infos}
 use Rattle.module_meaning.specs.FunctionShapes.{function_shape}
@@ -18,7 +19,7 @@ use Rattle.naga_info.specs.declared.info.TypeResolution.TheVariants.{Handle}
 use Rattle.naga_ir.specs.declared.module.Function.{Function}
 use Rattle.naga_ir.specs.declared.module.Module.{Module}
 use Rattle.naga_names.specs.Naming.{Names}
-use Rattle.naga_scope.specs.Declarations.{IsFormlessIn}
+use Rattle.naga_scope.specs.Declarations.{HaveFormsBefore, IsFormlessIn}
 use Rattle.naga_scope.specs.FormlessStatements.{IsFormlessAt}
 use Rattle.naga_scope.specs.ScopeFaults.{IsScopeFault}
 use Rattle.naga_scope.specs.declared.declarations.DeclarationPlace.{DeclarationPlace}
@@ -108,6 +109,25 @@ StandsAt explicit m info (place.EntryPoint i at) it =
 abbrev pub StandsIn : (explicit : Bool) → Module → ModuleInfo → Refusal → Type 0
 StandsIn explicit m info refusal = StandsAt explicit m info refusal.place refusal.construct
 
+-- ---- which one is told
+-- each declaration has a form, each item a name, and each function and entry point in front of the one
+-- with this number a plan
+pub record AreWritableBefore (explicit : Bool) (m : Module) (info : ModuleInfo)
+    (number : ℕ) : Type 0 where
+  pub declarations : DeclarationsHaveForms m
+  pub nameable : ItemsAreFull m → ⊥
+  pub planned : (i : ℕ) → i < number → HasPlan explicit m info i
+
+-- a module is looked at by its declarations, by the labels of its items, and by its functions and
+-- entry points: nothing stands in front of this place for which it is refused
+abbrev pub IsFirst : (explicit : Bool) → Module → ModuleInfo → RefusalPlace → Type 0
+IsFirst explicit m info (place.Declaration at) = HaveFormsBefore m at
+IsFirst explicit m info place.Labels = DeclarationsHaveForms m
+IsFirst explicit m info (place.Function h at) = AreWritableBefore explicit m info h
+IsFirst explicit m info (place.EntryPoint i at) =
+    AreWritableBefore explicit m info (length m.functions + i)
+
+-- ---- on the way
 -- the function with this number has a plan, and the namer has named its labels after all in front of
 -- them
 pub record IsWritable (explicit : Bool) (m : Module) (info : ModuleInfo) (number : ℕ)

@@ -1,6 +1,6 @@
 //! Why a module is refused, and where.
 
-ghost use Rattle.std.specs.Prelude.{IfOk, IsTrue, MatchOption};
+ghost use Rattle.std.specs.Prelude.{IfOk, IfSome, IsTrue, MatchOption};
 ghost use Rattle.module_meaning.specs.Accepted.{is_accepted};
 ghost use Rattle.module_meaning.specs.DeclarationForms.{DeclarationsHaveForms};
 ghost use Rattle.module_meaning.specs.FunctionNumbers.{IsFunctionOf, function_number};
@@ -9,7 +9,8 @@ ghost use Rattle.naga_back.specs.Flags.{annotates_types};
 ghost use Rattle.naga_names.specs.Keys.{names_in};
 ghost use Rattle.naga_scope.specs.Tables.{AreTablesOf};
 ghost use Rattle.naga_wgsl_out.specs.ModuleRefusals.{HasAllNames, HasNamedBefore, NothingIsRefused};
-ghost use Rattle.naga_wgsl_out.specs.Unwritable.{IsWritable, StandsIn, StandsInFunction};
+ghost use Rattle.naga_wgsl_out.specs.Unwritable.{IsFirst, IsWritable, StandsIn};
+ghost use Rattle.naga_wgsl_out.specs.Unwritable.{StandsInFunction};
 
 use crate::writer::items_named;
 use naga_back::{FunctionType, WriterFlags};
@@ -71,9 +72,11 @@ pub fn unwritable(
     flags: WriterFlags,
 ) -> Result<Option<Refusal>, AllocError>
     requires accepted { IsTrue (is_accepted «module».now info.now) }
-    ensures { IfOk result (λ found. MatchOption found
+    ensures stands { IfOk result (λ found. MatchOption found
         (NothingIsRefused (annotates_types flags) «module».now info.now)
         (StandsIn (annotates_types flags) «module».now info.now)) }
+    ensures first { IfOk result (λ found. IfSome found (λ refusal.
+        IsFirst (annotates_types flags) «module».now info.now refusal.place)) }
 {
     let tables = ModuleTables::of(alloc, module)?;
     if let Some((place, declaration)) = formless_declaration(module, &tables) {
@@ -112,9 +115,11 @@ fn unwritable_function(
     requires tables { AreTablesOf «module».now tables.now }
     requires names { HasAllNames «module».now (names_in names.now) }
     requires namer { HasNamedBefore «module».now 0 namer.old }
-    ensures { IfOk result (λ found. MatchOption found
+    ensures stands { IfOk result (λ found. MatchOption found
         (NothingIsRefused (annotates_types flags) «module».now info.now)
         (StandsIn (annotates_types flags) «module».now info.now)) }
+    ensures first { IfOk result (λ found. IfSome found (λ refusal.
+        IsFirst (annotates_types flags) «module».now info.now refusal.place)) }
 {
     for index in 0..module.functions.len() {
         let handle = Place::from_index(index);
