@@ -296,7 +296,7 @@ module _ (found : ℕ × FormlessStatement) where
         (onward_err (λ n. number_cases switched n cs) (number_block n b) found e))
         (refused_err switched here (falls_formless falls (has_no_statements b)) rest is_here err)
 
-found_err : {n : ℕ} {it : FormlessStatement} (r : Walked) → result_err r ≡ Some (n, it) → r ≡ Err (n, it)
+pub found_err : {n : ℕ} {it : FormlessStatement} (r : Walked) → result_err r ≡ Some (n, it) → r ≡ Err (n, it)
 found_err (Ok j) is = absurd cc
 found_err (Err other) is = cc
 

@@ -11,8 +11,8 @@ ghost use Rattle.naga_names.specs.Keys.{names_in};
 ghost use Rattle.naga_scope.specs.ExpressionNames.{HasBegunLabels, NamesLabels};
 ghost use Rattle.naga_scope.specs.Forms.{AreKnownIn};
 ghost use Rattle.naga_scope.specs.KnownFunctions.{expressions_of};
-ghost use Rattle.naga_scope.specs.Plans.{IsPlanFor, IsPlanOf, IsRefusalToPlanFor};
-ghost use Rattle.naga_scope.specs.Plans.{IsRefusalToPlanOf};
+ghost use Rattle.naga_scope.specs.Plans.{IsFirstToPlanFor, IsFirstToPlanOf, IsPlanFor, IsPlanOf};
+ghost use Rattle.naga_scope.specs.Plans.{IsRefusalToPlanFor, IsRefusalToPlanOf};
 ghost use Rattle.naga_scope.specs.Results.{ResultsFit};
 ghost use Rattle.naga_scope.specs.Tables.{AreTablesOf};
 ghost use Rattle.naga_scope.specs.declared.plan.PlanError.TheVariants.{Memory, OutOfScope, Unnamed};
@@ -139,6 +139,8 @@ impl Plan {
         ensures err { IfErr result
             (IsRefusalToPlanOf explicit «module».now info.now (function_number «module».now ty)
             namer.old) }
+        ensures first { IfErr result
+            (IsFirstToPlanOf explicit «module».now info.now (function_number «module».now ty)) }
         ensures begun { OnErr result (HasBegunLabels namer.old
             (labels_named_in «module».now (function_number «module».now ty)) namer.new) }
     {
@@ -170,6 +172,7 @@ impl Plan {
         ensures named { IfOk result (λ p.
             NamesLabels namer.old [] (expression_labels known.now.function.now) namer.new p.named) }
         ensures err { IfErr result (IsRefusalToPlanFor explicit known.now namer.old) }
+        ensures first { IfErr result (IsFirstToPlanFor explicit known.now) }
         ensures begun { OnErr result
             (HasBegunLabels namer.old (expression_labels known.now.function.now) namer.new) }
     {

@@ -7,11 +7,12 @@ use Rattle.module_meaning.specs.Written.{function_roots}
 use Rattle.naga_scope.specs.Availabilities.{KeepsStart}
 use Rattle.naga_scope.specs.KnownFunctions.{bound_in, expressions_of, has_form_in, shape_of}
 use Rattle.naga_scope.specs.Marks.{Sweeps}
-use Rattle.naga_scope.proofs.FormedStatements.{found_lacks, none_formless, none_found, one_found}
+use Rattle.naga_scope.proofs.FormedStatements.{found_err, found_lacks, none_formless, none_found, one_found}
 use Rattle.naga_scope.proofs.SpelledTypes.{declared_lacks, let_lacks, spelled_formed}
 use Rattle.naga_scope.proofs.Planned.{checked_fault, checked_holds}
 use Rattle.naga_names.proofs.Reset.{if_err}
-use Rattle.naga_scope.specs.Plans.{IsRefusalToPlanFor}
+use Rattle.naga_scope.specs.FormlessStatements.{number_block}
+use Rattle.naga_scope.specs.Plans.{IsFirstToPlanFor, IsRefusalToPlanFor}
 use Rattle.naga_scope.specs.declared.plan.PlanError.TheVariants.{OutOfScope}
 use Rattle.naga_scope.proofs.plan.Plan.of_function.Goals as goal
 
@@ -39,6 +40,13 @@ returns-in_err-check_function-clause-err c =
     (IsRefusalToPlanFor c.args.explicit k c.args.namer.now) c.from_residual-in_err-check_function.ensures.1
     (checked_fault k.shader.now k.module_info.now k.function.now k.info.now c.requires.ordered fault
     (sym c.in_err-check_function.ensures.check))
+
+pub returns-in_err-check_function-clause-first : goal.returns-in_err-check_function-clause-first
+returns-in_err-check_function-clause-first c =
+    let fault = c.in_err-check_function.field-0.0 in
+    if_err c.from_residual-in_err-check_function.result (OutOfScope fault)
+    (IsFirstToPlanFor c.args.explicit c.args.known.now) c.from_residual-in_err-check_function.ensures.1
+    (sym c.in_err-check_function.ensures.check)
 
 -- there are as many names as labels
 few : {X : Type 0} (labels : List (List ℕ)) (names : List (String X)) → length (map string_bytes names) ≡ 0 + length labels → length names < 2 ^ 64 → length labels < 2 ^ 64
@@ -79,10 +87,55 @@ returns-in-Some-clause-err c =
     let is = sym c.formless_statement.ensures ∙ c.in-Some.is in
     (one_found f.body c.in-Some.number c.in-Some.formless is, found_lacks f.body c.in-Some.number c.in-Some.formless is)
 
+pub returns-in-Some-clause-first : goal.returns-in-Some-clause-first
+returns-in-Some-clause-first c =
+    let k = c.args.known.now in
+    let f = k.function.now in
+    let is = sym c.formless_statement.ensures ∙ c.in-Some.is in (
+      checked_holds k.shader.now k.module_info.now f k.info.now c.requires.ordered (sym c.in_ok-check_function.ensures.check),
+      found_err (number_block 0 f.body) is,
+    )
+
 pub returns-in-Some-2-clause-err : goal.returns-in-Some-2-clause-err
 returns-in-Some-2-clause-err c =
     let k = c.args.known.now in
-    subst (Sweeps (has_form_in k) (expressions_of k) (function_roots (bound_in k) k.function.now)) c.in-Some-2.is c.in_ok-handle.ensures
+    let swept = subst (Sweeps (has_form_in k) (expressions_of k) (function_roots (bound_in k) k.function.now)) c.in-Some-2.is c.in_ok-handle.ensures in
+    (swept.0, swept.1)
+
+pub returns-in-Some-2-clause-first : goal.returns-in-Some-2-clause-first
+returns-in-Some-2-clause-first c =
+    let k = c.args.known.now in
+    let f = k.function.now in
+    let swept = subst (Sweeps (has_form_in k) (expressions_of k) (function_roots (bound_in k) f)) c.in-Some-2.is c.in_ok-handle.ensures in (
+      checked_holds k.shader.now k.module_info.now f k.info.now c.requires.ordered (sym c.in_ok-check_function.ensures.check),
+      none_formless f.body (none_found f.body (sym c.formless_statement.ensures ∙ c.in_default.is)),
+      swept.2,
+    )
+
+pub returns-in-Some-declared_without_form-clause-first : goal.returns-in-Some-declared_without_form-clause-first
+returns-in-Some-declared_without_form-clause-first c =
+    let k = c.args.known.now in
+    let f = k.function.now in (
+      (
+        checked_holds k.shader.now k.module_info.now f k.info.now c.requires.ordered (sym c.in_ok-check_function.ensures.check),
+        none_formless f.body (none_found f.body (sym c.formless_statement.ensures ∙ c.in_default.is)),
+        subst (Sweeps (has_form_in k) (expressions_of k) (function_roots (bound_in k) f)) c.in_default-2.is c.in_ok-handle.ensures,
+      ),
+      sym c.declared_without_form.ensures ∙ c.in-Some-declared_without_form.is,
+    )
+
+pub returns-in-Some-annotated_without_form-clause-first : goal.returns-in-Some-annotated_without_form-clause-first
+returns-in-Some-annotated_without_form-clause-first c =
+    let k = c.args.known.now in
+    let f = k.function.now in (
+      (
+        checked_holds k.shader.now k.module_info.now f k.info.now c.requires.ordered (sym c.in_ok-check_function.ensures.check),
+        none_formless f.body (none_found f.body (sym c.formless_statement.ensures ∙ c.in_default.is)),
+        subst (Sweeps (has_form_in k) (expressions_of k) (function_roots (bound_in k) f)) c.in_default-2.is c.in_ok-handle.ensures,
+      ),
+      sym c.declared_without_form.ensures ∙ c.in_default-declared_without_form.is,
+      sym c.annotated_without_form.ensures ∙ c.in-Some-annotated_without_form.is,
+    )
 
 pub returns-in-Some-declared_without_form-clause-err : goal.returns-in-Some-declared_without_form-clause-err
 returns-in-Some-declared_without_form-clause-err c =
