@@ -6,7 +6,7 @@ use Rattle.module_meaning.specs.Written.{OfFunctionAt}
 use Rattle.naga_names.specs.Naming.{Names}
 use Rattle.naga_names.specs.declared.error.NamerError.{NamerError}
 use Rattle.naga_names.specs.declared.error.NamerError.TheVariants as namer_error
-use Rattle.naga_scope.specs.Plans.{IsRefusalToPlanOf}
+use Rattle.naga_scope.specs.Plans.{IsFirstToPlanOf, IsRefusalToPlanOf}
 use Rattle.naga_scope.specs.declared.plan.PlanError.{PlanError}
 use Rattle.naga_scope.specs.declared.plan.PlanError.TheVariants as plan_error
 use Rattle.naga_wgsl_fns.specs.Constructs.{Tells}
@@ -37,11 +37,13 @@ is_want (plan_error.Unnamed error) = is_names_want error
 is_want (plan_error.Memory e) = true
 is_want _ = false
 
--- the function with this number has no plan where the namer was this: for a construct at a part of it
+-- the function with this number has no plan where the namer was this: for a construct at a part of
+-- it, which is the first that is found
 pub record IsRefusedFor (explicit : Bool) (m : Module) (info : ModuleInfo) (number : ℕ)
     (namer : Names) (it : Construct) (at : FunctionPart) : Type 0 where
   pub error : PlanError
   pub refused : IsRefusalToPlanOf explicit m info number namer error
+  pub first : IsFirstToPlanOf explicit m info number error
   pub told : OfFunctionAt m info number (λ f known. Tells it (TellsPlanError m f known error))
   pub part : at ≡ part_of error
   pub other : IsFalse (is_want error)

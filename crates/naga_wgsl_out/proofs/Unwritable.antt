@@ -85,6 +85,7 @@ module _ (explicit : Bool) (m : Module) (info : ModuleInfo) (accepted : IsTrue (
     is_known = is_known;
     at = subst (λ at. StandsAtPart explicit m info number f known at it) (sym r.part)
         (by_error r.error it (r.refused f known stands is_known) (r.told f known stands is_known) r.other);
+    first = (r.error, r.part, r.first f known stands is_known);
   }
 
 -- what is known of a function that there is

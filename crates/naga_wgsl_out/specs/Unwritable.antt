@@ -21,15 +21,18 @@ use Rattle.naga_ir.specs.declared.module.Module.{Module}
 use Rattle.naga_names.specs.Naming.{Names}
 use Rattle.naga_scope.specs.Declarations.{HaveFormsBefore, IsFormlessIn}
 use Rattle.naga_scope.specs.FormlessStatements.{IsFormlessAt}
+use Rattle.naga_scope.specs.Plans.{IsFirstToPlan}
 use Rattle.naga_scope.specs.ScopeFaults.{IsScopeFault}
 use Rattle.naga_scope.specs.declared.declarations.DeclarationPlace.{DeclarationPlace}
 use Rattle.naga_scope.specs.declared.declarations.FormlessDeclaration.{FormlessDeclaration}
+use Rattle.naga_scope.specs.declared.plan.PlanError.{PlanError}
 use Rattle.naga_scope.specs.declared.statements.FormlessStatement.{FormlessStatement}
 use Rattle.naga_wgsl_fns.specs.Constructs.{Tells}
 use Rattle.naga_wgsl_fns.specs.DeclarationRefusals.{NamesFormlessDeclaration}
 use Rattle.naga_wgsl_fns.specs.Errors.{IsCustom}
 use Rattle.naga_wgsl_fns.specs.Refusals.{ExpressionNamesAreFullIn, NamesExpression, NamesStatement}
 use Rattle.naga_wgsl_fns.specs.Refusals.{NamesType}
+use Rattle.naga_wgsl_fns.specs.Unplanned.{part_of}
 use Rattle.naga_wgsl_fns.specs.declared.construct.Construct.{Construct}
 use Rattle.naga_wgsl_fns.specs.declared.plans.FunctionPart.{FunctionPart}
 use Rattle.naga_wgsl_fns.specs.declared.plans.FunctionPart.TheVariants as part
@@ -74,7 +77,8 @@ StandsAtPart explicit m info number f known part.Labels it =
     ExpressionNamesAreFullIn m (labels_before m number) number
     × TellsCustom it (codes "namer is full")
 
--- so it is with a function that there is
+-- so it is with a function that there is, and nothing in front of it keeps the function from having a
+-- plan
 pub record StandsInFunction (explicit : Bool) (m : Module) (info : ModuleInfo) (number : ℕ)
     (found : Construct × FunctionPart) : Type 0 where
   pub function : Function
@@ -82,6 +86,8 @@ pub record StandsInFunction (explicit : Bool) (m : Module) (info : ModuleInfo) (
   pub stands : slice_get (all_functions m) number ≡ Some function
   pub is_known : slice_get (all_infos info) number ≡ Some known
   pub at : StandsAtPart explicit m info number function known found.1 found.0
+  pub first : (error : PlanError) × (found.1 ≡ part_of error)
+      × IsFirstToPlan explicit m info function known error
 
 -- ---- declarations
 -- it is what has no form in this declaration

@@ -47,6 +47,7 @@ returns-in-Ok-construct_of_plan-clause-err c =
     (record {
       error = c.in-Err.error;
       refused = c.in-Err.ensures.err;
+      first = c.in-Err.ensures.first;
       told = of_the_ok (λ f es it. Tells it (TellsPlanError m f es c.in-Err.error)) m info number
           c.function_of.result.0.now c.function_of.result.1.now c.function_of.ensures.function c.function_of.ensures.known
           c.construct_of_plan.result c.construct_of_plan.ensures.ok;
