@@ -312,7 +312,7 @@ const MODULES: &[(&str, Task, Style, Told)] = &[
         (
             REFUSED,
             "",
-            "refused: float literal: module.functions[0].expressions[0]\n",
+            "refused: float literal: module.functions[0].expressions[0], in \"half\"\n",
         ),
     ),
     (
@@ -322,7 +322,7 @@ const MODULES: &[(&str, Task, Style, Told)] = &[
         (
             REFUSED,
             "",
-            "refused: float literal: module.functions[0].expressions[0]\n",
+            "refused: float literal: module.functions[0].expressions[0], in \"endless\"\n",
         ),
     ),
     (FLOAT_LITERAL, Task::Check, STANDARD, (0, "accepted\n", "")),
