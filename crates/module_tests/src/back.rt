@@ -1,6 +1,5 @@
 //! Helpers of the writer.
 use bitflags::Flags;
-use naga_json::{read_known, read_module};
 use naga_back::{
     BakeRefCount, Baked, COMPONENTS, FunctionCtx, FunctionType, INDENT, IsHandle, IsTerminator,
     Level, NeedBakeExpressions, RayFlag, RayIntersectionType, binary_operation_str,
@@ -10,6 +9,7 @@ use naga_ir::{
     BinaryOperator, BuiltIn, Expression, Function, Literal, Module, Place, Scalar, ShaderStage,
     Statement, TypeInner,
 };
+use naga_json::{read_known, read_module};
 use naga_names::namer::{ExternalTextureNameKey, NameKey};
 use std::alloc::Global;
 use std::collections::HashSet;

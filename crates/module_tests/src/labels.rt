@@ -1,6 +1,6 @@
 //! Switches with many labels, in any order: they are accepted where no label stands twice.
-use naga_builder::{FunctionBuilder, ModuleBuilder};
 use naga_acceptance::accepts;
+use naga_builder::{FunctionBuilder, ModuleBuilder};
 use naga_ir::{Block, Literal, SwitchCase, SwitchValue};
 use std::alloc::Global;
 use std::process::Abort;

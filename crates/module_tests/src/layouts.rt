@@ -3,10 +3,10 @@
 ghost use Rattle.std.specs.Prelude.{IsTrue};
 ghost use Rattle.module_meaning.specs.Ranges.{parts_stand_before};
 
-use naga_json::read_known;
-use naga_builder::ModuleBuilder;
 use naga_acceptance::accepts;
+use naga_builder::ModuleBuilder;
 use naga_ir::{Handle, Place, Scalar, StructMember, Type_, TypeInner, UniqueArena};
+use naga_json::read_known;
 use naga_layout::{TypeLayout, type_layout};
 use std::alloc::Global;
 use std::process::Abort;

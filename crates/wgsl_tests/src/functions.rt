@@ -2,6 +2,7 @@
 
 ghost use Rattle.std.specs.Prelude.{IsTrue};
 ghost use Rattle.module_meaning.specs.Accepted.{is_accepted};
+ghost use Rattle.module_meaning.specs.FunctionNumbers.{IsFunctionOf};
 ghost use Rattle.module_meaning.specs.Names.{HasNamesOf};
 ghost use Rattle.naga_names.specs.Keys.{names_in};
 ghost use Rattle.naga_wgsl_fns.specs.Items.{HasNamedItemsOf};
@@ -62,7 +63,9 @@ const NAMED_AGAIN: &str = "fn e(x: i32) -> i32 {\n    let x_2 = (x + x);\n    re
 const COMPUTE: &str = "@compute @workgroup_size(64, 1, 1) \nfn main() {\n}\n";
 
 /// Whether the module has this function or entry point.
-fn has(module: &Module, ty: FunctionType) -> bool {
+fn has(module: &Module, ty: FunctionType) -> bool
+    ensures { IsTrue result → IsFunctionOf ty «module».now }
+{
     match ty {
         FunctionType::Function(handle) => handle.index() < module.functions.len(),
         FunctionType::EntryPoint(index) => (index as usize) < module.entry_points.len(),
@@ -103,19 +106,13 @@ fn a_function_is_written_by_itself(rt: HostRuntime) {
     let known = read(&rt, alloc, MODULE);
     assert!(rt; write_string(alloc, &known.module, &known.info, no_flags()).is_err());
     let (names, mut namer) = names_of(alloc, &known.module).expect(&rt, "names");
-    let [e, h] = [0, 1].map(|index| FunctionType::Function(Place::from_index(index)));
+    let e = FunctionType::Function(Place::from_index(0));
     is_written(&rt, alloc, &known, e, &names, &mut namer, Some(NAMED));
     is_written(&rt, alloc, &known, e, &names, &mut namer, Some(NAMED_AGAIN));
+    let h = FunctionType::Function(Place::from_index(1));
     is_written(&rt, alloc, &known, h, &names, &mut namer, None);
-    is_written(
-        &rt,
-        alloc,
-        &known,
-        FunctionType::EntryPoint(0),
-        &names,
-        &mut namer,
-        None,
-    );
+    let ms = FunctionType::EntryPoint(0);
+    is_written(&rt, alloc, &known, ms, &names, &mut namer, None);
     let main = FunctionType::EntryPoint(1);
     is_written(&rt, alloc, &known, main, &names, &mut namer, Some(COMPUTE));
 }

@@ -93,7 +93,7 @@ fn sums_module(rt: &impl Abort, alloc: Global, depth: usize) -> String {
             }},
             "info": {{"functions": [[0{known}]]}}
         }}"#,
-        depth + 1
+        depth.saturating_add(1)
     )
     .expect(rt, "memory")
 }

@@ -368,6 +368,11 @@ fn names_are_given(rt: HostRuntime) {
     gives_or_param(&rt, alloc, &mut Namer::default(alloc), OR_PARAM);
 }
 
+/// A label without a letter.
+fn underscores(rt: &impl Abort, alloc: Global, times: usize) -> String {
+    "_".repeat(alloc, times).expect(rt, "memory")
+}
+
 #[test]
 fn names_are_given_behind_a_reset(rt: HostRuntime) {
     let alloc = rt.alloc();
@@ -375,7 +380,7 @@ fn names_are_given_behind_a_reset(rt: HostRuntime) {
     for calls in BEHIND_A_RESET {
         check_reset(&rt, alloc, &empty, "", *calls);
     }
-    let long = "_".repeat(alloc, 100_000).expect(&rt, "memory");
+    let long = underscores(&rt, alloc, 100_000);
     let calls = [
         ("::", "unnamed"),
         ("9_", "unnamed_1"),
