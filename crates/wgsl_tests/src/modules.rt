@@ -1,9 +1,10 @@
-//! Modules as texts of JSON, and the texts that are written for them.
+//! Modules as texts of JSON or as they are built, and the texts that are written for them.
 
 ghost use Rattle.std.specs.Prelude.{IsTrue};
 ghost use Rattle.module_meaning.specs.Accepted.{is_accepted};
 
 use naga_json::{Known, read_known};
+use naga_wgsl_out::builder::ModuleBuilder;
 use naga_wgsl_out::info::{accepts, count};
 use naga_wgsl_out::wgsl::{no_flags, write_string};
 use std::alloc::Global;
@@ -38,4 +39,10 @@ pub fn read(rt: &impl Abort, alloc: Global, text: &str) -> Known
 pub fn written(rt: &impl Abort, alloc: Global, text: &str) -> String {
     let known = read(rt, alloc, text);
     write_string(alloc, &known.module, &known.info, no_flags()).expect(rt, "a text")
+}
+
+/// The text of a module that is built, whose uses need no counting.
+pub fn built_text(rt: &impl Abort, alloc: Global, shader: &ModuleBuilder) -> String {
+    assert!(rt; accepts(&shader.module, &shader.info));
+    write_string(alloc, &shader.module, &shader.info, no_flags()).expect(rt, "a text")
 }

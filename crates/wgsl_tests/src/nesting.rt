@@ -1,8 +1,6 @@
 //! Statements and operands that stand in one another, many times over.
-use crate::modules::written;
+use crate::modules::{built_text, written};
 use naga_wgsl_out::builder::{BlockBuilder, FunctionBuilder, ModuleBuilder};
-use naga_wgsl_out::info::accepts;
-use naga_wgsl_out::wgsl::{no_flags, write_string};
 use std::alloc::Global;
 use std::mem;
 use std::process::Abort;
@@ -61,8 +59,7 @@ fn blocks_and_loops_stand_in_one_another(rt: HostRuntime) {
     nest(&rt, alloc, &mut function.body, BLOCKS);
     let mut shader = ModuleBuilder::new(alloc);
     shader.add_function(function).expect(&rt, "memory");
-    assert!(rt; accepts(&shader.module, &shader.info));
-    let text = write_string(alloc, &shader.module, &shader.info, no_flags()).expect(&rt, "a text");
+    let text = built_text(&rt, alloc, &shader);
     assert!(rt; text.as_str() == nested_text(&rt, alloc, BLOCKS).as_str());
 }
 
