@@ -18,18 +18,16 @@ use std::process::Abort;
 #[test]
 fn letters_and_signs(rt: HostRuntime) {
     assert_eq!(rt; COMPONENTS, ['x', 'y', 'z', 'w']);
-    assert_eq!(rt; INDENT, "    ");
-    assert_eq!(rt; binary_operation_str(BinaryOperator::ShiftLeft), "<<");
+    let sign = binary_operation_str(BinaryOperator::ShiftLeft);
+    assert_eq!(rt; (INDENT, sign), ("    ", "<<"));
 }
 
 #[test]
 fn levels_and_handles_are_shown(rt: HostRuntime) {
-    let alloc = rt.alloc();
-    let outer = Level(0).to_string(alloc).expect(&rt, "memory");
-    let inner = Level(1).next().to_string(alloc).expect(&rt, "memory");
-    assert_eq!(rt; (outer.as_str(), inner.as_str()), ("", "        "));
-    let baked = Baked(Place::from_index(7)).to_string(alloc);
-    assert_eq!(rt; baked.expect(&rt, "memory").as_str(), "_e7");
+    let (outer, inner) = (Level(0), Level(1).next());
+    let baked = Baked(Place::from_index(7));
+    let shown = format!(in rt.alloc(); "{outer}|{inner}|{baked}").expect(&rt, "memory");
+    assert_eq!(rt; shown.as_str(), "|        |_e7");
 }
 
 #[test]
@@ -50,19 +48,26 @@ fn uses_that_bind(rt: HostRuntime) {
 
 #[test]
 fn kinds_of_types_and_statements(rt: HostRuntime) {
-    assert!(rt; TypeInner::Sampler { comparison: true }.is_handle());
-    assert!(rt;
-        TypeInner::AccelerationStructure {
-            vertex_return: false
-        }
-        .is_handle()
+    let vertex_return = false;
+    assert_eq!(rt;
+        [
+            TypeInner::Sampler { comparison: true }.is_handle(),
+            TypeInner::AccelerationStructure { vertex_return }.is_handle(),
+            TypeInner::Scalar(Scalar::I32).is_handle(),
+        ],
+        [true, true, false]
     );
-    assert!(rt; !TypeInner::Scalar(Scalar::I32).is_handle());
-    assert!(rt; Statement::Break.is_terminator() && Statement::Continue.is_terminator());
-    assert!(rt; Statement::Kill.is_terminator());
-    assert!(rt; Statement::Return { value: None }.is_terminator());
     let (pointer, value) = (Place::from_index(0), Place::from_index(1));
-    assert!(rt; !Statement::Store { pointer, value }.is_terminator());
+    assert_eq!(rt;
+        [
+            Statement::Break.is_terminator(),
+            Statement::Continue.is_terminator(),
+            Statement::Kill.is_terminator(),
+            Statement::Return { value: None }.is_terminator(),
+            Statement::Store { pointer, value }.is_terminator(),
+        ],
+        [true, true, true, true, false]
+    );
 }
 
 const RAY_FLAGS: [RayFlag; 10] = [
@@ -80,22 +85,27 @@ const RAY_FLAGS: [RayFlag; 10] = [
 
 #[test]
 fn rays_have_ten_flags(rt: HostRuntime) {
-    assert!(rt; RayFlag::from_bits(0x3ff) == Some(RayFlag::all()));
-    assert!(rt; RayFlag::from_bits(0x400).is_none());
+    assert!(rt;
+        RayFlag::from_bits(0x3ff) == Some(RayFlag::all()) && RayFlag::from_bits(0x400).is_none()
+    );
     assert!(rt; RayFlag::default() == RayFlag::empty());
     let mut bits = 1u32;
     for flag in &RAY_FLAGS {
-        assert_eq!(rt; flag.bits(), bits);
-        assert!(rt; RayFlag::all().contains(*flag));
+        assert!(rt; flag.bits() == bits && RayFlag::all().contains(*flag));
         bits = bits.wrapping_mul(2);
     }
 }
 
 #[test]
 fn what_rays_meet_has_numbers(rt: HostRuntime) {
-    assert_eq!(rt; RayIntersectionType::Triangle.number(), 1);
-    assert_eq!(rt; RayIntersectionType::BoundingBox.number(), 4);
-    assert_eq!(rt; RayIntersectionType::BoundingBox as u32, 4);
+    assert_eq!(rt;
+        [
+            RayIntersectionType::Triangle.number(),
+            RayIntersectionType::BoundingBox.number(),
+            RayIntersectionType::BoundingBox as u32,
+        ],
+        [1, 4, 4]
+    );
 }
 
 /// A fragment entry point whose argument is a struct of the position and a value that the vertices
@@ -146,13 +156,11 @@ fn inputs_hold(rt: &impl Abort, module: &Module, info: &FunctionInfo) {
     for (index, want) in [None, position, None, None].iter().enumerate() {
         let handle = Place::from_index(index);
         assert_eq!(rt;
-            inside.is_fixed_function_input(handle, module),
-            *want,
-            "{index}"
-        );
-        assert_eq!(rt;
-            outside.is_fixed_function_input(handle, module),
-            None,
+            [
+                inside.is_fixed_function_input(handle, module),
+                outside.is_fixed_function_input(handle, module),
+            ],
+            [*want, None],
             "{index}"
         );
     }
@@ -177,15 +185,6 @@ fn keys_hold(rt: &impl Abort, info: &FunctionInfo, function: &Function) {
         expressions,
         named_expressions,
     };
-    let local = Place::from_index(2);
-    assert_eq!(rt; outside.name_key(local), NameKey::FunctionLocal(own, local));
-    assert_eq!(rt; outside.argument_key(3), NameKey::FunctionArgument(own, 3));
-    let plane = ExternalTextureNameKey::Plane(1);
-    let key = outside.external_texture_argument_key(3, plane);
-    assert_eq!(rt;
-        key,
-        NameKey::ExternalTextureFunctionArgument(own, 3, plane)
-    );
     let ty = FunctionType::EntryPoint(7);
     let inside = FunctionCtx {
         ty,
@@ -193,8 +192,24 @@ fn keys_hold(rt: &impl Abort, info: &FunctionInfo, function: &Function) {
         expressions,
         named_expressions,
     };
-    assert_eq!(rt; inside.name_key(local), NameKey::EntryPointLocal(7, local));
-    assert_eq!(rt; inside.argument_key(3), NameKey::EntryPointArgument(7, 3));
+    let local = Place::from_index(2);
+    let plane = ExternalTextureNameKey::Plane(1);
+    assert_eq!(rt;
+        [
+            outside.name_key(local),
+            outside.argument_key(3),
+            outside.external_texture_argument_key(3, plane),
+            inside.name_key(local),
+            inside.argument_key(3),
+        ],
+        [
+            NameKey::FunctionLocal(own, local),
+            NameKey::FunctionArgument(own, 3),
+            NameKey::ExternalTextureFunctionArgument(own, 3, plane),
+            NameKey::EntryPointLocal(7, local),
+            NameKey::EntryPointArgument(7, 3),
+        ]
+    );
 }
 
 /// The type of an expression that is known by itself.

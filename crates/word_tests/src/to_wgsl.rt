@@ -7,32 +7,60 @@ use naga_words::to_wgsl::{ToWgsl, TryToWgsl, address_space_str};
 
 #[test]
 fn words_are_told(rt: HostRuntime) {
-    assert_eq!(rt; Interpolation::Flat.to_wgsl(), "flat");
-    assert_eq!(rt; Sampling::Centroid.to_wgsl(), "centroid");
-    assert_eq!(rt; StorageFormat::Rgba8Unorm.to_wgsl(), "rgba8unorm");
-    assert_eq!(rt; CooperativeRole::C.to_wgsl(), "C");
-    assert_eq!(rt; ImageDimension::D3.to_wgsl(), "3d");
+    assert_eq!(rt;
+        [
+            Interpolation::Flat.to_wgsl(),
+            Sampling::Centroid.to_wgsl(),
+            StorageFormat::Rgba8Unorm.to_wgsl(),
+            CooperativeRole::C.to_wgsl(),
+            ImageDimension::D3.to_wgsl(),
+        ],
+        ["flat", "centroid", "rgba8unorm", "C", "3d"]
+    );
 }
 
 #[test]
 fn words_are_there_or_not(rt: HostRuntime) {
-    assert_eq!(rt; MathFunction::Abs.try_to_wgsl(), Some("abs"));
-    assert_eq!(rt; MathFunction::Outer.try_to_wgsl(), None);
-    assert_eq!(rt; BuiltIn::VertexIndex.try_to_wgsl(), Some("vertex_index"));
-    assert_eq!(rt; BuiltIn::PointSize.try_to_wgsl(), None);
-    assert_eq!(rt; Scalar::F16.try_to_wgsl(), Some("f16"));
-    assert_eq!(rt; MathFunction::DESCRIPTION, "math function");
-    assert_eq!(rt; BuiltIn::DESCRIPTION, "builtin value");
-    assert_eq!(rt; <Scalar as TryToWgsl>::DESCRIPTION, "scalar type");
-    assert_eq!(rt; MathFunction::described(), "math function");
-    assert_eq!(rt; BuiltIn::described(), "builtin value");
-    assert_eq!(rt; Scalar::described(), "scalar type");
+    assert_eq!(rt;
+        [
+            MathFunction::Abs.try_to_wgsl(),
+            MathFunction::Outer.try_to_wgsl(),
+            BuiltIn::VertexIndex.try_to_wgsl(),
+            BuiltIn::PointSize.try_to_wgsl(),
+            Scalar::F16.try_to_wgsl(),
+        ],
+        [Some("abs"), None, Some("vertex_index"), None, Some("f16")]
+    );
+}
+
+#[test]
+fn kinds_of_values_are_described(rt: HostRuntime) {
+    let described = [
+        MathFunction::described(),
+        BuiltIn::described(),
+        Scalar::described(),
+    ];
+    assert_eq!(rt;
+        described,
+        ["math function", "builtin value", "scalar type"]
+    );
+    assert_eq!(rt;
+        described,
+        [
+            MathFunction::DESCRIPTION,
+            BuiltIn::DESCRIPTION,
+            <Scalar as TryToWgsl>::DESCRIPTION,
+        ]
+    );
 }
 
 #[test]
 fn spaces_have_words(rt: HostRuntime) {
     let access = StorageAccess::LOAD | StorageAccess::STORE;
     let storage = address_space_str(AddressSpace::Storage { access });
-    assert_eq!(rt; storage, (Some("storage"), Some("read_write")));
-    assert_eq!(rt; address_space_str(AddressSpace::Handle), (None, None));
+    let handle = address_space_str(AddressSpace::Handle);
+    assert_eq!(rt;
+        [storage, handle],
+        [(Some("storage"), Some("read_write")), (None, None)]
+    );
 }
