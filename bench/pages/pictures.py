@@ -59,7 +59,9 @@ LAYERS = [
     ("tests", CODE, [
         ("sample_modules", "modules by name"),
         ("wgsl_cases", "tests as data"),
-        ("wgsl_tests", "tests of calls"),
+        ("word_tests", "of names and words"),
+        ("module_tests", "of modules"),
+        ("wgsl_tests", "of texts"),
     ]),
     ("programs", CODE, [
         ("yorwethul", "reads JSON"),
