@@ -362,7 +362,14 @@ fn function_reason_at<'a>(
     let index = handle.index();
     if index < module.functions.len() {
         let known = known_at(info.functions.as_slice(), index);
-        function_reason(module, index, &module.functions[handle], known, fault, place)
+        function_reason(
+            module,
+            index,
+            &module.functions[handle],
+            known,
+            fault,
+            place,
+        )
     } else {
         None
     }
@@ -467,9 +474,7 @@ pub(crate) fn fault_reason<'a>(
         Item::Override(handle) => override_reason(module, info, fault, handle),
         Item::GlobalVariable(handle) => variable_reason(module, info, fault, handle),
         Item::GlobalExpression(handle) => global_expression_reason(module, info, fault, handle),
-        Item::Function(handle, place) => {
-            function_reason_at(module, info, fault, handle, place)
-        }
+        Item::Function(handle, place) => { function_reason_at(module, info, fault, handle, place) }
         Item::EntryPoint(index, place) => {
             entry_point_reason_at(module, info, fault, index, place)
         }

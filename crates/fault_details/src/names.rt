@@ -169,7 +169,11 @@ fn name_reason<'a>(
             absent(ListName::LocalVariables, locals, handle.index())
         }
         Expression::CallResult(function) => {
-            absent(ListName::Functions, module.functions.len(), function.index())
+            absent(
+                ListName::Functions,
+                module.functions.len(),
+                function.index(),
+            )
         }
         _ => None,
     }

@@ -23,9 +23,13 @@ pub(crate) enum Reason<'a> {
         got: &'a TypeResolution,
     },
     /// A value is wanted, and there is none.
-    NoValue { wanted: InferredType },
+    NoValue {
+        wanted: InferredType,
+    },
     /// No value is wanted, and there is one.
-    Unwanted { got: &'a TypeResolution },
+    Unwanted {
+        got: &'a TypeResolution,
+    },
     /// An item is named that is not there: its list has so many.
     Absent {
         list: ListName,
@@ -45,9 +49,14 @@ pub(crate) enum Reason<'a> {
         got: usize,
     },
     /// A part is named of which there are so many.
-    PastParts { count: usize, got: usize },
+    PastParts {
+        count: usize,
+        got: usize,
+    },
     /// What else a statement needs.
-    Needs { need: Need },
+    Needs {
+        need: Need,
+    },
 }
 
 /// An item that is not there, if its number is not below the length of its list.

@@ -54,10 +54,14 @@ fn scalar_label_reason<'a>(scalar: Scalar, cases: &[SwitchCase]) -> Option<Reaso
         return Some(Reason::Needs { need: Need::Labels });
     }
     if !labels_differ(cases) {
-        return Some(Reason::Needs { need: Need::DistinctLabels });
+        return Some(Reason::Needs {
+            need: Need::DistinctLabels,
+        });
     }
     if !has_label(SwitchValue::Default, cases) {
-        return Some(Reason::Needs { need: Need::Default });
+        return Some(Reason::Needs {
+            need: Need::Default,
+        });
     }
     need_unless(!last_falls_through(cases), Need::End)
 }
@@ -120,7 +124,9 @@ fn return_reason<'a>(
         (Some(answer), Some(value)) => {
             type_reason(types, known, InferredType::Handle(answer.ty), value)
         }
-        (Some(answer), None) => Some(Reason::NoValue { wanted: InferredType::Handle(answer.ty) }),
+        (Some(answer), None) => Some(Reason::NoValue {
+            wanted: InferredType::Handle(answer.ty),
+        }),
         (None, Some(value)) => match known_type(known, value) {
             Some(got) => Some(Reason::Unwanted { got }),
             None => None,
@@ -161,7 +167,9 @@ fn answer_reason<'a>(
         ≡ answer_reason callee.now callee_handle function.now outcome }
 {
     if callee.result.is_none() {
-        return Some(Reason::Needs { need: Need::CalleeResult });
+        return Some(Reason::Needs {
+            need: Need::CalleeResult,
+        });
     }
     need_unless(
         is_call_result(callee_handle, function, outcome),

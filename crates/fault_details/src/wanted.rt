@@ -82,14 +82,22 @@ impl fmt::Display for Wanted {
             Wanted::Nothing { got } => write!(f, "wanted nothing, got {}", got),
             Wanted::Item { list, index, count } => {
                 let verb = if *count == 1 { "is" } else { "are" };
-                write!(f, "names {}[{}], of which there {} {}", list, index, verb, count)
+                write!(
+                    f,
+                    "names {}[{}], of which there {} {}",
+                    list, index, verb, count
+                )
             }
             Wanted::EarlierItem {
                 list,
                 index,
                 before,
             } => {
-                write!(f, "names {}[{}], wanted one before {}[{}]", list, index, list, before)
+                write!(
+                    f,
+                    "names {}[{}], wanted one before {}[{}]",
+                    list, index, list, before
+                )
             }
             Wanted::Number { of, wanted, got } => {
                 write!(f, "wanted {}, got {}", Many(*wanted, *of), got)

@@ -4,7 +4,7 @@ use crate::failure::Failure;
 use crate::texts::{Style, write_in};
 use module_answers::{JsonPlace, Written};
 use naga_json::{Known, ReadError, known_of};
-use naga_wgsl_out::info::Unaccepted;
+use naga_wgsl_out::info::{Unaccepted, explain};
 use naga_wgsl_out::wgsl::Error;
 use serde_json::{Map, Value};
 use std::alloc::{AllocError, Global};
@@ -125,7 +125,7 @@ fn tell_known(
 ) -> Result<(), AllocError> {
     match write_in(alloc, style, known) {
         Ok(written) => tell_written(alloc, written, members),
-        Err(unaccepted) => tell_unaccepted(alloc, unaccepted, members),
+        Err(unaccepted) => tell_unaccepted(alloc, known, unaccepted, members),
     }
 }
 
@@ -154,12 +154,16 @@ fn tell_refused(
 
 fn tell_unaccepted(
     alloc: Global,
+    known: &Known,
     unaccepted: Unaccepted,
     members: &mut Members,
 ) -> Result<(), AllocError> {
     let mut told = Map::new(alloc);
     tell(alloc, "place", JsonPlace(unaccepted.item), &mut told)?;
     tell(alloc, "fault", unaccepted.fault, &mut told)?;
+    if let Some(wanted) = explain(alloc, &known.module, &known.info, unaccepted)? {
+        tell(alloc, "wanted", wanted, &mut told)?;
+    }
     put(alloc, "not_accepted", Value::Object(told), members)
 }
 
