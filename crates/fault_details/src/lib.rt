@@ -6,6 +6,7 @@
 #![tactic(auto)]
 
 mod items;
+pub mod laws;
 mod names;
 mod reasons;
 mod spelled;

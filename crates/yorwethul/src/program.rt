@@ -184,12 +184,7 @@ fn write_and_flush<O: Write>(text: impl Display + Drop, out: &mut O) -> io::Resu
 }
 
 /// Tells where and why the module is not accepted, and what was wanted there.
-fn refuse_unaccepted<E: Write>(
-    alloc: Global,
-    known: &Known,
-    fault: Unaccepted,
-    err: &mut E,
-) -> u8 {
+fn refuse_unaccepted<E: Write>(alloc: Global, known: &Known, fault: Unaccepted, err: &mut E) -> u8 {
     match fault_line(alloc, &known.module, &known.info, fault) {
         Ok(line) => {
             let _ = writeln!(err, "not accepted: {line}");
