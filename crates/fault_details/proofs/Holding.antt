@@ -46,7 +46,7 @@ use Rattle.fault_details.specs.Reasons.{own_name_reason, own_reason, own_type_re
 use Rattle.fault_details.specs.Reasons.{return_reason, simple_name_reason, simple_reason, size_reason}
 use Rattle.fault_details.specs.Reasons.{statement_name_reason, statement_reason, stored_reason, type_reason}
 use Rattle.fault_details.specs.Reasons.{typeless_reason, unlike, wanted_reason, whole_reason, function_reason}
-use Rattle.fault_details.specs.Reasons.{expression_reason, entry_point_reason, variables_reason, module_reason}
+use Rattle.fault_details.specs.Reasons.{expression_reason, entry_point_reason, order_reason, variables_reason, module_reason}
 use Rattle.fault_details.specs.Reasons.{made_reason, fault_reason, is_in_class, signature_reason, call_reason}
 use Rattle.fault_details.specs.Reasons.{answer_reason, special_reason, sizes_reason}
 use Rattle.fault_details.specs.declared.words.Counted.{Counted}
@@ -294,16 +294,21 @@ module _ (m : Module) where
       then_holds (IsReason m) (type_reason m.types known (Handle ty)) (type_holds known (Handle ty)) init
   declared_holds name expressions known _ ty init = tt
 
-  expression_holds : (f : Option Function) (name : ListName) (expressions : ℕ) (known : List TypeResolution) (kind : Fault) (h : ℕ) (e : Expression) →
-      Holds (expression_reason m f name expressions known kind h e)
-  expression_holds f name expressions known fault.Operands h e = first_holds (not_before name h expressions) (not_before_holds name h expressions) (expression_operands e)
-  expression_holds f name expressions known fault.Names h e = names_hold f e
-  expression_holds f name expressions known fault.LaterInitialiser h e = initialiser_holds h e
-  expression_holds f name expressions known fault.KnownType h e =
+  order_holds : (f : Option Function) (h : ℕ) (e : Expression) → Holds (order_reason m f h e)
+  order_holds None h e =
+      first_holds (not_before list.GlobalExpressions h (length m.global_expressions)) (not_before_holds list.GlobalExpressions h (length m.global_expressions)) (expression_operands e)
+  order_holds (Some f) h e =
+      first_holds (not_before list.Expressions h (length f.expressions)) (not_before_holds list.Expressions h (length f.expressions)) (expression_operands e)
+
+  expression_holds : (f : Option Function) (known : List TypeResolution) (kind : Fault) (h : ℕ) (e : Expression) → Holds (expression_reason m f known kind h e)
+  expression_holds f known fault.Operands h e = order_holds f h e
+  expression_holds f known fault.Names h e = names_hold f e
+  expression_holds f known fault.LaterInitialiser h e = initialiser_holds h e
+  expression_holds f known fault.KnownType h e =
       then_holds (IsReason m) (known_reason (length m.overrides) (length m.types)) (known_holds (length m.overrides) (length m.types)) (slice_get known h)
-  expression_holds f name expressions known fault.OtherType h e = own_type_holds f known h e
-  expression_holds f name expressions known fault.OperandTypes h e = operand_holds known e
-  expression_holds f name expressions known _ h e = tt
+  expression_holds f known fault.OtherType h e = own_type_holds f known h e
+  expression_holds f known fault.OperandTypes h e = operand_holds known e
+  expression_holds f known _ h e = tt
 
   whole_holds : (f : Function) (known : List TypeResolution) (kind : Fault) → Holds (whole_reason m f known kind)
   whole_holds f known fault.InfoSize = number_holds _ _ _
@@ -319,8 +324,7 @@ module _ (m : Module) where
   function_holds callees f known kind (part.Local h) =
       then_holds (IsReason m) _ (λ k. declared_holds list.Expressions (length f.expressions) known kind k.ty k.init) (slice_get f.local_variables h)
   function_holds callees f known kind (part.Expression h) =
-      then_holds (IsReason m) (expression_reason m (Some f) list.Expressions (length f.expressions) known kind h)
-      (expression_holds (Some f) list.Expressions (length f.expressions) known kind h) (slice_get f.expressions h)
+      then_holds (IsReason m) (expression_reason m (Some f) known kind h) (expression_holds (Some f) known kind h) (slice_get f.expressions h)
   function_holds callees f known kind (part.Statement n) =
       then_holds (IsReason m) (statement_reason m callees f known kind) (statement_holds callees f known kind) (slice_get (text_order f.body) n)
 
@@ -360,8 +364,8 @@ module _ (m : Module) where
   item_holds info kind (item.GlobalVariable h) =
       then_holds (IsReason m) _ (λ k. declared_holds list.GlobalExpressions (length m.global_expressions) info.const_expression_types.items kind k.ty k.init) (slice_get m.global_variables h)
   item_holds info kind (item.GlobalExpression h) =
-      then_holds (IsReason m) (expression_reason m None list.GlobalExpressions (length m.global_expressions) info.const_expression_types.items kind h)
-      (expression_holds None list.GlobalExpressions (length m.global_expressions) info.const_expression_types.items kind h) (slice_get m.global_expressions h)
+      then_holds (IsReason m) (expression_reason m None info.const_expression_types.items kind h)
+      (expression_holds None info.const_expression_types.items kind h) (slice_get m.global_expressions h)
   item_holds info kind (item.Function h place) =
       then_holds (IsReason m) _ (λ f. function_holds h f (known_of info.functions.items h) kind place) (slice_get m.functions h)
   item_holds info kind (item.EntryPoint h place) =

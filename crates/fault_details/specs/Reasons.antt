@@ -419,22 +419,26 @@ abbrev pub names_reason : Module → Option Function → Expression → Option R
 names_reason m None e = name_reason m 0 0 e
 names_reason m (Some f) e = name_reason m (length f.arguments.items) (length f.local_variables) e
 
--- an expression, one of so many of the list
+-- the operands of an expression there
+abbrev pub order_reason : Module → Option Function → (h : ℕ) → Expression → Option Reason
+order_reason m None h e =
+    first_reason (not_before list.GlobalExpressions h (length m.global_expressions))
+    (expression_operands e)
+order_reason m (Some f) h e =
+    first_reason (not_before list.Expressions h (length f.expressions)) (expression_operands e)
+
+-- an expression there
 abbrev pub expression_reason :
-    Module → Option Function → ListName → (expressions : ℕ) → (known : List TypeResolution) →
-    Fault → (h : ℕ) → Expression → Option Reason
-expression_reason m f name expressions known fault.Operands h e =
-    first_reason (not_before name h expressions) (expression_operands e)
-expression_reason m f name expressions known fault.Names h e = names_reason m f e
-expression_reason m f name expressions known fault.LaterInitialiser h e =
-    initialiser_reason m h e
-expression_reason m f name expressions known fault.KnownType h e =
+    Module → Option Function → (known : List TypeResolution) → Fault → (h : ℕ) → Expression →
+    Option Reason
+expression_reason m f known fault.Operands h e = order_reason m f h e
+expression_reason m f known fault.Names h e = names_reason m f e
+expression_reason m f known fault.LaterInitialiser h e = initialiser_reason m h e
+expression_reason m f known fault.KnownType h e =
     option_and_then (known_reason (length m.overrides) (length m.types)) (slice_get known h)
-expression_reason m f name expressions known fault.OtherType h e =
-    own_type_reason m f known h e
-expression_reason m f name expressions known fault.OperandTypes h e =
-    operand_reason m.types known e
-expression_reason m f name expressions known _ h e = None
+expression_reason m f known fault.OtherType h e = own_type_reason m f known h e
+expression_reason m f known fault.OperandTypes h e = operand_reason m.types known e
+expression_reason m f known _ h e = None
 
 -- the types of a function's arguments and of its result
 abbrev pub signature_reason : (types : ℕ) → Function → Option Reason
@@ -460,8 +464,7 @@ function_reason m callees f known kind (part.Local h) =
     option_and_then (λ k. declared_reason m.types list.Expressions (length f.expressions) known kind
     k.ty k.init) (slice_get f.local_variables h)
 function_reason m callees f known kind (part.Expression h) =
-    option_and_then (expression_reason m (Some f) list.Expressions (length f.expressions) known kind h)
-    (slice_get f.expressions h)
+    option_and_then (expression_reason m (Some f) known kind h) (slice_get f.expressions h)
 function_reason m callees f known kind (part.Statement n) =
     option_and_then (statement_reason m callees f known kind) (slice_get (text_order f.body) n)
 
@@ -520,8 +523,8 @@ item_reason m info kind (item.GlobalVariable h) =
     option_and_then (λ k. declared_reason m.types list.GlobalExpressions (length m.global_expressions)
     info.const_expression_types.items kind k.ty k.init) (slice_get m.global_variables h)
 item_reason m info kind (item.GlobalExpression h) =
-    option_and_then (expression_reason m None list.GlobalExpressions (length m.global_expressions)
-    info.const_expression_types.items kind h) (slice_get m.global_expressions h)
+    option_and_then (expression_reason m None info.const_expression_types.items kind h)
+    (slice_get m.global_expressions h)
 item_reason m info kind (item.Function h place) =
     option_and_then (λ f. function_reason m h f (known_of info.functions.items h) kind place)
     (slice_get m.functions h)

@@ -15,7 +15,7 @@ ghost use Rattle.fault_details.specs.Shown.{shown};
 
 use crate::names::{
     absent_if, initialiser_reason, known_reason, length_reason, named_reason, names_reason,
-    operands_reason, part_reason, signature_reason, special_reason, variables_reason,
+    order_reason, part_reason, signature_reason, special_reason, variables_reason,
 };
 use crate::reasons::{Reason, absent, number_reason};
 use crate::statements::statement_reason;
@@ -134,24 +134,20 @@ fn variable_reason<'a>(
 
 // ---- expressions
 
-/// Why an expression is at fault, one of so many of the list: of this function, or of the module
-/// itself.
+/// Why an expression is at fault, of this function or of the module itself.
 fn expression_reason<'a>(
     module: &'a Module,
     function: Option<&Function>,
-    list: ListName,
-    expressions: usize,
     known: Known<'a>,
     fault: Fault,
     handle: Handle<Expression>,
     expression: &Expression,
 ) -> Option<Reason<'a>>
     ensures { option_map shown result ≡ expression_reason «module».now
-        (option_copied function.entry) list expressions (known_types known.entry) fault handle
-        expression.now }
+        (option_copied function.entry) (known_types known.entry) fault handle expression.now }
 {
     match fault {
-        Fault::Operands => operands_reason(list, handle.index(), expressions, expression),
+        Fault::Operands => order_reason(module, function, handle.index(), expression),
         Fault::Names => names_reason(module, function, expression),
         Fault::LaterInitialiser => initialiser_reason(module, handle.index(), expression),
         Fault::KnownType => match known_type(known, handle) {
@@ -175,16 +171,8 @@ fn global_expression_reason<'a>(
 {
     let expressions = &module.global_expressions;
     if handle.index() < expressions.len() {
-        expression_reason(
-            module,
-            None,
-            ListName::GlobalExpressions,
-            expressions.len(),
-            Known::Global(info.const_expression_types.as_slice()),
-            fault,
-            handle,
-            &expressions[handle],
-        )
+        let known = Known::Global(info.const_expression_types.as_slice());
+        expression_reason(module, None, known, fault, handle, &expressions[handle])
     } else {
         None
     }
@@ -256,16 +244,14 @@ fn inner_expression_reason<'a>(
     handle: Handle<Expression>,
 ) -> Option<Reason<'a>>
     ensures { option_map shown result ≡ option_and_then (expression_reason «module».now
-        (Some function.now) ListName.Expressions (length function.now.expressions)
-        (known_types known.entry) fault handle) (slice_get function.now.expressions handle) }
+        (Some function.now) (known_types known.entry) fault handle)
+        (slice_get function.now.expressions handle) }
 {
     let expressions = &function.expressions;
     if handle.index() < expressions.len() {
         expression_reason(
             module,
             Some(function),
-            ListName::Expressions,
-            expressions.len(),
             known,
             fault,
             handle,

@@ -7,7 +7,7 @@ ghost use Rattle.naga_ir.specs.Operands.{expression_operands, own_operands};
 ghost use Rattle.naga_ir.specs.StatementViews.{tree_of};
 ghost use Rattle.fault_details.specs.Reasons.{absent, emitted_reason, first_reason};
 ghost use Rattle.fault_details.specs.Reasons.{initialiser_reason, known_reason, length_reason};
-ghost use Rattle.fault_details.specs.Reasons.{name_reason, names_reason, not_before};
+ghost use Rattle.fault_details.specs.Reasons.{name_reason, names_reason, not_before, order_reason};
 ghost use Rattle.fault_details.specs.Reasons.{own_name_reason, part_reason, size_reason};
 ghost use Rattle.fault_details.specs.Reasons.{signature_reason, special_reason};
 ghost use Rattle.fault_details.specs.Reasons.{statement_name_reason};
@@ -111,8 +111,8 @@ pub(crate) fn known_reason<'a>(
 
 // ---- expressions
 
-/// The first operand of an expression that does not stand before it.
-pub(crate) fn operands_reason<'a>(
+/// The first operand of an expression, among so many of a list, that does not stand before it.
+fn operands_reason<'a>(
     list: ListName,
     here: usize,
     count: usize,
@@ -128,6 +128,29 @@ pub(crate) fn operands_reason<'a>(
         }
     }
     None
+}
+
+/// The first operand of an expression of this function, or of the module itself, that does not
+/// stand before it.
+pub(crate) fn order_reason<'a>(
+    module: &Module,
+    function: Option<&Function>,
+    here: usize,
+    expression: &Expression,
+) -> Option<Reason<'a>>
+    ensures { option_map shown result
+        ≡ order_reason «module».now (option_copied function.entry) here expression.now }
+{
+    match function {
+        Some(function) => {
+            let count = function.expressions.len();
+            operands_reason(ListName::Expressions, here, count, expression)
+        }
+        None => {
+            let count = module.global_expressions.len();
+            operands_reason(ListName::GlobalExpressions, here, count, expression)
+        }
+    }
 }
 
 /// What an expression names beside its operands and is not there, in a function that has so many

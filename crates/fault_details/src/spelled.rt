@@ -6,7 +6,7 @@ ghost use Rattle.naga_acceptance.specs.KnownTypes.{inferred};
 ghost use Rattle.naga_words.specs.Contexts.{global_context};
 ghost use Rattle.naga_words.specs.Segments.{IsText};
 ghost use Rattle.naga_words.specs.Spelling.{FitsResolution, resolution_segments};
-ghost use Rattle.fault_details.specs.Reasons.{OtherType, fault_reason};
+ghost use Rattle.fault_details.specs.Reasons.{NoValue, OtherType, fault_reason};
 ghost use Rattle.fault_details.specs.Shown.{shown};
 ghost use Rattle.fault_details.specs.Told.{IsTold, Tells, TellsOf, place_text, unspelled_text};
 
@@ -68,10 +68,11 @@ fn spelling(
     ensures { IfOk result (λ spelled. IfSome spelled (λ t. IsText (resolution_segments
         (global_context «module».now.types «module».now.overrides) ty.now) (string_bytes t))) }
 {
-    if !types_in_order(&module.types, module.overrides.len()) || !fits(module, ty) {
+    let context = module.to_ctx();
+    if !types_in_order(context.types, context.overrides.len()) || !fits(module, ty) {
         return Ok(None);
     }
-    match module.to_ctx().type_resolution_to_string(alloc, ty) {
+    match context.type_resolution_to_string(alloc, ty) {
         Ok(text) => Ok(Some(text)),
         Err(TypeTextError::Memory(error)) => Err(error),
         Err(TypeTextError::Sink(SinkError::Memory(error))) => Err(error),
@@ -170,6 +171,16 @@ fn other_type(
     })
 }
 
+/// A type of which there is no value.
+fn no_value(alloc: Global, module: &Module, wanted: InferredType) -> Result<Wanted, AllocError>
+    ensures { IfOk result (Tells «module».now (NoValue (inferred wanted))) }
+{
+    let wanted = resolution_of(wanted);
+    Ok(Wanted::Value {
+        wanted: told(alloc, module, &wanted)?,
+    })
+}
+
 /// A reason, as it is told.
 fn told_reason(alloc: Global, module: &Module, reason: Reason<'_>) -> Result<Wanted, AllocError>
     ensures { IfOk result (Tells «module».now (shown reason.entry)) }
@@ -180,9 +191,7 @@ fn told_reason(alloc: Global, module: &Module, reason: Reason<'_>) -> Result<Wan
             class,
             got: told(alloc, module, got)?,
         },
-        Reason::NoValue { wanted } => Wanted::Value {
-            wanted: told(alloc, module, &resolution_of(wanted))?,
-        },
+        Reason::NoValue { wanted } => no_value(alloc, module, wanted)?,
         Reason::Unwanted { got } => Wanted::Nothing {
             got: told(alloc, module, got)?,
         },
