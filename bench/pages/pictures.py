@@ -51,6 +51,7 @@ LAYERS = [
     ("the form", LAWS, [("naga_form", "which syntax tree is written for a module, and the laws of the square")]),
     ("the writer", CODE, [
         ("naga_acceptance", "accepts, count"),
+        ("fault_details", "what was wanted"),
         ("naga_scope", "scope, plans"),
         ("naga_wgsl_fns", "texts of functions"),
         ("naga_wgsl_out", "texts of modules"),

@@ -240,7 +240,8 @@ def test_lines(folder, _):
         elif "text" in answer:
             wanted = (DONE, answer["text"])
         elif "not_accepted" in answer:
-            wanted = (NOT_ACCEPTED, "{place}: {fault}".format(**answer["not_accepted"]))
+            told = answer["not_accepted"]
+            wanted = (NOT_ACCEPTED, ": ".join(told[name] for name in ("place", "fault", "wanted") if name in told))
         else:
             wanted = (NO_MODULE, answer["error"])
         told = library.call("write", line, flags_of_line(line))

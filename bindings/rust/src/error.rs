@@ -19,7 +19,8 @@ pub enum Error {
     NotAccepted {
         /// Where: `module.functions[0].expressions[3]`, or `module.functions[0], statement 3`.
         place: String,
-        /// What is wrong there.
+        /// What is wrong there, and what was wanted:
+        /// `the known type is another: wanted vec4<f32>, got f32`.
         fault: String,
     },
     /// The JSON holds no module.

@@ -1,11 +1,13 @@
-//! What is told of a module by those that read it from JSON: its text, the place of a fault or of a
-//! refusal, and where the members of its structs stand. Programs and libraries can share it.
+//! What is told of a module by those that read it from JSON: its text, a fault or a refusal with its
+//! place, and where the members of its structs stand. Programs and libraries can share it.
 #![tactic(auto)]
 
+mod faults;
 mod layouts;
 mod places;
 mod writing;
 
+pub use faults::fault_line;
 pub use layouts::layout_table;
 pub use places::{JsonPlace, JsonRefusal, JsonRefusalPlace, label_at};
 pub use writing::{Written, flags_for, write, write_told};

@@ -6,7 +6,7 @@ ghost use Rattle.module_meaning.specs.Accepted.{is_accepted};
 use bitflags::Flags;
 use module_answers::JsonRefusalPlace;
 use naga_json::{Known, known_of};
-use naga_wgsl_out::info::{count, unaccepted};
+use naga_wgsl_out::info::{Unaccepted, count, explain, unaccepted};
 use naga_wgsl_out::wgsl::{Writer, WriterFlags, unwritable};
 use serde_json::Value;
 use std::alloc::{AllocError, Global};
@@ -44,7 +44,7 @@ fn answer_known<W: Write>(
     out: &mut W,
 ) -> io::Result<()> {
     if let Some(fault) = unaccepted(&known.module, &known.info) {
-        return writeln!(out, "== {name}\nnot accepted: {fault}");
+        return print_fault(alloc, name, known, fault, out);
     }
     if !is_told(case, "counted") {
         count(&mut known.info, &known.module);
@@ -74,6 +74,21 @@ fn answer_known<W: Write>(
         );
     }
     Ok(())
+}
+
+/// Prints where and why a module is not accepted, and what was wanted there.
+fn print_fault<W: Write>(
+    alloc: Global,
+    name: &str,
+    known: &Known,
+    fault: Unaccepted,
+    out: &mut W,
+) -> io::Result<()> {
+    write!(out, "== {name}\nnot accepted: {fault}")?;
+    if let Some(wanted) = explain(alloc, &known.module, &known.info, fault)? {
+        write!(out, ": {wanted}")?;
+    }
+    writeln!(out)
 }
 
 /// Prints what the writer makes of the module with these flags, and where each `let` tells its type

@@ -4,7 +4,7 @@ use crate::failure::Failure;
 use crate::texts::{Style, write_in};
 use module_answers::{JsonPlace, JsonRefusalPlace, Written, label_at};
 use naga_json::{Known, ReadError, known_of};
-use naga_wgsl_out::info::Unaccepted;
+use naga_wgsl_out::info::{Unaccepted, explain};
 use naga_wgsl_out::ir::Module;
 use naga_wgsl_out::wgsl::{Error, Refusal};
 use serde_json::{Map, Value};
@@ -126,7 +126,7 @@ fn tell_known(
 ) -> Result<(), AllocError> {
     match write_in(alloc, style, known) {
         Ok(written) => tell_written(alloc, written, &known.module, members),
-        Err(unaccepted) => tell_unaccepted(alloc, unaccepted, members),
+        Err(unaccepted) => tell_unaccepted(alloc, known, unaccepted, members),
     }
 }
 
@@ -169,12 +169,16 @@ fn tell_refused(
 
 fn tell_unaccepted(
     alloc: Global,
+    known: &Known,
     unaccepted: Unaccepted,
     members: &mut Members,
 ) -> Result<(), AllocError> {
     let mut told = Map::new(alloc);
     tell(alloc, "place", JsonPlace(unaccepted.item), &mut told)?;
     tell(alloc, "fault", unaccepted.fault, &mut told)?;
+    if let Some(wanted) = explain(alloc, &known.module, &known.info, unaccepted)? {
+        tell(alloc, "wanted", wanted, &mut told)?;
+    }
     put(alloc, "not_accepted", Value::Object(told), members)
 }
 

@@ -5,7 +5,7 @@ use crate::inputs::known_of;
 use crate::lines::answer_lines;
 use crate::texts::write_in;
 use crate::words::{Request, Task, request_of};
-use module_answers::{JsonPlace, JsonRefusal, Written, label_at, layout_table};
+use module_answers::{JsonRefusal, Written, fault_line, label_at, layout_table};
 use naga_json::Known;
 use naga_wgsl_out::info::{Unaccepted, unaccepted};
 use naga_wgsl_out::ir::Module;
@@ -118,7 +118,7 @@ fn answer<O: Write, E: Write>(
     err: &mut E,
 ) -> u8 {
     match request.task {
-        Task::Check => check(known, out, err),
+        Task::Check => check(alloc, known, out, err),
         Task::Layout => tell_layouts(alloc, known, out, err),
         Task::Write | Task::Lines => print_text(alloc, request, known, out, err),
     }
@@ -134,13 +134,13 @@ fn print_text<O: Write, E: Write>(
 ) -> u8 {
     match write_in(alloc, request.style, known) {
         Ok(written) => print_written(written, &known.module, out, err),
-        Err(unaccepted) => refuse_unaccepted(unaccepted, err),
+        Err(fault) => refuse_unaccepted(alloc, known, fault, err),
     }
 }
 
-fn check<O: Write, E: Write>(known: &Known, out: &mut O, err: &mut E) -> u8 {
+fn check<O: Write, E: Write>(alloc: Global, known: &Known, out: &mut O, err: &mut E) -> u8 {
     match unaccepted(&known.module, &known.info) {
-        Some(fault) => refuse_unaccepted(fault, err),
+        Some(fault) => refuse_unaccepted(alloc, known, fault, err),
         None => print("accepted\n", out, err),
     }
 }
@@ -148,7 +148,7 @@ fn check<O: Write, E: Write>(known: &Known, out: &mut O, err: &mut E) -> u8 {
 /// Prints where the members of the module's structs stand.
 fn tell_layouts<O: Write, E: Write>(alloc: Global, known: &Known, out: &mut O, err: &mut E) -> u8 {
     match unaccepted(&known.module, &known.info) {
-        Some(fault) => refuse_unaccepted(fault, err),
+        Some(fault) => refuse_unaccepted(alloc, known, fault, err),
         None => match layout_table(alloc, &known.module, &known.info) {
             Ok(table) => print(table, out, err),
             Err(error) => tell_error(error, err),
@@ -203,11 +203,15 @@ fn write_and_flush<O: Write>(text: impl Display + Drop, out: &mut O) -> io::Resu
     out.flush()
 }
 
-fn refuse_unaccepted<E: Write>(unaccepted: Unaccepted, err: &mut E) -> u8 {
-    let place = JsonPlace(unaccepted.item);
-    let fault = unaccepted.fault;
-    let _ = writeln!(err, "not accepted: {place}: {fault}");
-    REFUSED
+/// Tells where and why the module is not accepted, and what was wanted there.
+fn refuse_unaccepted<E: Write>(alloc: Global, known: &Known, fault: Unaccepted, err: &mut E) -> u8 {
+    match fault_line(alloc, &known.module, &known.info, fault) {
+        Ok(line) => {
+            let _ = writeln!(err, "not accepted: {line}");
+            REFUSED
+        }
+        Err(_) => fail(Failure::Memory, err),
+    }
 }
 
 fn refuse<E: Write>(reason: impl Display + Drop, err: &mut E) -> u8 {

@@ -9,7 +9,7 @@ ghost use Rattle.yorwethul_c.specs.Answers.{TellsOfWriting};
 use crate::nesting::nests_past;
 use crate::status::{Status, status_of};
 use bitflags::Flags;
-use module_answers::{JsonPlace, JsonRefusal, Written, layout_table, write, write_told};
+use module_answers::{JsonRefusal, Written, fault_line, layout_table, write, write_told};
 use naga_json::{Known, ReadError, read_known};
 use naga_wgsl_out::info::{Unaccepted, unaccepted};
 use naga_wgsl_out::sinks::Limited;
@@ -126,7 +126,7 @@ fn written_as_given(alloc: Global, known: &mut Known, flags: u32) -> Answer
         sink,
     ) {
         Ok(written) => told_written(alloc, written),
-        Err(fault) => not_accepted(alloc, fault),
+        Err(fault) => not_accepted(alloc, known, fault),
     }
 }
 
@@ -144,7 +144,7 @@ fn written_told(alloc: Global, known: &mut Known, flags: u32) -> Answer
         sink,
     ) {
         Ok(written) => told_written(alloc, written),
-        Err(fault) => not_accepted(alloc, fault),
+        Err(fault) => not_accepted(alloc, known, fault),
     }
 }
 
@@ -195,7 +195,7 @@ fn checked_known(alloc: Global, known: &Known) -> Answer
     ensures { (json : List ℕ) → TellsOfChecking json result.status (string_bytes result.text) }
 {
     match unaccepted(&known.module, &known.info) {
-        Some(fault) => not_accepted(alloc, fault),
+        Some(fault) => not_accepted(alloc, known, fault),
         None => Answer {
             status: Status::Done,
             text: String::new(alloc),
@@ -207,7 +207,7 @@ fn laid_out_known(alloc: Global, known: &Known) -> Answer
     ensures { (json : List ℕ) → TellsOfLayouts json result.status (string_bytes result.text) }
 {
     match unaccepted(&known.module, &known.info) {
-        Some(fault) => not_accepted(alloc, fault),
+        Some(fault) => not_accepted(alloc, known, fault),
         None => match layout_table(alloc, &known.module, &known.info) {
             Ok(text) => Answer {
                 status: Status::Done,
@@ -219,12 +219,11 @@ fn laid_out_known(alloc: Global, known: &Known) -> Answer
     }
 }
 
-fn not_accepted(alloc: Global, fault: Unaccepted) -> Answer
+/// Tells where and why the module is not accepted, and what was wanted there.
+fn not_accepted(alloc: Global, known: &Known, fault: Unaccepted) -> Answer
     ensures { Says Status.NotAccepted result.status (string_bytes result.text) }
 {
-    let place = JsonPlace(fault.item);
-    let fault = fault.fault;
-    let text = format!(in alloc; "{place}: {fault}");
+    let text = fault_line(alloc, &known.module, &known.info, fault);
     settled(alloc, Status::NotAccepted, text)
 }
 
