@@ -4,8 +4,10 @@
 
 mod layouts;
 mod places;
+mod within;
 mod writing;
 
 pub use layouts::layout_table;
 pub use places::JsonPlace;
+pub use within::{Unwritten, look_into, write_told_within, write_within};
 pub use writing::{Written, flags_for, write, write_told};

@@ -24,6 +24,7 @@ pub mod types;
 pub mod valid;
 mod variables;
 pub mod wgsl;
+mod within;
 mod writer;
 
 pub use float_numerals as numerals;

@@ -5,7 +5,7 @@ use crate::inputs::known_of;
 use crate::lines::answer_lines;
 use crate::texts::write_in;
 use crate::words::{Request, Task, request_of};
-use module_answers::{JsonPlace, Written, layout_table};
+use module_answers::{JsonPlace, Unwritten, Written, layout_table, look_into};
 use naga_json::Known;
 use naga_wgsl_out::info::{Unaccepted, unaccepted};
 use naga_wgsl_out::wgsl::Error;
@@ -117,8 +117,8 @@ fn answer<O: Write, E: Write>(
     err: &mut E,
 ) -> u8 {
     match request.task {
-        Task::Check => check(known, out, err),
-        Task::Layout => tell_layouts(alloc, known, out, err),
+        Task::Check => check(alloc, request, known, out, err),
+        Task::Layout => tell_layouts(alloc, request, known, out, err),
         Task::Write | Task::Lines => print_text(alloc, request, known, out, err),
     }
 }
@@ -133,11 +133,20 @@ fn print_text<O: Write, E: Write>(
 ) -> u8 {
     match write_in(alloc, request.style, known) {
         Ok(written) => print_written(written, out, err),
-        Err(unaccepted) => refuse_unaccepted(unaccepted, err),
+        Err(unwritten) => tell_unwritten(unwritten, err),
     }
 }
 
-fn check<O: Write, E: Write>(known: &Known, out: &mut O, err: &mut E) -> u8 {
+fn check<O: Write, E: Write>(
+    alloc: Global,
+    request: Request<'_>,
+    known: &Known,
+    out: &mut O,
+    err: &mut E,
+) -> u8 {
+    if let Err(unwritten) = look_into(alloc, &known.module, request.style.limits.nesting) {
+        return tell_unwritten(unwritten, err);
+    }
     match unaccepted(&known.module, &known.info) {
         Some(fault) => refuse_unaccepted(fault, err),
         None => print("accepted\n", out, err),
@@ -145,7 +154,16 @@ fn check<O: Write, E: Write>(known: &Known, out: &mut O, err: &mut E) -> u8 {
 }
 
 /// Prints where the members of the module's structs stand.
-fn tell_layouts<O: Write, E: Write>(alloc: Global, known: &Known, out: &mut O, err: &mut E) -> u8 {
+fn tell_layouts<O: Write, E: Write>(
+    alloc: Global,
+    request: Request<'_>,
+    known: &Known,
+    out: &mut O,
+    err: &mut E,
+) -> u8 {
+    if let Err(unwritten) = look_into(alloc, &known.module, request.style.limits.nesting) {
+        return tell_unwritten(unwritten, err);
+    }
     match unaccepted(&known.module, &known.info) {
         Some(fault) => refuse_unaccepted(fault, err),
         None => match layout_table(alloc, &known.module, &known.info) {
@@ -181,6 +199,15 @@ fn print<O: Write, E: Write>(text: impl Display + Drop, out: &mut O, err: &mut E
 fn write_and_flush<O: Write>(text: impl Display + Drop, out: &mut O) -> io::Result<()> {
     write!(out, "{text}")?;
     out.flush()
+}
+
+/// Tells why the writer was not asked for a module, or was stopped at it.
+fn tell_unwritten<E: Write>(unwritten: Unwritten, err: &mut E) -> u8 {
+    match unwritten {
+        Unwritten::NotAccepted(unaccepted) => refuse_unaccepted(unaccepted, err),
+        Unwritten::Memory(_) => fail(Failure::Memory, err),
+        reason => refuse(reason, err),
+    }
 }
 
 fn refuse_unaccepted<E: Write>(unaccepted: Unaccepted, err: &mut E) -> u8 {

@@ -1,7 +1,8 @@
 //! The words that the program is called with.
 
 use crate::texts::Style;
-use clap::{Arg, ArgAction, ArgMatches, Command, Error};
+use clap::{Arg, ArgAction, ArgMatches, Command, Error, value_parser};
+use naga_wgsl_out::wgsl::Limits;
 use std::alloc::{AllocError, Global};
 
 /// What is done with the modules that are read.
@@ -43,9 +44,26 @@ fn request_in<'a>(matches: &ArgMatches<'a>) -> Request<'a> {
         style: Style {
             explicit_types: matches.get_flag("explicit-types"),
             plain: matches.get_flag("plain"),
+            limits: limits_in(matches),
         },
         module: matches.get_str("module").unwrap_or("-"),
         info: matches.get_str("info"),
+    }
+}
+
+/// How deep a module may be nested where the words say nothing: half of what 8 MB of stack hold
+/// (`docs/SPEED.md`).
+const NESTING: usize = 4_000;
+
+/// How many bytes a text may have where the words say nothing.
+const LONGEST_TEXT: usize = 67_108_864;
+
+fn limits_in(matches: &ArgMatches<'_>) -> Limits {
+    Limits {
+        nesting: matches.get_one::<usize>("nesting").unwrap_or(NESTING),
+        text: matches
+            .get_one::<usize>("text")
+            .unwrap_or(LONGEST_TEXT),
     }
 }
 
@@ -93,6 +111,8 @@ fn command<'a>(alloc: Global) -> Result<Command<'a>, AllocError> {
         .arg(layout(alloc)?)?
         .arg(lines(alloc)?)?
         .arg(info(alloc))?
+        .arg(nesting(alloc))?
+        .arg(text(alloc))?
         .arg(module(alloc))
 }
 
@@ -134,6 +154,24 @@ fn info<'a>(alloc: Global) -> Arg<'a> {
     Arg::new(alloc, "info").long("info").value_name("FILE").help(
         "What is known of the module, where the first file holds the module alone",
     )
+}
+
+fn nesting<'a>(alloc: Global) -> Arg<'a> {
+    let help = "How deep operands, types and blocks may stand in one another: 4000";
+    number(alloc, "nesting", "LEVELS", help)
+}
+
+fn text<'a>(alloc: Global) -> Arg<'a> {
+    let help = "How many bytes a text may have: 67108864";
+    number(alloc, "text", "BYTES", help)
+}
+
+fn number<'a>(alloc: Global, name: &'a str, value: &'a str, help: &'a str) -> Arg<'a> {
+    Arg::new(alloc, name)
+        .long(name)
+        .value_name(value)
+        .value_parser(value_parser!(usize))
+        .help(help)
 }
 
 fn module<'a>(alloc: Global) -> Arg<'a> {

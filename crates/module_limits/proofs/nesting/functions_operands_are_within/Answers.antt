@@ -1,0 +1,4 @@
+use Rattle.module_limits.proofs.nesting.functions_operands_are_within.Goals as goal
+
+pub loop-function-init : goal.loop-function-init
+loop-function-init c = ?
