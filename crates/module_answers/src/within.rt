@@ -1,6 +1,7 @@
 //! What the writer does with a module that others made, within limits.
 
-ghost use Rattle.std.specs.Prelude.{◌≡◌, ◌<◌, ◌≤◌, ℕ, [], IfErr, IfOk, IsTrue, None, OnOk, length};
+ghost use Rattle.std.specs.Prelude.{◌≡◌, ◌<◌, ◌≤◌, ℕ, [], IfErr, IfNone, IfOk, IfSome, IsTrue};
+ghost use Rattle.std.specs.Prelude.{None, OnOk, length};
 ghost use Rattle.std.specs.Prelude.{string_bytes};
 ghost use Rattle.module_answers.specs.Within.{IsUnwritten, TellsDepth};
 ghost use Rattle.module_limits.specs.Nesting.{nested_past};
@@ -56,15 +57,13 @@ pub fn write_within(
     ensures unwritten { IfErr result (IsUnwritten flags limits «module».now «module».now info.old
         info.new) }
 {
+    let empty = BoundedText::new(alloc, limits.text);
     look_into(alloc, module, limits.nesting)?;
-    match write(
-        alloc,
-        module,
-        info,
-        flags,
-        BoundedText::new(alloc, limits.text),
-    ) {
-        Ok(written) => kept(written, limits.text),
+    match write(alloc, module, info, flags, empty) {
+        Ok(written) => match kept(written, limits.text) {
+            Some(whole) => Ok(whole),
+            None => Err(Unwritten::TooLong),
+        },
         Err(fault) => Err(Unwritten::NotAccepted(fault)),
     }
 }
@@ -92,15 +91,13 @@ pub fn write_told_within(
     ensures too_long { IfErr result (λ e. e ≡ Unwritten.TooLong →
         IsToldModule «module».old «module».new) }
 {
+    let empty = BoundedText::new(alloc, limits.text);
     look_into(alloc, module, limits.nesting)?;
-    match write_told(
-        alloc,
-        module,
-        info,
-        flags,
-        BoundedText::new(alloc, limits.text),
-    ) {
-        Ok(written) => kept(written, limits.text),
+    match write_told(alloc, module, info, flags, empty) {
+        Ok(written) => match kept(written, limits.text) {
+            Some(whole) => Ok(whole),
+            None => Err(Unwritten::TooLong),
+        },
         Err(fault) => Err(Unwritten::NotAccepted(fault)),
     }
 }
@@ -118,17 +115,16 @@ pub fn look_into(alloc: Global, module: &Module, levels: usize) -> Result<(), Un
 }
 
 /// What was written, if its text has no more than so many bytes.
-fn kept(written: Written<BoundedText>, bound: usize) -> Result<Written<String>, Unwritten>
-    ensures answer { IfOk result (λ w. w.answer ≡ written.answer) }
-    ensures text { IfOk result (λ w. string_bytes w.sink ≡ written.sink.text) }
-    ensures within { IfOk result (λ w. length (string_bytes w.sink) ≤ bound) }
-    ensures too_long { IfErr result (λ e. (e ≡ Unwritten.TooLong)
-        × (bound < length written.sink.text)) }
+fn kept(written: Written<BoundedText>, bound: usize) -> Option<Written<String>>
+    ensures answer { IfSome result (λ w. w.answer ≡ written.answer) }
+    ensures text { IfSome result (λ w. string_bytes w.sink ≡ written.sink.text) }
+    ensures within { IfSome result (λ w. length (string_bytes w.sink) ≤ bound) }
+    ensures too_long { IfNone result (bound < length written.sink.text) }
 {
     let Written { answer, sink } = written;
     if sink.text().len() > bound {
-        return Err(Unwritten::TooLong);
+        return None;
     }
     let sink = sink.finish();
-    Ok(Written { answer, sink })
+    Some(Written { answer, sink })
 }

@@ -14,3 +14,4 @@ pub mod ItemRows
 pub mod Sizes
 pub mod StructRows
 pub mod VariableRows
+pub mod Within

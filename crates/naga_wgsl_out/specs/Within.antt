@@ -2,8 +2,9 @@
 --
 -- Throughout, m is the module, old is what is known of it before the call, new after it, and info is
 -- what is known of it with its uses counted; bound is how many bytes a text may have.
-use Rattle.std.specs.Prelude.{◌≡◌, ◌<◌, ◌≤◌, ◌⊎◌, ℕ, List, [], Result, Ok, Err, None, Some, String}
-use Rattle.std.specs.Prelude.{IsTrue, alloc_error, length, string_bytes, ⊥}
+use Rattle.std.specs.Prelude.{◌≡◌, ◌<◌, ◌≤◌, ◌⊎◌, ℕ, List, [], Result, Ok, Err, None, Some}
+use Rattle.std.specs.Prelude.{IsTrue, alloc_error, length, string_bytes}
+use Rattle.std.specs.declared.string.String.{String}
 use Rattle.module_limits.specs.Nesting.{nested_past}
 use Rattle.module_limits.specs.declared.limits.Limits.{Limits}
 use Rattle.module_meaning.specs.Accepted.{is_accepted}
@@ -51,6 +52,16 @@ AnswersBounded flags bound m info (Err limited.TooLong) =
 AnswersBounded flags bound m info (Err (limited.Refused error)) =
     IsRefusedWithin flags bound m info error
 AnswersBounded flags bound m info (Err _) = ⊥
+
+-- the same by the writer's answer and what its sink holds
+abbrev pub TellsBounded : {Y : Type 0} → (bound : ℕ) → Result Unit Error → (content : List ℕ) →
+    Result (String Y) LimitedError → Type 0
+TellsBounded bound answer content (Ok text) =
+    (answer ≡ Ok tt) × (string_bytes text ≡ content) × (length content ≤ bound)
+TellsBounded bound answer content (Err limited.TooLong) = bound < length content
+TellsBounded bound answer content (Err (limited.Refused error)) =
+    (answer ≡ Err error) × (length content ≤ bound)
+TellsBounded bound answer content (Err _) = ⊥
 
 -- The module is nested no deeper than it may be, and accepted; its uses were counted, and then this
 -- was answered of it.

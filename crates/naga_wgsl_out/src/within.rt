@@ -1,8 +1,9 @@
 //! The writer, for modules that others made: within limits that the caller sets.
 
-ghost use Rattle.std.specs.Prelude.{◌≡◌, IsTrue};
+ghost use Rattle.std.specs.Prelude.{◌≡◌, IsTrue, None};
+ghost use Rattle.module_limits.specs.Nesting.{nested_past};
 ghost use Rattle.module_meaning.specs.Accepted.{is_accepted};
-ghost use Rattle.naga_wgsl_out.specs.Within.{AnswersBounded, AnswersWithin};
+ghost use Rattle.naga_wgsl_out.specs.Within.{AnswersBounded, AnswersWithin, TellsBounded};
 
 use crate::writer::Writer;
 use module_limits::{BoundedText, Limits, Nested, nested_past};
@@ -59,10 +60,24 @@ pub fn write_checked_within(
     ensures { AnswersWithin flags limits «module».now info.old info.new result }
 {
     match nested_past(alloc, module, limits.nesting) {
-        Ok(None) => {}
-        Ok(Some(nested)) => return Err(LimitedError::TooDeep(nested)),
-        Err(error) => return Err(LimitedError::Refused(Error::Memory(error))),
+        Ok(None) => write_flat(alloc, module, info, flags, limits),
+        Ok(Some(nested)) => Err(LimitedError::TooDeep(nested)),
+        Err(error) => Err(LimitedError::Refused(Error::Memory(error))),
     }
+}
+
+/// The same with a module that is nested no deeper than it may be.
+#[tactic(auto, using(crate::proofs::Within::answers_within))]
+fn write_flat(
+    alloc: Global,
+    module: &Module,
+    info: &mut ModuleInfo,
+    flags: WriterFlags,
+    limits: Limits,
+) -> Result<String, LimitedError>
+    requires flat { nested_past limits.nesting «module».now ≡ None }
+    ensures { AnswersWithin flags limits «module».now info.old info.new result }
+{
     if let Some(fault) = unaccepted(module, info) {
         return Err(LimitedError::NotAccepted(fault));
     }
@@ -81,9 +96,17 @@ fn write_bounded(
     requires accepted { IsTrue (is_accepted «module».now info.now) }
     ensures { AnswersBounded flags bound «module».now info.now result }
 {
-    let mut writer = Writer::new(alloc, BoundedText::new(alloc, bound), flags);
+    let empty = BoundedText::new(alloc, bound);
+    let mut writer = Writer::new(alloc, empty, flags);
     let answer = writer.write(module, info);
     let sink = writer.finish();
+    told(answer, sink, bound)
+}
+
+/// What is told of the writer's answer, by the length of what its sink took.
+fn told(answer: Result<(), Error>, sink: BoundedText, bound: usize) -> Result<String, LimitedError>
+    ensures { TellsBounded bound answer sink.text result }
+{
     if sink.text().len() > bound {
         return Err(LimitedError::TooLong);
     }

@@ -6,8 +6,8 @@ use naga_wgsl_out::builder::{FunctionBuilder, ModuleBuilder};
 use naga_wgsl_out::info::{accepts, count, unaccepted};
 use naga_wgsl_out::ir::{Binding, BuiltIn, Place, Sampling, Scalar, ShaderStage};
 use naga_wgsl_out::wgsl::{
-    CheckedError, Error, Writer, WriterFlags, names_of, no_flags, write_binding, write_checked,
-    write_function, write_string,
+    CheckedError, Error, LimitedError, Limits, Nested, Writer, WriterFlags, names_of, nested_past,
+    no_flags, write_binding, write_checked, write_checked_within, write_function, write_string,
 };
 use sample_modules::Row;
 use std::alloc::Global;
@@ -251,4 +251,27 @@ fn a_module_is_asked_for_and_written(rt: HostRuntime) {
     shader.info.functions.clear();
     let answer = write_checked(alloc, &shader.module, &mut shader.info, no_flags());
     assert!(rt; matches!(answer, Err(CheckedError::NotAccepted(_))));
+}
+
+/// The same within limits: a text that is as long as it may be, and one that is longer; a module that
+/// is nested deeper.
+#[test]
+fn a_module_is_written_within_limits(rt: HostRuntime) {
+    let alloc = rt.alloc();
+    let mut shader = ModuleBuilder::new(alloc);
+    Row::Store.build(alloc, &mut shader).expect(&rt, "memory");
+    let mut limits = Limits {
+        nesting: 9,
+        text: STORE.len(),
+    };
+    let text = write_checked_within(alloc, &shader.module, &mut shader.info, no_flags(), limits);
+    reads(&rt, text.expect(&rt, "a text").as_str(), STORE);
+    limits.text -= 1;
+    let answer = write_checked_within(alloc, &shader.module, &mut shader.info, no_flags(), limits);
+    assert!(rt; matches!(answer, Err(LimitedError::TooLong)));
+    limits.nesting = 0;
+    let answer = write_checked_within(alloc, &shader.module, &mut shader.info, no_flags(), limits);
+    assert!(rt; matches!(answer, Err(LimitedError::TooDeep(Nested::Blocks))));
+    let nested = nested_past(alloc, &shader.module, 1);
+    assert!(rt; matches!(nested, Ok(Some(Nested::Operands))));
 }

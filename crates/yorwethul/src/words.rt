@@ -61,9 +61,7 @@ const LONGEST_TEXT: usize = 67_108_864;
 fn limits_in(matches: &ArgMatches<'_>) -> Limits {
     Limits {
         nesting: matches.get_one::<usize>("nesting").unwrap_or(NESTING),
-        text: matches
-            .get_one::<usize>("text")
-            .unwrap_or(LONGEST_TEXT),
+        text: matches.get_one::<usize>("text").unwrap_or(LONGEST_TEXT),
     }
 }
 
@@ -85,9 +83,9 @@ const ABOUT: &str =
 const AFTER_HELP: &str = "\
 The file holds an object with the members module and info, as serde writes naga's Module and
 ModuleInfo. With --lines each line is such an object, which may have the members explicit_types,
-plain and id beside; explicit_types and plain, true or false, hold in place of --explicit-types
-and --plain. It is answered before the next line is read, by one line, an object with the same id
-and with one of the members text, refused, not_accepted and error.
+plain, nesting, text and id beside; the first two, true or false, and the next two, numbers, hold
+in place of the options of these names. It is answered before the next line is read, by one line,
+an object with the same id and with one of the members text, refused, not_accepted and error.
 
 Literals of floats are written by the digits that Rust's formatting gives, and the text has what
 standard compilers ask for, as enable subgroups. With --plain neither is so, as by the library
@@ -95,6 +93,9 @@ without flags: a literal of a float that the module holds as its bits is then re
 
 With --layout each struct that the text declares has a line, and so has each of its members, with
 its offset and what WGSL gives to its type, in bytes, or why the member can't stay where it is.
+
+A module is refused where operands, types or blocks stand in one another on more levels than
+--nesting allows, since each takes some of the stack, or where its text has more bytes than --text.
 
 The status is 0; 1 where the module is refused or not accepted; 2 where the words are wrong, the
 input is no module, something cannot be read or written, or memory is refused. With --lines it is
