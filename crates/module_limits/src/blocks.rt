@@ -6,8 +6,8 @@ ghost use Rattle.module_limits.specs.Blocks.{block_depth, cases_depth, statement
 
 use naga_ir::{Block, Statement, SwitchCase};
 
-/// Whether the statements of the block stand in one another on no more than so many levels. It goes no
-/// deeper than one level more, and takes no memory.
+/// Whether the statements of the block stand in one another on no more than so many levels. It goes
+/// no deeper than one level more, and takes no memory.
 #[cycle(blocks)]
 pub(crate) fn block_is_within(block: &Block, levels: usize) -> bool
     ensures { result ≡ nat_le (block_depth block.now) levels }

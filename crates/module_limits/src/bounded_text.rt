@@ -8,8 +8,8 @@ use std::marker::Model;
 
 /// A text that takes pieces as long as it has no more bytes than its bound, and refuses all after
 /// the piece that took it past. So one that refused a piece has more bytes than its bound, of which
-/// the caller can tell that the whole text has more; and one whose last piece took it past has, too,
-/// though it refused none.
+/// the caller can tell that the whole text has more; and one whose last piece took it past has,
+/// too, though it refused none.
 ///
 /// Contracts see its text, its bound and the number of its failures.
 ///

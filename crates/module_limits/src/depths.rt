@@ -1,5 +1,5 @@
-//! How deep the operands of expressions and the parts of types nest, by tables of what stands before
-//! them.
+//! How deep the operands of expressions and the parts of types nest, by tables of what stands
+//! before them.
 
 ghost use Rattle.std.specs.Prelude.{◌≡◌, IfOk, get_or, map, nat_le};
 ghost use Rattle.std.specs.Option.{option_to_list};

@@ -8,8 +8,8 @@ ghost use Rattle.naga_ir.specs.declared.types.Type_.{Type_};
 ghost use Rattle.module_limits.specs.Depths.{AreOneDeeper};
 ghost use Rattle.module_limits.specs.Nesting.{global_parts, type_parts};
 
-/// An expression or a type is one deeper than the deepest that it is made of, where these all stand in
-/// front of it, as they do in a module that is accepted.
+/// An expression or a type is one deeper than the deepest that it is made of, where these all stand
+/// in front of it, as they do in a module that is accepted.
 pub fn depths_are_structural()
     ensures operands { (expressions : List Expression) →
         AreOneDeeper expression_operands expressions }

@@ -8,8 +8,8 @@
 /// ```
 #[derive(Clone, Copy, Debug, PartialEq, Eq)]
 pub struct Limits {
-    /// How many levels of operands, of types and of blocks may stand in one another. `docs/SPEED.md`
-    /// has how many bytes of the stack a level takes.
+    /// How many levels of operands, of types and of blocks may stand in one another.
+    /// `docs/SPEED.md` has how many bytes of the stack a level takes.
     pub nesting: usize,
     /// How many bytes the text may have.
     pub text: usize,

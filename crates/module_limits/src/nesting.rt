@@ -17,8 +17,8 @@ use std::fmt;
 pub enum Nested {
     /// Statements in the blocks of others.
     Blocks,
-    /// Types that are made of others: arrays and pointers over their bases, structs over the types of
-    /// their members.
+    /// Types that are made of others: arrays and pointers over their bases, structs over the types
+    /// of their members.
     Types,
     /// Expressions over their operands, and a module's own ones over the initialisers of constants
     /// without names, too.
@@ -41,8 +41,9 @@ impl fmt::Display for Nested {
 ///
 /// It is for any module, accepted or not. Of an operand or a part of a type that does not stand in
 /// front of what it is of, so that the module is not accepted, it takes no notice. It goes into
-/// blocks no deeper than one level more than these, and into nothing else. It takes memory for a number for
-/// each expression of one function at a time, for each of the module's own, and for each type.
+/// blocks no deeper than one level more than these, and into nothing else. It takes memory for a
+/// number for each expression of one function at a time, for each of the module's own, and for each
+/// type.
 ///
 /// Calls that write a module, or ask whether it is accepted, go no deeper than it is nested. So a
 /// host that asks this first knows how much of the stack they take: `docs/SPEED.md` says it.

@@ -1,7 +1,7 @@
 -- What a call answers that writes a module within limits.
 --
--- Throughout, m is the module, old is what is known of it before the call, new after it, and info is
--- what is known of it with its uses counted; bound is how many bytes a text may have.
+-- Throughout, m is the module, old is what is known of it before the call, new after it, and info
+-- is what is known of it with its uses counted; bound is how many bytes a text may have.
 use Rattle.std.specs.Prelude.{◌≡◌, ◌<◌, ◌≤◌, ◌⊎◌, ℕ, List, [], Result, Ok, Err, None, Some}
 use Rattle.std.specs.Prelude.{IsTrue, alloc_error, length, string_bytes}
 use Rattle.std.specs.declared.string.String.{String}
@@ -42,7 +42,8 @@ pub record IsRefusedWithin (flags : WriterFlags) (bound : ℕ) (m : Module) (inf
   pub within : length beginning ≤ bound
   pub faithful : FaithfulWriting flags m info (Err error) [] beginning 0 failures
 
--- what is answered of an accepted module; in particular a text is too long only where the module's is
+-- what is answered of an accepted module; in particular a text is too long only where the module's
+-- is
 abbrev pub AnswersBounded : {Y : Type 0} → WriterFlags → (bound : ℕ) → Module → ModuleInfo →
     Result (String Y) LimitedError → Type 0
 AnswersBounded flags bound m info (Ok text) =

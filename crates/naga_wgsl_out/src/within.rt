@@ -36,12 +36,12 @@ pub enum LimitedError {
 /// module that others made, of which nothing is known.
 ///
 /// [`LimitedError::TooDeep`] comes exactly where something of the module is nested deeper than
-/// `limits.nesting`, by [`nested_past`], before anything else is asked of it and before the stack is
-/// taken. [`LimitedError::TooLong`] comes only where the module's text has more than `limits.text`
-/// bytes, and a text that has more never comes: it is cut as soon as it has passed the limit, so that
-/// no more memory than that and a piece more is taken for it, and no more time. What is known of the
-/// module is as it was where it is nested too deep or not accepted; else its uses are counted, but
-/// where memory was wanting before.
+/// `limits.nesting`, by [`nested_past`], before anything else is asked of it and before the stack
+/// is taken. [`LimitedError::TooLong`] comes only where the module's text has more than
+/// `limits.text` bytes, and a text that has more never comes: it is cut as soon as it has passed
+/// the limit, so that no more memory than that and a piece more is taken for it, and no more time.
+/// What is known of the module is as it was where it is nested too deep or not accepted; else its
+/// uses are counted, but where memory was wanting before.
 ///
 /// ```text
 /// let limits = Limits { nesting: 4_000, text: 16_777_216 };

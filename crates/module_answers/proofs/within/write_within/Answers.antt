@@ -32,9 +32,11 @@ returns-in-Some-clause-faithful c =
     let faithful = subst (λ r. IfOk r (λ w. FaithfulWriting flags m info w.answer c.new-empty.result.text w.sink.text c.new-empty.result.failures w.sink.failures)) c.in-Ok.is c.write.ensures.faithful in
     let begun = subst (λ s. FaithfulWriting flags m info w.answer s.text w.sink.text s.failures w.sink.failures) c.new-empty.ensures faithful in
     let answer = subst (λ o. IfSome o (λ v. v.answer ≡ w.answer)) c.in-Some.is c.kept.ensures.answer in
-    let text = subst (λ o. IfSome o (λ v. string_bytes v.sink ≡ w.sink.text)) c.in-Some.is c.kept.ensures.text in
-    (w.sink.failures, subst (λ a. FaithfulWriting flags m info a [] (string_bytes v.sink) 0 w.sink.failures) (sym answer)
-    (subst (λ t. FaithfulWriting flags m info w.answer [] t 0 w.sink.failures) (sym text) begun))
+    let text = subst (λ o. IfSome o (λ v. string_bytes v.sink ≡ w.sink.text)) c.in-Some.is c.kept.ensures.text in (
+      w.sink.failures,
+      subst (λ a. FaithfulWriting flags m info a [] (string_bytes v.sink) 0 w.sink.failures) (sym answer)
+          (subst (λ t. FaithfulWriting flags m info w.answer [] t 0 w.sink.failures) (sym text) begun),
+    )
 
 pub returns-in-Some-clause-text : goal.returns-in-Some-clause-text
 returns-in-Some-clause-text c =
