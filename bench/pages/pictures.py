@@ -37,6 +37,7 @@ LAYERS = [
     ("numbers", CODE, [
         ("wgsl_layout", "WGSL's rules, by numbers"),
         ("naga_layout", "layouts of a module's types"),
+        ("module_limits", "nesting, bounded texts"),
     ]),
     ("languages", LAWS, [
         ("wgsl_text", "the grammar of texts"),

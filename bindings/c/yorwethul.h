@@ -21,11 +21,13 @@ enum yorwethul_status {
     YORWETHUL_NO_MODULE = 3,     /* the bytes hold none; out tells where and why */
     YORWETHUL_UNKNOWN_FLAG = 4,  /* a bit is set that no flag has */
     YORWETHUL_OUT_OF_MEMORY = 5, /* memory was refused; *needed is 0 */
-    YORWETHUL_TOO_DEEP = 6,      /* lists and objects of the JSON nest more than 127 deep */
+    YORWETHUL_TOO_DEEP = 6,      /* lists and objects of the JSON nest more than 127 deep, or operands, types or
+                                    blocks of the module more than YORWETHUL_DEEPEST_NESTING */
     YORWETHUL_TOO_LONG = 7       /* the text would have more than YORWETHUL_LONGEST_TEXT bytes */
 };
 
 #define YORWETHUL_LONGEST_TEXT 67108864u
+#define YORWETHUL_DEEPEST_NESTING 4000u
 
 /* flags */
 #define YORWETHUL_EXPLICIT_TYPES 1u /* each `let` tells its type */

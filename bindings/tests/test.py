@@ -23,12 +23,18 @@ from pathlib import Path
 HERE = Path(__file__).resolve().parent
 BINDINGS = HERE.parent
 TOP = BINDINGS.parent
+sys.path.append(str(TOP / "bench/nested_modules"))
+from modules import KINDS, doubled, nested  # noqa: E402
+
 CRATES = TOP / "crates"
 EXAMPLES = sorted((TOP / "examples").glob("*.json"))
 WARNINGS = ["-Wall", "-Wextra", "-pedantic"]
 # as yorwethul.h numbers them; bindings/c/agree.py compares the two
 DONE, REFUSED, NOT_ACCEPTED, NO_MODULE, UNKNOWN_FLAG, OUT_OF_MEMORY, TOO_DEEP, TOO_LONG = range(8)
 EXPLICIT_TYPES, PORTABLE, TELL_FLOATS = 1, 2, 4
+# what a line of the program may have in place of the program's limits; a call from C has its own
+LIMITS_OF_LINES = (b'"nesting":', b'"text":')
+DEEPEST_NESTING = 4_000
 ALL_FLAGS = EXPLICIT_TYPES | PORTABLE | TELL_FLOATS
 
 # By which words the programs to copy ask for flags.
@@ -233,7 +239,7 @@ def test_lines(folder, _):
     library = Library(folder / "libyorwethul.so")
     lines = zip((CRATES / "yorwethul/stdin").read_bytes().splitlines(), (CRATES / "yorwethul/stdout").read_text().splitlines())
     for line, answer in ((line, json.loads(answer)) for line, answer in lines):
-        if answer.get("error", "").endswith(": no truth value"):
+        if answer.get("error", "").endswith((": no truth value", ": no number of 32 bits")) or any(name in line for name in LIMITS_OF_LINES):
             continue
         if "refused" in answer:
             wanted = (REFUSED, "{refused}: {place}".format(**answer))
@@ -330,6 +336,14 @@ def test_depth(folder, _):
         for name, flags in (("write", [0]), ("check", []), ("layout", [])):
             told = library.call(name, data, *flags)
             must(told[0] == wanted, f"{name}: {told} of {data[:40]}")
+    for kind in KINDS:
+        for depth in (DEEPEST_NESTING + 1, 100_000):
+            data = json.dumps(nested(kind, depth)).encode()
+            for name, flags in (("write", [0]), ("check", []), ("layout", [])):
+                told = library.call(name, data, *flags)
+                must(told[0] == TOO_DEEP and told[1].startswith("nested too deep: "), f"{name}: {told} of {kind}, {depth} deep")
+    told = library.call("write", json.dumps(doubled(100)).encode(), 0)
+    must(told == (TOO_LONG, "text of more than 67108864 bytes"), f"{told} of a text that doubles")
 
 
 def test_hammer(folder, room, counts=None):

@@ -229,7 +229,7 @@ fn deep_operands_take_a_thread() {
         .expressions
         .append(Expression::FunctionArgument(0), SPAN);
     let mut last = first;
-    let depth = 20_000;
+    let depth = 3_999;
     for _ in 0..depth {
         let negated = Expression::Unary {
             op: UnaryOperator::Negate,

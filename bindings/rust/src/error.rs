@@ -34,8 +34,13 @@ pub enum Error {
     },
     /// Memory was refused.
     OutOfMemory,
-    /// Lists and objects of the JSON nest more than 127 deep.
-    TooDeep,
+    /// Lists and objects of the JSON nest more than 127 deep, or operands, types or blocks of the
+    /// module more than 4,000.
+    #[non_exhaustive]
+    TooDeep {
+        /// What does: `nested too deep: operands`.
+        what: String,
+    },
     /// The text would have more than 64 MiB.
     TooLong,
     /// No thread could be started.
@@ -81,7 +86,7 @@ impl fmt::Display for Error {
             }
             Error::NoModule { place, problem } => write!(f, "no module: {place}: {problem}"),
             Error::OutOfMemory => f.write_str("out of memory"),
-            Error::TooDeep => f.write_str("lists and objects nest more than 127 deep"),
+            Error::TooDeep { what } => f.write_str(what),
             Error::TooLong => f.write_str("text of more than 64 MiB"),
             #[cfg(feature = "std")]
             Error::Thread(kind) => write!(f, "no thread could be started: {kind}"),

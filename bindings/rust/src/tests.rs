@@ -72,7 +72,7 @@ fn each_status_is_told() {
         (3, "not UTF-8", "no module: not UTF-8"),
         (4, "a bit", "unknown answer of libyorwethul.a, status 4"),
         (5, "", "out of memory"),
-        (6, "deep", "lists and objects nest more than 127 deep"),
+        (6, "nested too deep: types", "nested too deep: types"),
         (7, "long", "text of more than 64 MiB"),
         (8, "?", "unknown answer of libyorwethul.a, status 8"),
     ];

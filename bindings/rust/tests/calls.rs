@@ -2,7 +2,7 @@
 
 use std::thread;
 use yorwethul::{
-    check_json, layout_json, library_version, stack_size, write_json, write_json_on_thread,
+    check_json, layout_json, library_version, stack_size, write_json, write_json_on_thread, STACK,
 };
 use yorwethul::{Error, Flags};
 
@@ -130,7 +130,16 @@ fn what_is_no_module_tells_why() {
 
 #[test]
 fn what_nests_too_deep_is_told() {
-    assert_eq!(check_json(&"[".repeat(1000)), Err(Error::TooDeep));
+    let what = |json: &str| match check_json(json) {
+        Err(Error::TooDeep { what, .. }) => what,
+        other => panic!("{other:?}"),
+    };
+    assert_eq!(
+        what(&"[".repeat(1000)),
+        "lists and objects nest more than 127 deep"
+    );
+    assert_eq!(what(&nested(4_000)), "nested too deep: operands");
+    assert_eq!(what(&nested(200_000)), "nested too deep: operands");
 }
 
 #[test]
@@ -148,10 +157,11 @@ fn threads_give_one_text() {
 
 #[test]
 fn deep_operands_take_a_stack() {
-    let json = nested(200_000);
+    // the argument makes a level too
+    let json = nested(3_999);
     let text = write_json_on_thread(&json, Flags::empty()).unwrap();
-    assert_eq!(text.matches("-(").count(), 200_000);
-    assert!(stack_size(&json) > 8 * json.len());
+    assert_eq!(text.matches("-(").count(), 3_999);
+    assert!(stack_size(&json) <= STACK);
 }
 
 #[test]

@@ -5,9 +5,11 @@
 mod faults;
 mod layouts;
 mod places;
+mod within;
 mod writing;
 
 pub use faults::fault_line;
 pub use layouts::layout_table;
 pub use places::{JsonPlace, JsonRefusal, JsonRefusalPlace, label_at};
+pub use within::{Unwritten, look_into, write_told_within, write_within};
 pub use writing::{Written, flags_for, write, write_told};

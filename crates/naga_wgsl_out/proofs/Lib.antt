@@ -15,3 +15,4 @@ pub mod Sizes
 pub mod StructRows
 pub mod VariableRows
 pub mod Unwritable
+pub mod Within

@@ -25,6 +25,7 @@ mod unwritable;
 pub mod valid;
 mod variables;
 pub mod wgsl;
+mod within;
 mod writer;
 
 pub use float_numerals as numerals;

@@ -21,7 +21,7 @@ use naga_wgsl_out::namer::{EntryPointIndex, ExternalTextureNameKey, NameKey, Nam
 use naga_wgsl_out::numerals::{Decimal, double_decimal, half_decimal, single_decimal};
 use naga_wgsl_out::predeclared::PredeclaredName;
 use naga_wgsl_out::proc::namer as _;
-use naga_wgsl_out::sinks::{IoSink, Limited};
+use naga_wgsl_out::sinks::{BoundedText, IoSink, Limited};
 use naga_wgsl_out::to_wgsl::{
     ToWgsl, TryToWgsl, address_space_str, image_access_str, space_access_str, space_str,
     to_wgsl_if_implemented,
@@ -32,7 +32,8 @@ use naga_wgsl_out::types::{
 };
 use naga_wgsl_out::valid as _;
 use naga_wgsl_out::wgsl::{
-    CheckedError, Construct, Error, FunctionPart, Refusal, RefusalPlace, ScopeFault, Writer,
-    WriterFlags, names_of, no_flags, unwritable, write_binding, write_checked, write_function,
-    write_global_expression, write_string as _,
+    CheckedError, Construct, Error, FunctionPart, LimitedError, Limits, Nested, Refusal,
+    RefusalPlace, ScopeFault, Writer, WriterFlags, names_of, nested_past, no_flags, unwritable,
+    write_binding, write_checked, write_checked_within, write_function, write_global_expression,
+    write_string as _,
 };

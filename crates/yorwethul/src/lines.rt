@@ -2,11 +2,11 @@
 
 use crate::failure::Failure;
 use crate::texts::{Style, write_in};
-use module_answers::{JsonPlace, JsonRefusalPlace, Written, label_at};
+use module_answers::{JsonPlace, JsonRefusalPlace, Unwritten, Written, label_at};
 use naga_json::{Known, ReadError, known_of};
 use naga_wgsl_out::info::{Unaccepted, explain};
 use naga_wgsl_out::ir::Module;
-use naga_wgsl_out::wgsl::{Error, Refusal};
+use naga_wgsl_out::wgsl::{Error, Limits, Refusal};
 use serde_json::{Map, Value};
 use std::alloc::{AllocError, Global};
 use std::fmt::Display;
@@ -84,7 +84,7 @@ fn answer_request(
 }
 
 /// The style that is asked for: what the request doesn't tell is as in this one. It is an error
-/// where what tells it is no truth value.
+/// where what tells it is no truth value, or of the limits no number of 32 bits.
 fn style_in(request: &Value, style: Style) -> Result<Style, &'static str> {
     let Some(explicit_types) = truth_in(request, "explicit_types", style.explicit_types) else {
         return Err("explicit_types: no truth value");
@@ -92,10 +92,34 @@ fn style_in(request: &Value, style: Style) -> Result<Style, &'static str> {
     let Some(plain) = truth_in(request, "plain", style.plain) else {
         return Err("plain: no truth value");
     };
+    let limits = limits_in(request, style.limits)?;
     Ok(Style {
         explicit_types,
         plain,
+        limits,
     })
+}
+
+/// The limits that are asked for.
+fn limits_in(request: &Value, limits: Limits) -> Result<Limits, &'static str> {
+    let Some(nesting) = number_in(request, "nesting", limits.nesting) else {
+        return Err("nesting: no number of 32 bits");
+    };
+    let Some(text) = number_in(request, "text", limits.text) else {
+        return Err("text: no number of 32 bits");
+    };
+    Ok(Limits { nesting, text })
+}
+
+/// The number that a member has, or this one where there is no such member.
+fn number_in(request: &Value, name: &str, absent: usize) -> Option<usize> {
+    match request.get(name) {
+        Some(told) => match u32::try_from(told.as_u64()?) {
+            Ok(number) => Some(number as usize),
+            Err(_) => None,
+        },
+        None => Some(absent),
+    }
 }
 
 /// The truth value that a member has, or this one where there is no such member.
@@ -126,7 +150,27 @@ fn tell_known(
 ) -> Result<(), AllocError> {
     match write_in(alloc, style, known) {
         Ok(written) => tell_written(alloc, written, &known.module, members),
-        Err(unaccepted) => tell_unaccepted(alloc, known, unaccepted, members),
+        Err(unwritten) => tell_unwritten(alloc, known, unwritten, members),
+    }
+}
+
+fn tell_unwritten(
+    alloc: Global,
+    known: &Known,
+    unwritten: Unwritten,
+    members: &mut Members,
+) -> Result<(), AllocError> {
+    match unwritten {
+        Unwritten::NotAccepted(unaccepted) => tell_unaccepted(alloc, known, unaccepted, members),
+        Unwritten::Memory(error) => Err(error),
+        reason => tell_refused(
+            alloc,
+            reason,
+            None,
+            &known.module,
+            String::new(alloc),
+            members,
+        ),
     }
 }
 
@@ -151,7 +195,7 @@ fn tell_written(
 /// Tells what the module is refused for, where that stands, and the text in front of it.
 fn tell_refused(
     alloc: Global,
-    reason: Error,
+    reason: impl Display + Drop,
     refusal: Option<Refusal>,
     module: &Module,
     text: String,

@@ -5,7 +5,9 @@ use crate::inputs::known_of;
 use crate::lines::answer_lines;
 use crate::texts::write_in;
 use crate::words::{Request, Task, request_of};
-use module_answers::{JsonRefusal, Written, fault_line, label_at, layout_table};
+use module_answers::{
+    JsonRefusal, Unwritten, Written, fault_line, label_at, layout_table, look_into,
+};
 use naga_json::Known;
 use naga_wgsl_out::info::{Unaccepted, unaccepted};
 use naga_wgsl_out::ir::Module;
@@ -118,8 +120,8 @@ fn answer<O: Write, E: Write>(
     err: &mut E,
 ) -> u8 {
     match request.task {
-        Task::Check => check(alloc, known, out, err),
-        Task::Layout => tell_layouts(alloc, known, out, err),
+        Task::Check => check(alloc, request, known, out, err),
+        Task::Layout => tell_layouts(alloc, request, known, out, err),
         Task::Write | Task::Lines => print_text(alloc, request, known, out, err),
     }
 }
@@ -134,11 +136,20 @@ fn print_text<O: Write, E: Write>(
 ) -> u8 {
     match write_in(alloc, request.style, known) {
         Ok(written) => print_written(written, &known.module, out, err),
-        Err(fault) => refuse_unaccepted(alloc, known, fault, err),
+        Err(unwritten) => tell_unwritten(alloc, known, unwritten, err),
     }
 }
 
-fn check<O: Write, E: Write>(alloc: Global, known: &Known, out: &mut O, err: &mut E) -> u8 {
+fn check<O: Write, E: Write>(
+    alloc: Global,
+    request: Request<'_>,
+    known: &Known,
+    out: &mut O,
+    err: &mut E,
+) -> u8 {
+    if let Err(unwritten) = look_into(alloc, &known.module, request.style.limits.nesting) {
+        return tell_unwritten(alloc, known, unwritten, err);
+    }
     match unaccepted(&known.module, &known.info) {
         Some(fault) => refuse_unaccepted(alloc, known, fault, err),
         None => print("accepted\n", out, err),
@@ -146,7 +157,16 @@ fn check<O: Write, E: Write>(alloc: Global, known: &Known, out: &mut O, err: &mu
 }
 
 /// Prints where the members of the module's structs stand.
-fn tell_layouts<O: Write, E: Write>(alloc: Global, known: &Known, out: &mut O, err: &mut E) -> u8 {
+fn tell_layouts<O: Write, E: Write>(
+    alloc: Global,
+    request: Request<'_>,
+    known: &Known,
+    out: &mut O,
+    err: &mut E,
+) -> u8 {
+    if let Err(unwritten) = look_into(alloc, &known.module, request.style.limits.nesting) {
+        return tell_unwritten(alloc, known, unwritten, err);
+    }
     match unaccepted(&known.module, &known.info) {
         Some(fault) => refuse_unaccepted(alloc, known, fault, err),
         None => match layout_table(alloc, &known.module, &known.info) {
@@ -211,6 +231,20 @@ fn refuse_unaccepted<E: Write>(alloc: Global, known: &Known, fault: Unaccepted, 
             REFUSED
         }
         Err(_) => fail(Failure::Memory, err),
+    }
+}
+
+/// Tells why the writer was not asked for a module, or was stopped at it.
+fn tell_unwritten<E: Write>(
+    alloc: Global,
+    known: &Known,
+    unwritten: Unwritten,
+    err: &mut E,
+) -> u8 {
+    match unwritten {
+        Unwritten::NotAccepted(fault) => refuse_unaccepted(alloc, known, fault, err),
+        Unwritten::Memory(_) => fail(Failure::Memory, err),
+        reason => refuse(reason, err),
     }
 }
 

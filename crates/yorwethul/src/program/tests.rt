@@ -2,6 +2,7 @@ use super::{FAILED, REFUSED, answer, run};
 use crate::texts::Style;
 use crate::words::{Request, Task};
 use naga_json::read_known;
+use naga_wgsl_out::wgsl::Limits;
 use std::alloc::{AllocError, Global};
 use std::io;
 use std::io::Write;
@@ -125,6 +126,23 @@ const WORDS: &[(&[&str], Told)] = &[
     ),
     (
         &["--plain", "--explicit-types", "no/such.json"],
+        (
+            FAILED,
+            "",
+            "no/such.json: No such file or directory (os error 2)\n",
+        ),
+    ),
+    (
+        &["--nesting", "deep"],
+        (
+            FAILED,
+            "",
+            "error: invalid value 'deep' for '--nesting <LEVELS>'",
+        ),
+    ),
+    (&["--text", "-1"], (FAILED, "", "error: ")),
+    (
+        &["--nesting", "1", "--text", "1", "no/such.json"],
         (
             FAILED,
             "",
@@ -284,13 +302,42 @@ const OPERAND_FAULT: &str = "not accepted: module.functions[0].expressions[1]: \
 const STANDARD: Style = Style {
     explicit_types: false,
     plain: false,
+    limits: LIMITS,
 };
 
 /// That of plain texts.
 const PLAIN: Style = Style {
     explicit_types: false,
     plain: true,
+    limits: LIMITS,
 };
+
+const LIMITS: Limits = Limits {
+    nesting: 4,
+    text: 1_000,
+};
+
+/// That of modules without anything in one another.
+const FLAT: Style = Style {
+    explicit_types: false,
+    plain: true,
+    limits: Limits {
+        nesting: 1,
+        text: 1_000,
+    },
+};
+
+/// That of texts without a byte.
+const SHORT: Style = Style {
+    explicit_types: false,
+    plain: false,
+    limits: Limits {
+        nesting: 4,
+        text: 0,
+    },
+};
+
+const TOO_DEEP: Told = (REFUSED, "", "refused: nested too deep: operands\n");
 
 const DOUBLE_TEXT: &str = "fn double(x: i32) -> i32 {\n    return (x + x);\n}\n\n";
 
@@ -378,6 +425,22 @@ const MODULES: &[(&str, Task, Style, Told)] = &[
         ),
     ),
     (STRUCTS, Task::Layout, STANDARD, (0, LAYOUTS, "")),
+    (DOUBLE, Task::Write, FLAT, TOO_DEEP),
+    (DOUBLE, Task::Check, FLAT, TOO_DEEP),
+    (DOUBLE, Task::Layout, FLAT, TOO_DEEP),
+    (FLOAT_LITERAL, Task::Check, FLAT, (0, "accepted\n", "")),
+    (
+        STRUCTS,
+        Task::Layout,
+        FLAT,
+        (REFUSED, "", "refused: nested too deep: types\n"),
+    ),
+    (
+        DOUBLE,
+        Task::Write,
+        SHORT,
+        (REFUSED, "", "refused: text too long\n"),
+    ),
 ];
 
 /// The status where this is done with a module, or none where it cannot be read.
