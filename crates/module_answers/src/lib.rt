@@ -3,9 +3,11 @@
 #![tactic(auto)]
 
 mod layouts;
+mod listed_places;
 mod places;
 mod writing;
 
 pub use layouts::layout_table;
+pub use listed_places::listed_place;
 pub use places::JsonPlace;
 pub use writing::{Written, flags_for, write, write_told};

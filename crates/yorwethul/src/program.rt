@@ -1,18 +1,20 @@
 //! The program: its answers and its statuses.
 
+use crate::explanation::unaccepted_text;
 use crate::failure::Failure;
 use crate::inputs::known_of;
 use crate::lines::answer_lines;
+use crate::progress::Progress;
 use crate::texts::write_in;
 use crate::words::{Request, Task, request_of};
 use module_answers::{JsonPlace, Written, layout_table};
 use naga_json::Known;
 use naga_wgsl_out::info::{Unaccepted, unaccepted};
 use naga_wgsl_out::wgsl::Error;
-use std::alloc::Global;
+use std::alloc::{AllocError, Global};
 use std::fmt::Display;
 use std::io::{BufReader, Read, Write};
-use std::rt::Files;
+use std::rt::{Clock, Files};
 use std::{fs, io};
 
 #[cfg(test)]
@@ -26,15 +28,17 @@ pub const REFUSED: u8 = 1;
 pub const FAILED: u8 = 2;
 
 /// Does what the words ask for, of which the first is the program's name, and gives the status.
-/// What is told of a failure or a refusal goes to `err`; a failure of `err` changes nothing.
-pub fn run<R: Files + Input + AllocGlobal, O: Write, E: Write>(
+/// What is told of a failure or a refusal goes to `err`, and so does, where someone watches it, how
+/// far a run over many modules has come; a failure of `err` changes nothing.
+pub fn run<R: Files + Input + Clock + AllocGlobal, O: Write, E: Write>(
     rt: &R,
     words: &[String],
     out: &mut O,
     err: &mut E,
+    is_watched: bool,
 ) -> u8 {
     match request_of(rt.alloc(), words) {
-        Ok(request) => serve(rt, request, out, err),
+        Ok(request) => serve(rt, request, out, err, is_watched),
         Err(error) => tell_words(error, out, err),
     }
 }
@@ -49,29 +53,27 @@ fn tell_words<O: Write, E: Write>(error: clap::Error, out: &mut O, err: &mut E) 
     }
 }
 
-fn serve<R: Files + Input + AllocGlobal, O: Write, E: Write>(
+fn serve<R: Files + Input + Clock + AllocGlobal, O: Write, E: Write>(
     rt: &R,
     request: Request<'_>,
     out: &mut O,
     err: &mut E,
+    is_watched: bool,
 ) -> u8 {
     match request.task {
-        Task::Lines => serve_lines(rt, request, out, err),
-        Task::Write | Task::Check | Task::Layout => serve_module(rt, request, out, err),
+        Task::Lines => serve_lines(rt, request, out, err, is_watched),
+        _ => serve_module(rt, request, out, err),
     }
 }
 
-fn serve_lines<R: Files + Input + AllocGlobal, O: Write, E: Write>(
+fn serve_lines<R: Files + Input + Clock + AllocGlobal, O: Write, E: Write>(
     rt: &R,
     request: Request<'_>,
     out: &mut O,
     err: &mut E,
+    is_watched: bool,
 ) -> u8 {
-    let done = if request.module == "-" {
-        read_lines(rt.alloc(), request, Ok(rt.reader()), out)
-    } else {
-        read_lines(rt.alloc(), request, fs::open(rt, request.module), out)
-    };
+    let done = watch_lines(rt, request, out, err, is_watched);
     match done {
         Ok(()) => 0,
         Err(failure) => fail(failure, err),
@@ -90,16 +92,36 @@ fn serve_module<R: Files + Input + AllocGlobal, O: Write, E: Write>(
     }
 }
 
+/// Answers the lines of the input, and tells how far it has come.
+fn watch_lines<'a, R: Files + Input + Clock + AllocGlobal, O: Write, E: Write>(
+    rt: &R,
+    request: Request<'a>,
+    out: &mut O,
+    err: &mut E,
+    is_watched: bool,
+) -> Result<(), Failure<'a>> {
+    let mut progress = Progress::new(rt, err, is_watched);
+    let done = if request.module == "-" {
+        read_lines(rt.alloc(), request, Ok(rt.reader()), out, &mut progress)
+    } else {
+        let input = fs::open(rt, request.module);
+        read_lines(rt.alloc(), request, input, out, &mut progress)
+    };
+    progress.finish();
+    done
+}
+
 /// Answers the lines of an input, where it could be opened.
-fn read_lines<'a, I: Read + Drop, O: Write>(
+fn read_lines<'a, I: Read + Drop, O: Write, R: Clock, E: Write>(
     alloc: Global,
     request: Request<'a>,
     input: io::Result<I>,
     out: &mut O,
+    progress: &mut Progress<'_, R, E>,
 ) -> Result<(), Failure<'a>> {
     let name = request.module;
     match buffered(alloc, input) {
-        Ok(input) => answer_lines(alloc, name, input, request.style, out),
+        Ok(input) => answer_lines(alloc, name, input, request.style, out, progress),
         Err(error) => Err(Failure::Input(name, error)),
     }
 }
@@ -119,6 +141,7 @@ fn answer<O: Write, E: Write>(
     match request.task {
         Task::Check => check(known, out, err),
         Task::Layout => tell_layouts(alloc, known, out, err),
+        Task::Explain => explain(alloc, request, known, out, err),
         Task::Write | Task::Lines => print_text(alloc, request, known, out, err),
     }
 }
@@ -152,6 +175,49 @@ fn tell_layouts<O: Write, E: Write>(alloc: Global, known: &Known, out: &mut O, e
             Ok(table) => print(table, out, err),
             Err(error) => tell_error(error, err),
         },
+    }
+}
+
+/// Prints why the module has no text.
+fn explain<O: Write, E: Write>(
+    alloc: Global,
+    request: Request<'_>,
+    known: &mut Known,
+    out: &mut O,
+    err: &mut E,
+) -> u8 {
+    match write_in(alloc, request.style, known) {
+        Ok(written) => explain_written(alloc, written, out, err),
+        Err(unaccepted) => tell_why(unaccepted_text(alloc, known, unaccepted), out, err),
+    }
+}
+
+fn explain_written<O: Write, E: Write>(
+    alloc: Global,
+    written: Written<String>,
+    out: &mut O,
+    err: &mut E,
+) -> u8 {
+    let Written { answer, sink: _ } = written;
+    match answer {
+        Ok(()) => print("written\n", out, err),
+        Err(Error::Memory(_)) => fail(Failure::Memory, err),
+        Err(reason) => tell_why(format!(in alloc; "refused: {reason}\n"), out, err),
+    }
+}
+
+/// Prints why there is no text, unless memory was refused for that.
+fn tell_why<O: Write, E: Write>(
+    text: Result<String, AllocError>,
+    out: &mut O,
+    err: &mut E,
+) -> u8 {
+    match text {
+        Ok(text) => match print(text, out, err) {
+            0 => REFUSED,
+            failed => failed,
+        },
+        Err(_) => fail(Failure::Memory, err),
     }
 }
 

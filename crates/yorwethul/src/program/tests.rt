@@ -26,7 +26,7 @@ fn words_give(rt: &HostRuntime, words: &[&str], told: Told) -> Result<bool, Allo
     }
     let mut out = Vec::new(rt.alloc());
     let mut err = Vec::new(rt.alloc());
-    let status = run(rt, &texts, &mut out, &mut err);
+    let status = run(rt, &texts, &mut out, &mut err, false);
     Ok(is_told(told, status, out.as_slice(), err.as_slice()))
 }
 
