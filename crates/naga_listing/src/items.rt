@@ -17,7 +17,7 @@ use naga_ir::{
 use std::alloc::{AllocError, Global};
 
 /// The column in which types begin.
-const TYPE_COLUMN: usize = 56;
+const TYPE_COLUMN: usize = 44;
 
 /// What is listed, with the module around it and what is known of it.
 #[derive(Clone, Copy)]
