@@ -59,11 +59,7 @@ fn write_line<W: Write>(text: &str, out: &mut W) -> io::Result<()> {
 type Members = Map<String, Value>;
 
 /// The answer to a line, and what became of its module.
-fn line_answer(
-    alloc: Global,
-    line: &[u8],
-    style: Style,
-) -> Result<(String, Outcome), AllocError> {
+fn line_answer(alloc: Global, line: &[u8], style: Style) -> Result<(String, Outcome), AllocError> {
     let mut members = Map::new(alloc);
     match Value::from_slice(alloc, line) {
         Ok(mut request) => answer_request(alloc, &mut request, style, &mut members)?,

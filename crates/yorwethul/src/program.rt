@@ -207,11 +207,7 @@ fn explain_written<O: Write, E: Write>(
 }
 
 /// Prints why there is no text, unless memory was refused for that.
-fn tell_why<O: Write, E: Write>(
-    text: Result<String, AllocError>,
-    out: &mut O,
-    err: &mut E,
-) -> u8 {
+fn tell_why<O: Write, E: Write>(text: Result<String, AllocError>, out: &mut O, err: &mut E) -> u8 {
     match text {
         Ok(text) => match print(text, out, err) {
             0 => REFUSED,

@@ -5,6 +5,9 @@ use std::io::Write;
 use std::rt::Clock;
 use std::time::Instant;
 
+#[cfg(test)]
+mod tests;
+
 /// What became of a module.
 #[derive(Clone, Copy, Debug, PartialEq, Eq)]
 pub enum Outcome {
@@ -72,8 +75,11 @@ impl fmt::Display for Report {
             unread,
         } = self.counts;
         let rate = self.rate();
-        write!(f, "{answered} modules, {rate} a second: {refused} refused, ")?;
-        write!(f, "{not_accepted} not accepted, {unread} no modules")
+        write!(
+            f,
+            "{answered} modules, {rate} a second: {refused} refused, "
+        )?;
+        write!(f, "{not_accepted} not accepted, {unread} unread")
     }
 }
 
@@ -142,5 +148,9 @@ impl<'a, R: Clock, E: Write> Progress<'a, R, E> {
 }
 
 fn begin<R: Clock>(rt: &R, is_watched: bool) -> Option<Instant> {
-    if is_watched { Instant::now(rt).ok() } else { None }
+    if is_watched {
+        Instant::now(rt).ok()
+    } else {
+        None
+    }
 }

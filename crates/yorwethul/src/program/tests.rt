@@ -92,6 +92,22 @@ const WORDS: &[(&[&str], Told)] = &[
         ),
     ),
     (
+        &["--explain", "--check"],
+        (
+            FAILED,
+            "",
+            "error: the argument '--explain' cannot be used with '--check'",
+        ),
+    ),
+    (
+        &["--lines", "--explain"],
+        (
+            FAILED,
+            "",
+            "error: the argument '--lines' cannot be used with",
+        ),
+    ),
+    (
         &["--layout", "--check"],
         (
             FAILED,
@@ -280,6 +296,19 @@ struct Out: no layout
 const OPERAND_FAULT: &str = "not accepted: module.functions[0].expressions[1]: \
     an operand does not stand before the expression\n";
 
+const OPERAND_LISTING: &str = "\
+not accepted: module.functions[0].expressions[1]: an operand does not stand before the expression
+
+function 0 \"double\"(\"x\": i32) -> i32
+  expressions
+     0  FunctionArgument 0 \"x\"                        i32
+     1  Binary Add left: [1], right: [0]              i32
+        ^ an operand does not stand before the expression
+  statements
+     0  Emit 1..2
+     1  Return value: [1]
+";
+
 /// The style of texts by default.
 const STANDARD: Style = Style {
     explicit_types: false,
@@ -358,6 +387,19 @@ const MODULES: &[(&str, Task, Style, Told)] = &[
         STANDARD,
         (REFUSED, "", OPERAND_FAULT),
     ),
+    (
+        ITS_OWN_OPERAND,
+        Task::Explain,
+        STANDARD,
+        (REFUSED, OPERAND_LISTING, ""),
+    ),
+    (
+        FLOAT_LITERAL,
+        Task::Explain,
+        PLAIN,
+        (REFUSED, "refused: float literal\n", ""),
+    ),
+    (FLOAT_LITERAL, Task::Explain, STANDARD, (0, "written\n", "")),
     (STRUCTS, Task::Check, STANDARD, (0, "accepted\n", "")),
     (
         STRUCTS,
