@@ -1,6 +1,6 @@
 //! The program: its answers and its statuses.
 
-use crate::explanation::unaccepted_text;
+use crate::explanation::{Explanation, explanation};
 use crate::failure::Failure;
 use crate::inputs::known_of;
 use crate::lines::answer_lines;
@@ -11,7 +11,7 @@ use module_answers::{JsonPlace, Written, layout_table};
 use naga_json::Known;
 use naga_wgsl_out::info::{Unaccepted, unaccepted};
 use naga_wgsl_out::wgsl::Error;
-use std::alloc::{AllocError, Global};
+use std::alloc::Global;
 use std::fmt::Display;
 use std::io::{BufReader, Read, Write};
 use std::rt::{Clock, Files};
@@ -167,17 +167,6 @@ fn check<O: Write, E: Write>(known: &Known, out: &mut O, err: &mut E) -> u8 {
     }
 }
 
-/// Prints where the members of the module's structs stand.
-fn tell_layouts<O: Write, E: Write>(alloc: Global, known: &Known, out: &mut O, err: &mut E) -> u8 {
-    match unaccepted(&known.module, &known.info) {
-        Some(fault) => refuse_unaccepted(fault, err),
-        None => match layout_table(alloc, &known.module, &known.info) {
-            Ok(table) => print(table, out, err),
-            Err(error) => tell_error(error, err),
-        },
-    }
-}
-
 /// Prints why the module has no text.
 fn explain<O: Write, E: Write>(
     alloc: Global,
@@ -186,34 +175,23 @@ fn explain<O: Write, E: Write>(
     out: &mut O,
     err: &mut E,
 ) -> u8 {
-    match write_in(alloc, request.style, known) {
-        Ok(written) => explain_written(alloc, written, out, err),
-        Err(unaccepted) => tell_why(unaccepted_text(alloc, known, unaccepted), out, err),
-    }
-}
-
-fn explain_written<O: Write, E: Write>(
-    alloc: Global,
-    written: Written<String>,
-    out: &mut O,
-    err: &mut E,
-) -> u8 {
-    let Written { answer, sink: _ } = written;
-    match answer {
-        Ok(()) => print("written\n", out, err),
-        Err(Error::Memory(_)) => fail(Failure::Memory, err),
-        Err(reason) => tell_why(format!(in alloc; "refused: {reason}\n"), out, err),
-    }
-}
-
-/// Prints why there is no text, unless memory was refused for that.
-fn tell_why<O: Write, E: Write>(text: Result<String, AllocError>, out: &mut O, err: &mut E) -> u8 {
-    match text {
-        Ok(text) => match print(text, out, err) {
-            0 => REFUSED,
-            failed => failed,
+    match explanation(alloc, request.style, known) {
+        Ok(Explanation { text, is_written }) => match print(text, out, err) {
+            0 if !is_written => REFUSED,
+            status => status,
         },
         Err(_) => fail(Failure::Memory, err),
+    }
+}
+
+/// Prints where the members of the module's structs stand.
+fn tell_layouts<O: Write, E: Write>(alloc: Global, known: &Known, out: &mut O, err: &mut E) -> u8 {
+    match unaccepted(&known.module, &known.info) {
+        Some(fault) => refuse_unaccepted(fault, err),
+        None => match layout_table(alloc, &known.module, &known.info) {
+            Ok(table) => print(table, out, err),
+            Err(error) => tell_error(error, err),
+        },
     }
 }
 
