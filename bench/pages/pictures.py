@@ -33,6 +33,7 @@ LAYERS = [
         ("naga_names", "the namer"),
         ("naga_words", "sinks, spellings"),
         ("naga_back", "naga's helpers"),
+        ("naga_listing", "pictures of places"),
     ]),
     ("numbers", CODE, [
         ("wgsl_layout", "WGSL's rules, by numbers"),
@@ -61,6 +62,7 @@ LAYERS = [
     ("tests", CODE, [
         ("sample_modules", "modules by name"),
         ("wgsl_cases", "tests as data"),
+        ("listing_cases", "listings as data"),
         ("word_tests", "of names and words"),
         ("module_tests", "of modules"),
         ("wgsl_tests", "of texts"),

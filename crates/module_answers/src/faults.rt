@@ -17,9 +17,20 @@ pub fn fault_line(
     unaccepted: Unaccepted,
 ) -> Result<String, AllocError> {
     let place = JsonPlace(unaccepted.item);
+    let fault = fault_text(alloc, module, info, unaccepted)?;
+    format!(in alloc; "{place}: {fault}")
+}
+
+/// The same without the place.
+pub fn fault_text(
+    alloc: Global,
+    module: &Module,
+    info: &ModuleInfo,
+    unaccepted: Unaccepted,
+) -> Result<String, AllocError> {
     let fault = unaccepted.fault;
     match explain(alloc, module, info, unaccepted)? {
-        Some(wanted) => format!(in alloc; "{place}: {fault}: {wanted}"),
-        None => format!(in alloc; "{place}: {fault}"),
+        Some(wanted) => format!(in alloc; "{fault}: {wanted}"),
+        None => format!(in alloc; "{fault}"),
     }
 }

@@ -1,6 +1,7 @@
 //! Many modules: each line of the input is answered by a line of the output.
 
 use crate::failure::Failure;
+use crate::progress::{Outcome, Progress};
 use crate::texts::{Style, write_in};
 use module_answers::{JsonPlace, JsonRefusalPlace, Unwritten, Written, label_at};
 use naga_json::{Known, ReadError, known_of};
@@ -12,20 +13,22 @@ use std::alloc::{AllocError, Global};
 use std::fmt::Display;
 use std::io;
 use std::io::{BufRead, Write};
+use std::rt::Clock;
 
 /// Answers each line of the input, of the file of this name, by a line of the output: an answer has
 /// left the output before the next line is read, so that one who waits for it gets it. A line that
 /// holds no module is answered too.
-pub fn answer_lines<'a, B: BufRead + Drop, W: Write>(
+pub fn answer_lines<'a, B: BufRead + Drop, W: Write, R: Clock, E: Write>(
     alloc: Global,
     name: &'a str,
     input: B,
     style: Style,
     out: &mut W,
+    progress: &mut Progress<'_, R, E>,
 ) -> Result<(), Failure<'a>> {
     for line in input.split(alloc, b'\n') {
         match line {
-            Ok(line) => answer_line(alloc, line.as_slice(), style, out)?,
+            Ok(line) => progress.add(answer_line(alloc, line.as_slice(), style, out)?),
             Err(error) => return Err(Failure::Input(name, error)),
         }
     }
@@ -37,12 +40,12 @@ fn answer_line<'a, W: Write>(
     line: &[u8],
     style: Style,
     out: &mut W,
-) -> Result<(), Failure<'a>> {
-    let Ok(text) = line_answer(alloc, line, style) else {
+) -> Result<Outcome, Failure<'a>> {
+    let Ok((text, outcome)) = line_answer(alloc, line, style) else {
         return Err(Failure::Memory);
     };
     match write_line(text.as_str(), out) {
-        Ok(()) => Ok(()),
+        Ok(()) => Ok(outcome),
         Err(error) => Err(Failure::Output(error)),
     }
 }
@@ -56,14 +59,29 @@ fn write_line<W: Write>(text: &str, out: &mut W) -> io::Result<()> {
 /// The members of an answer, in the order of their names.
 type Members = Map<String, Value>;
 
-/// The answer to a line.
-fn line_answer(alloc: Global, line: &[u8], style: Style) -> Result<String, AllocError> {
+/// The answer to a line, and what became of its module.
+fn line_answer(alloc: Global, line: &[u8], style: Style) -> Result<(String, Outcome), AllocError> {
     let mut members = Map::new(alloc);
     match Value::from_slice(alloc, line) {
         Ok(mut request) => answer_request(alloc, &mut request, style, &mut members)?,
         Err(error) => tell_unread(alloc, ReadError::from(error), &mut members)?,
     }
-    Value::Object(members).to_string(alloc)
+    let outcome = outcome_in(&members);
+    let text = Value::Object(members).to_string(alloc)?;
+    Ok((text, outcome))
+}
+
+/// What an answer tells of its module.
+fn outcome_in(members: &Members) -> Outcome {
+    if members.contains_key("error") {
+        Outcome::Unread
+    } else if members.contains_key("not_accepted") {
+        Outcome::NotAccepted
+    } else if members.contains_key("refused") {
+        Outcome::Refused
+    } else {
+        Outcome::Written
+    }
 }
 
 /// Tells what becomes of the module that is asked for, under the id that came with it.

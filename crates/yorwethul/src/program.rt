@@ -1,8 +1,10 @@
 //! The program: its answers and its statuses.
 
+use crate::explanation::{Explanation, explanation};
 use crate::failure::Failure;
 use crate::inputs::known_of;
 use crate::lines::answer_lines;
+use crate::progress::Progress;
 use crate::texts::write_in;
 use crate::words::{Request, Task, request_of};
 use module_answers::{
@@ -15,7 +17,7 @@ use naga_wgsl_out::wgsl::{Error, Refusal};
 use std::alloc::Global;
 use std::fmt::Display;
 use std::io::{BufReader, Read, Write};
-use std::rt::Files;
+use std::rt::{Clock, Files};
 use std::{fs, io};
 
 #[cfg(test)]
@@ -29,15 +31,17 @@ pub const REFUSED: u8 = 1;
 pub const FAILED: u8 = 2;
 
 /// Does what the words ask for, of which the first is the program's name, and gives the status.
-/// What is told of a failure or a refusal goes to `err`; a failure of `err` changes nothing.
-pub fn run<R: Files + Input + AllocGlobal, O: Write, E: Write>(
+/// What is told of a failure or a refusal goes to `err`, and so does, where someone watches it, how
+/// far a run over many modules has come; a failure of `err` changes nothing.
+pub fn run<R: Files + Input + Clock + AllocGlobal, O: Write, E: Write>(
     rt: &R,
     words: &[String],
     out: &mut O,
     err: &mut E,
+    is_watched: bool,
 ) -> u8 {
     match request_of(rt.alloc(), words) {
-        Ok(request) => serve(rt, request, out, err),
+        Ok(request) => serve(rt, request, out, err, is_watched),
         Err(error) => tell_words(error, out, err),
     }
 }
@@ -52,29 +56,27 @@ fn tell_words<O: Write, E: Write>(error: clap::Error, out: &mut O, err: &mut E) 
     }
 }
 
-fn serve<R: Files + Input + AllocGlobal, O: Write, E: Write>(
+fn serve<R: Files + Input + Clock + AllocGlobal, O: Write, E: Write>(
     rt: &R,
     request: Request<'_>,
     out: &mut O,
     err: &mut E,
+    is_watched: bool,
 ) -> u8 {
     match request.task {
-        Task::Lines => serve_lines(rt, request, out, err),
-        Task::Write | Task::Check | Task::Layout => serve_module(rt, request, out, err),
+        Task::Lines => serve_lines(rt, request, out, err, is_watched),
+        _ => serve_module(rt, request, out, err),
     }
 }
 
-fn serve_lines<R: Files + Input + AllocGlobal, O: Write, E: Write>(
+fn serve_lines<R: Files + Input + Clock + AllocGlobal, O: Write, E: Write>(
     rt: &R,
     request: Request<'_>,
     out: &mut O,
     err: &mut E,
+    is_watched: bool,
 ) -> u8 {
-    let done = if request.module == "-" {
-        read_lines(rt.alloc(), request, Ok(rt.reader()), out)
-    } else {
-        read_lines(rt.alloc(), request, fs::open(rt, request.module), out)
-    };
+    let done = watch_lines(rt, request, out, err, is_watched);
     match done {
         Ok(()) => 0,
         Err(failure) => fail(failure, err),
@@ -93,16 +95,36 @@ fn serve_module<R: Files + Input + AllocGlobal, O: Write, E: Write>(
     }
 }
 
+/// Answers the lines of the input, and tells how far it has come.
+fn watch_lines<'a, R: Files + Input + Clock + AllocGlobal, O: Write, E: Write>(
+    rt: &R,
+    request: Request<'a>,
+    out: &mut O,
+    err: &mut E,
+    is_watched: bool,
+) -> Result<(), Failure<'a>> {
+    let mut progress = Progress::new(rt, err, is_watched);
+    let done = if request.module == "-" {
+        read_lines(rt.alloc(), request, Ok(rt.reader()), out, &mut progress)
+    } else {
+        let input = fs::open(rt, request.module);
+        read_lines(rt.alloc(), request, input, out, &mut progress)
+    };
+    progress.finish();
+    done
+}
+
 /// Answers the lines of an input, where it could be opened.
-fn read_lines<'a, I: Read + Drop, O: Write>(
+fn read_lines<'a, I: Read + Drop, O: Write, R: Clock, E: Write>(
     alloc: Global,
     request: Request<'a>,
     input: io::Result<I>,
     out: &mut O,
+    progress: &mut Progress<'_, R, E>,
 ) -> Result<(), Failure<'a>> {
     let name = request.module;
     match buffered(alloc, input) {
-        Ok(input) => answer_lines(alloc, name, input, request.style, out),
+        Ok(input) => answer_lines(alloc, name, input, request.style, out, progress),
         Err(error) => Err(Failure::Input(name, error)),
     }
 }
@@ -122,6 +144,7 @@ fn answer<O: Write, E: Write>(
     match request.task {
         Task::Check => check(alloc, request, known, out, err),
         Task::Layout => tell_layouts(alloc, request, known, out, err),
+        Task::Explain => explain(alloc, request, known, out, err),
         Task::Write | Task::Lines => print_text(alloc, request, known, out, err),
     }
 }
@@ -153,6 +176,23 @@ fn check<O: Write, E: Write>(
     match unaccepted(&known.module, &known.info) {
         Some(fault) => refuse_unaccepted(alloc, known, fault, err),
         None => print("accepted\n", out, err),
+    }
+}
+
+/// Prints why the module has no text.
+fn explain<O: Write, E: Write>(
+    alloc: Global,
+    request: Request<'_>,
+    known: &mut Known,
+    out: &mut O,
+    err: &mut E,
+) -> u8 {
+    match explanation(alloc, request.style, known) {
+        Ok(Explanation { text, is_written }) => match print(text, out, err) {
+            0 if !is_written => REFUSED,
+            status => status,
+        },
+        Err(_) => fail(Failure::Memory, err),
     }
 }
 
@@ -235,12 +275,7 @@ fn refuse_unaccepted<E: Write>(alloc: Global, known: &Known, fault: Unaccepted, 
 }
 
 /// Tells why the writer was not asked for a module, or was stopped at it.
-fn tell_unwritten<E: Write>(
-    alloc: Global,
-    known: &Known,
-    unwritten: Unwritten,
-    err: &mut E,
-) -> u8 {
+fn tell_unwritten<E: Write>(alloc: Global, known: &Known, unwritten: Unwritten, err: &mut E) -> u8 {
     match unwritten {
         Unwritten::NotAccepted(fault) => refuse_unaccepted(alloc, known, fault, err),
         Unwritten::Memory(_) => fail(Failure::Memory, err),

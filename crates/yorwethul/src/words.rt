@@ -14,6 +14,8 @@ pub enum Task {
     Check,
     /// It is told where the members of one module's structs stand.
     Layout,
+    /// It is shown why one module has no text.
+    Explain,
     /// Many modules are answered, one a line.
     Lines,
 }
@@ -72,6 +74,8 @@ fn task_in(matches: &ArgMatches<'_>) -> Task {
         Task::Layout
     } else if matches.get_flag("check") {
         Task::Check
+    } else if matches.get_flag("explain") {
+        Task::Explain
     } else {
         Task::Write
     }
@@ -94,12 +98,16 @@ without flags: a literal of a float that the module holds as its bits is then re
 With --layout each struct that the text declares has a line, and so has each of its members, with
 its offset and what WGSL gives to its type, in bytes, or why the member can't stay where it is.
 
+With --explain the standard output has the reason why there is no text, and a numbered listing of
+the function's expressions and statements, or of the declarations, around the place of the fault.
+
 A module is refused where operands, types or blocks stand in one another on more levels than
 --nesting allows, since each takes some of the stack, or where its text has more bytes than --text.
 
 The status is 0; 1 where the module is refused or not accepted; 2 where the words are wrong, the
 input is no module, something cannot be read or written, or memory is refused. With --lines it is
-0 or 2, since each line of the output tells what becomes of its module.";
+0 or 2, since each line of the output tells what becomes of its module. Where the error output is a
+terminal and the output is none, a line there tells how far the run has come.";
 
 fn command<'a>(alloc: Global) -> Result<Command<'a>, AllocError> {
     Command::new(alloc, "yorwethul")
@@ -110,6 +118,7 @@ fn command<'a>(alloc: Global) -> Result<Command<'a>, AllocError> {
         .arg(plain(alloc))?
         .arg(check(alloc)?)?
         .arg(layout(alloc)?)?
+        .arg(explain(alloc)?)?
         .arg(lines(alloc)?)?
         .arg(info(alloc))?
         .arg(nesting(alloc))?
@@ -144,10 +153,18 @@ fn layout<'a>(alloc: Global) -> Result<Arg<'a>, AllocError> {
         .conflicts_with("plain")
 }
 
+fn explain<'a>(alloc: Global) -> Result<Arg<'a>, AllocError> {
+    let help = "Shows why there is no text: what the fault is, with the lines around its place";
+    flag(alloc, "explain", help)
+        .conflicts_with("check")?
+        .conflicts_with("layout")
+}
+
 fn lines<'a>(alloc: Global) -> Result<Arg<'a>, AllocError> {
     flag(alloc, "lines", "Answers many modules, one a line")
         .conflicts_with("check")?
         .conflicts_with("layout")?
+        .conflicts_with("explain")?
         .conflicts_with("info")
 }
 

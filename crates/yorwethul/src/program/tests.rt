@@ -27,7 +27,7 @@ fn words_give(rt: &HostRuntime, words: &[&str], told: Told) -> Result<bool, Allo
     }
     let mut out = Vec::new(rt.alloc());
     let mut err = Vec::new(rt.alloc());
-    let status = run(rt, &texts, &mut out, &mut err);
+    let status = run(rt, &texts, &mut out, &mut err, false);
     Ok(is_told(told, status, out.as_slice(), err.as_slice()))
 }
 
@@ -86,6 +86,22 @@ const WORDS: &[(&[&str], Told)] = &[
     ),
     (
         &["--lines", "--layout"],
+        (
+            FAILED,
+            "",
+            "error: the argument '--lines' cannot be used with",
+        ),
+    ),
+    (
+        &["--explain", "--check"],
+        (
+            FAILED,
+            "",
+            "error: the argument '--explain' cannot be used with '--check'",
+        ),
+    ),
+    (
+        &["--lines", "--explain"],
         (
             FAILED,
             "",
@@ -298,6 +314,19 @@ struct Out: no layout
 const OPERAND_FAULT: &str = "not accepted: module.functions[0].expressions[1]: \
     an operand does not stand before the expression\n";
 
+const OPERAND_LISTING: &str = "\
+not accepted: module.functions[0].expressions[1]: an operand does not stand before the expression
+
+function 0 \"double\"(\"x\": i32) -> i32
+  expressions
+     0  FunctionArgument 0 \"x\"                        i32
+     1  Binary Add left: [1], right: [0]              i32
+        ^ an operand does not stand before the expression
+  statements
+     0  Emit 1..2
+     1  Return value: [1]
+";
+
 /// The style of texts by default.
 const STANDARD: Style = Style {
     explicit_types: false,
@@ -413,6 +442,19 @@ const MODULES: &[(&str, Task, Style, Told)] = &[
         STANDARD,
         (REFUSED, "", OPERAND_FAULT),
     ),
+    (
+        ITS_OWN_OPERAND,
+        Task::Explain,
+        STANDARD,
+        (REFUSED, OPERAND_LISTING, ""),
+    ),
+    (
+        FLOAT_LITERAL,
+        Task::Explain,
+        PLAIN,
+        (REFUSED, "refused: float literal\n", ""),
+    ),
+    (FLOAT_LITERAL, Task::Explain, STANDARD, (0, "written\n", "")),
     (STRUCTS, Task::Check, STANDARD, (0, "accepted\n", "")),
     (
         STRUCTS,
