@@ -21,8 +21,8 @@ ghost use Rattle.naga_scope.specs.Tables.{AreTablesOf};
 use crate::tables::ModuleTables;
 use naga_back::FunctionType;
 use naga_ir::{
-    Arena, Binding, BuiltIn, Constant, EntryPoint, Expression, Function, FunctionArgument,
-    GlobalVariable, Handle, Module, Override, ShaderStage, StructMember, Type_, TypeInner,
+    Binding, BuiltIn, Constant, EntryPoint, Expression, Function, FunctionArgument, GlobalVariable,
+    Handle, Module, Override, ShaderStage, StructMember, Type_, TypeInner,
 };
 use wgsl_layout::Misplaced;
 use wgsl_words::TryToWgsl;
@@ -113,7 +113,7 @@ pub fn formless_declaration(
     if let Some(formless) = formless_in_variables(module, tables) {
         return Some(formless);
     }
-    if let Some((handle, value)) = formless_in_functions(&module.functions) {
+    if let Some((handle, value)) = formless_in_functions(module) {
         return Some((
             DeclarationPlace::Function(handle),
             FormlessDeclaration::Head(FormlessHead::BuiltIn(value)),
@@ -366,11 +366,11 @@ fn formless_value(
 }
 
 /// The first value without a word that a function takes or gives, and the function.
-fn formless_in_functions(functions: &Arena<Function>) -> Option<(Handle<Function>, BuiltIn)>
-    ensures { FindsFirst functions.now (λ i. PassedHasForm) (λ h. h) (λ i. IsFormlessPassed)
-        result }
+fn formless_in_functions(module: &Module) -> Option<(Handle<Function>, BuiltIn)>
+    ensures { FindsFirst «module».now.functions (λ i. PassedHasForm) (λ h. h)
+        (λ i. IsFormlessPassed) result }
 {
-    for (handle, function) in functions.iter() {
+    for (handle, function) in module.functions.iter() {
         if let Some(value) = formless_passed(function) {
             return Some((handle, value));
         }
