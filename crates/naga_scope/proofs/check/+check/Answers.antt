@@ -10,7 +10,7 @@ use Rattle.naga_scope.specs.ScopeChecks.{check_result, check_statement, check_us
 use Rattle.naga_scope.proofs.Holding.{act_after, act_changes, act_checks, act_named, act_of}
 use Rattle.naga_scope.proofs.KeptPoints.{point_forgotten, point_kept}
 use Rattle.naga_scope.proofs.Logs.{reverts, reverts_then}
-use Rattle.naga_scope.proofs.ScopeChecks.{answer, given_back, not_ok}
+use Rattle.naga_scope.proofs.ScopeChecks.{given_back, not_ok}
 use Rattle.naga_scope.proofs.Turns.{body_checks, body_leaves, body_named}
 use Rattle.shader_runs.specs.Scope.{after, after_result, named_by}
 use Rattle.naga_scope.proofs.check.+check.Goals as goal
@@ -54,8 +54,7 @@ check_statement-returns-in_ok-check_act-in_default t c =
     let one = act_of c.args.statement.now c.in_default.not-Emit c.in_default.not-Block c.in_default.not-If c.in_default.not-Switch c.in_default.not-Loop in
     let is = sym one.is in
     record {
-      check = ap answer c.wrapping_add-next.ensures
-          ∙ ap (λ r. result_and r (Ok (next_number number))) c.in_ok-check_act-in_default.ensures.check
+      check = ap (λ r. result_and r (Ok (next_number number))) c.in_ok-check_act-in_default.ensures.check
           ∙ subst (λ tree. result_and (result_and (check_uses n.function s number (own_operands tree)) (check_result number (own_result tree) s)) (Ok (next_number number))
           ≡ check_statement n k number (statement_in known tree) s) is
           (sym (act_checks n (context_of known) one.act one.other k number s));
