@@ -44,7 +44,7 @@ use Rattle.naga_scope.specs.declared.declarations.FormlessHead.{FormlessHead}
 use Rattle.naga_scope.specs.declared.declarations.FormlessHead.TheVariants as head
 use Rattle.naga_scope.specs.Declarations.{BindingHasForm, ConstantHasForm, ConstantsHaveForms, Each, EntryPointHasForm, Finds, FindsFirst, FunctionsHaveForms, HaveFormsBefore, IsFormlessBinding}
 use Rattle.naga_scope.specs.Declarations.{IsFormlessConstant, IsFormlessDeclaration, IsFormlessEntryPoint, IsFormlessHead}
-use Rattle.naga_scope.specs.Declarations.{IsFormlessIn, IsFormlessPassed, IsFormlessType, IsFormlessValue, OverridesHaveForms, PassedHasForm, TypeHasForm, TypesHaveForms, VariablesHaveForms}
+use Rattle.naga_scope.specs.Declarations.{IsFormlessFunction, IsFormlessIn, IsFormlessPassed, IsFormlessType, IsFormlessValue, OverridesHaveForms, PassedHasForm, TypeHasForm, TypesHaveForms, VariablesHaveForms}
 use Rattle.naga_scope.specs.Declarations.{FindsMember, IsFormlessStruct, IsOtherStride, StructHasForm, ValueHasForm, concerned_among}
 use Rattle.wgsl_layout.proofs.FirstFaults.{fault_stands, none_kept}
 use Rattle.wgsl_layout.specs.Faults.{StandsAmong, first_fault}
@@ -195,6 +195,16 @@ module _ (m : Module) where
   variables_lack (declaration.Misplaced fault) (i, g, at, lacks) = absurd lacks
   variables_lack (declaration.Stride ty) (i, g, at, lacks) = absurd lacks
 
+  functions_lack : (h : ℕ) (f : Function) → slice_get m.functions h ≡ Some f → (it : FormlessDeclaration) →
+      IsFormlessFunction f it → IsFormlessDeclaration m it
+  functions_lack h f there (declaration.Type_ ty) lacks = absurd lacks
+  functions_lack h f there (declaration.Initialiser handle) lacks = absurd lacks
+  functions_lack h f there (declaration.BuiltIn v) lacks = absurd lacks
+  functions_lack h f there (declaration.Head (head.BuiltIn v)) lacks = (h, function_lacks h f there v lacks)
+  functions_lack h f there (declaration.Head head.Stage) lacks = absurd lacks
+  functions_lack h f there (declaration.Misplaced fault) lacks = absurd lacks
+  functions_lack h f there (declaration.Stride ty) lacks = absurd lacks
+
   -- what is found, where it stands, and that it is the first
   pub record IsFound (found : DeclarationPlace × FormlessDeclaration) : Type 0 where
     pub some : IsFormlessDeclaration m found.1
@@ -234,12 +244,11 @@ module _ (m : Module) where
             at_place at (place.GlobalVariable h) it same (variables_lack it (h, g, there, lacks)) (g, there, lacks) (types, constants, overrides, earlier)
 
         module _ (variables : VariablesHaveForms m) where
-          pub of_functions : (found : ℕ × BuiltIn) →
-              FindsFirst m.functions (λ i. PassedHasForm) (λ h. h) (λ i. IsFormlessPassed) (Some found) →
-              IsFound (place.Function found.0, declaration.Head (head.BuiltIn found.1))
-          of_functions (at, v) (h, f, there, same, earlier, lacks) =
-              at_place (place.Function at) (place.Function h) (declaration.Head (head.BuiltIn v)) (ap (λ h. place.Function h) same)
-              (h, function_lacks h f there v lacks) (f, there, lacks) (types, constants, overrides, variables, earlier)
+          pub of_functions : (found : DeclarationPlace × FormlessDeclaration) →
+              FindsFirst m.functions (λ i. PassedHasForm) (λ h. place.Function h) (λ i. IsFormlessFunction) (Some found) → IsFound found
+          of_functions (at, it) (h, f, there, same, earlier, lacks) =
+              at_place at (place.Function h) it same (functions_lack h f there it lacks) (f, there, lacks)
+              (types, constants, overrides, variables, earlier)
 
           pub of_entry_points : FunctionsHaveForms m → (found : ℕ × FormlessHead) →
               FindsFirst m.entry_points.items (λ i. EntryPointHasForm) (λ i. i) (λ i. IsFormlessEntryPoint) (Some found) →

@@ -1,5 +1,5 @@
 -- The check over the locals, and over statements without blocks.
-use Rattle.std.proofs.Common.{◌≡◌, ℕ, ◌+◌, ◌&&◌, Bool, true, false, None, Some, List, [], ◌∷◌, map, length, refl, sym, ap}
+use Rattle.std.proofs.Common.{◌≡◌, ℕ, ◌+◌, Bool, true, false, Option, None, Some, List, [], ◌∷◌, map, length, refl, sym, ap}
 use Rattle.std.specs.Prelude.{Result, Ok, Err}
 use Rattle.std.specs.Result.{result_and}
 use Rattle.std.specs.List.{enumerate_from}
@@ -40,14 +40,17 @@ module _ (n : Naming) (a : ExpressionContext) where
   and_assoc (Ok x) q p = refl
   and_assoc (Err e) q p = refl
 
+  abbrev fine : Checked
+  fine = Ok tt
+
   both_checked : (r q : Checked) (j : ℕ) → result_and r (result_and q (Ok j)) ≡
-      result_and (result_and (result_and r (result_and q (Ok tt))) (Ok tt)) (Ok j)
+      result_and (result_and (result_and r (result_and q fine)) fine) (Ok j)
   both_checked (Ok x) (Ok y) j = refl
   both_checked (Ok x) (Err e) j = refl
   both_checked (Err e) q j = refl
 
   one_checked : (r : Checked) (j : ℕ) → result_and r (Ok j) ≡
-      result_and (result_and (result_and r (Ok tt)) (Ok tt)) (Ok j)
+      result_and (result_and (result_and r fine) fine) (Ok j)
   one_checked (Ok x) j = refl
   one_checked (Err e) j = refl
 

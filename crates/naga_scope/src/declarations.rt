@@ -11,7 +11,8 @@ ghost use Rattle.naga_scope.specs.Declarations.{EntryPointHasForm, Finds, FindsF
 ghost use Rattle.naga_scope.specs.Declarations.{HaveFormsBefore};
 ghost use Rattle.naga_scope.specs.Declarations.{IsFormlessBinding, IsFormlessConstant};
 ghost use Rattle.naga_scope.specs.Declarations.{IsFormlessDeclaration, IsFormlessEntryPoint};
-ghost use Rattle.naga_scope.specs.Declarations.{IsFormlessHead, IsFormlessIn, IsFormlessMember};
+ghost use Rattle.naga_scope.specs.Declarations.{IsFormlessFunction, IsFormlessHead, IsFormlessIn};
+ghost use Rattle.naga_scope.specs.Declarations.{IsFormlessMember};
 ghost use Rattle.naga_scope.specs.Declarations.{IsFormlessStruct};
 ghost use Rattle.naga_scope.specs.Declarations.{IsFormlessPassed, IsFormlessType, IsFormlessValue};
 ghost use Rattle.naga_scope.specs.Declarations.{IsOtherStride, MemberHasForm, PassedHasForm};
@@ -21,8 +22,8 @@ ghost use Rattle.naga_scope.specs.Tables.{AreTablesOf};
 use crate::tables::ModuleTables;
 use naga_back::FunctionType;
 use naga_ir::{
-    Arena, Binding, BuiltIn, Constant, EntryPoint, Expression, Function, FunctionArgument,
-    GlobalVariable, Handle, Module, Override, ShaderStage, StructMember, Type_, TypeInner,
+    Binding, BuiltIn, Constant, EntryPoint, Expression, Function, FunctionArgument, GlobalVariable,
+    Handle, Module, Override, ShaderStage, StructMember, Type_, TypeInner,
 };
 use wgsl_layout::Misplaced;
 use wgsl_words::TryToWgsl;
@@ -113,11 +114,8 @@ pub fn formless_declaration(
     if let Some(formless) = formless_in_variables(module, tables) {
         return Some(formless);
     }
-    if let Some((handle, value)) = formless_in_functions(&module.functions) {
-        return Some((
-            DeclarationPlace::Function(handle),
-            FormlessDeclaration::Head(FormlessHead::BuiltIn(value)),
-        ));
+    if let Some(formless) = formless_in_functions(module) {
+        return Some(formless);
     }
     match formless_in_entry_points(&module.entry_points) {
         Some((index, head)) => {
@@ -365,14 +363,17 @@ fn formless_value(
     }
 }
 
-/// The first value without a word that a function takes or gives, and the function.
-fn formless_in_functions(functions: &Arena<Function>) -> Option<(Handle<Function>, BuiltIn)>
-    ensures { FindsFirst functions.now (λ i. PassedHasForm) (λ h. h) (λ i. IsFormlessPassed)
-        result }
+/// The first value without a word that a function takes or gives.
+fn formless_in_functions(module: &Module) -> Option<(DeclarationPlace, FormlessDeclaration)>
+    ensures { FindsFirst «module».now.functions (λ i. PassedHasForm)
+        (λ h. DeclarationPlace.Function h) (λ i. IsFormlessFunction) result }
 {
-    for (handle, function) in functions.iter() {
+    for (handle, function) in module.functions.iter() {
         if let Some(value) = formless_passed(function) {
-            return Some((handle, value));
+            return Some((
+                DeclarationPlace::Function(handle),
+                FormlessDeclaration::Head(FormlessHead::BuiltIn(value)),
+            ));
         }
     }
     None

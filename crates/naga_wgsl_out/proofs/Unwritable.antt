@@ -1,12 +1,11 @@
 -- Where a construct stands for which a module is refused.
-use Rattle.std.proofs.Common.{◌≡◌, ◌+◌, ◌<◌, ◌∙◌, ℕ, Bool, false, List, Some, None, Option, arith, below_more, inl, inr, length, slice_get, subst, sym, refl}
-use Rattle.std.specs.Prelude.{IsFalse, IsSomeAnd, IsTrue, MatchOption, Result, Ok, Err, IfOk, codes}
+use Rattle.std.proofs.Common.{◌≡◌, ◌+◌, ◌<◌, ℕ, Bool, false, List, Some, None, Option, arith, below_more, inl, inr, length, slice_get, subst, sym, refl}
+use Rattle.std.specs.Prelude.{IsFalse, IsSomeAnd, IsTrue, MatchOption}
 use Rattle.std.proofs.lemmas.Option.{slice_get_within}
 use Rattle.module_meaning.specs.Accepted.{is_accepted}
 use Rattle.module_meaning.specs.DeclarationForms.{DeclarationsHaveForms}
 use Rattle.module_meaning.specs.ExpressionForms.{expression_has_form}
-use Rattle.module_meaning.specs.ExpressionLabels.{SomeLabelIsFull, expression_labels}
-use Rattle.module_meaning.specs.FunctionNumbers.{all_functions, all_infos}
+use Rattle.module_meaning.specs.FunctionNumbers.{all_functions, all_infos, function_number}
 use Rattle.module_meaning.specs.Names.{labels_before, wgsl_names}
 use Rattle.module_meaning.specs.Undeclared.{is_spellable}
 use Rattle.module_meaning.specs.Written.{IsSpelledIn}
@@ -22,8 +21,7 @@ use Rattle.naga_names.specs.Naming.{Names}
 use Rattle.naga_names.specs.Refusal.{IsResetRefusal}
 use Rattle.naga_names.specs.declared.error.NamerError.{NamerError}
 use Rattle.naga_names.specs.declared.error.NamerError.TheVariants as namer_error
-use Rattle.naga_scope.specs.ExpressionNames.{IsRefusalOfLabels}
-use Rattle.naga_scope.specs.Plans.{IsRefusalToPlan, IsRefusalToPlanOf}
+use Rattle.naga_scope.specs.Plans.{IsRefusalToPlan}
 use Rattle.naga_scope.specs.declared.plan.PlanError.{PlanError}
 use Rattle.naga_scope.specs.declared.plan.PlanError.TheVariants as plan_error
 use Rattle.naga_wgsl_fns.proofs.PlanRefusals.{full_is}
@@ -35,7 +33,11 @@ use Rattle.naga_wgsl_fns.specs.declared.plans.FunctionPart.{FunctionPart}
 use Rattle.naga_wgsl_out.proofs.ExpressionNames.{none_past}
 use Rattle.naga_wgsl_out.proofs.ModuleScopes.{all_planned_formed, all_planned_hold}
 use Rattle.naga_wgsl_out.specs.ModuleRefusals.{HasAllNames, HasNamedBefore, NamerIsFull, NothingIsRefused}
-use Rattle.naga_wgsl_out.specs.Unwritable.{AreWritableBefore, IsUnspelled, IsWritable, StandsAtPart, StandsInFunction, StandsInLabels}
+use Rattle.naga_wgsl_out.specs.Unwritable.{AreWritableBefore, IsFirst, IsRefusalOf, IsUnspelled, IsWritable, StandsAt}
+use Rattle.naga_wgsl_out.specs.Unwritable.{StandsAtPart, StandsIn, StandsInFunction, StandsInLabels}
+use Rattle.naga_wgsl_out.specs.declared.unwritable.Refusal.{Refusal}
+use Rattle.naga_back.specs.declared.context.FunctionType.{FunctionType}
+use Rattle.naga_back.specs.declared.context.FunctionType.TheVariants as item
 use Rattle.naga_wgsl_out.specs.Writing.{HasPlan}
 
 -- ---- a function that is refused
@@ -106,12 +108,46 @@ pub none_writable : (explicit : Bool) (m : Module) (info : ModuleInfo) (namer : 
     AreWritable explicit m info 0 namer
 none_writable explicit m info namer named = record { planned = λ i lt. absurd (omega (arith, lt)); named = named }
 
-pub one_writable : (explicit : Bool) (m : Module) (info : ModuleInfo) (n : ℕ) (old new : Names) →
-    AreWritable explicit m info n old → IsWritable explicit m info n new → AreWritable explicit m info (n + 1) new
-one_writable explicit m info n old new before here = record {
-  planned = below_more (HasPlan explicit m info) n before.planned here.planned;
-  named = here.named;
-}
+pub one_writable : (explicit : Bool) (m : Module) (info : ModuleInfo) (n number next : ℕ) (old new : Names) →
+    number ≡ n → n + 1 ≡ next → AreWritable explicit m info n old → IsWritable explicit m info number new →
+    AreWritable explicit m info next new
+one_writable explicit m info n number next old new same more before here =
+    let at : IsWritable explicit m info n new = subst (λ k. IsWritable explicit m info k new) same here in
+    subst (λ k. AreWritable explicit m info k new) more
+    (record {
+      planned = below_more (HasPlan explicit m info) n before.planned at.planned;
+      named = at.named;
+    })
+
+-- by what is found of one
+module _ (explicit : Bool) (m : Module) (info : ModuleInfo) (ty : FunctionType) where
+  pub found_none : (namer : Names) (found : Option Refusal) → found ≡ None →
+      MatchOption found (IsWritable explicit m info (function_number m ty) namer) (IsRefusalOf explicit m info ty) →
+      IsWritable explicit m info (function_number m ty) namer
+  found_none namer None is here = here
+  found_none namer (Some refusal) is here = absurd cc
+
+  pub found_some : (namer : Names) (found : Option Refusal) (refusal : Refusal) → found ≡ Some refusal →
+      MatchOption found (IsWritable explicit m info (function_number m ty) namer) (IsRefusalOf explicit m info ty) →
+      IsRefusalOf explicit m info ty refusal
+  found_some namer None refusal is here = absurd cc
+  found_some namer (Some other) refusal is here =
+      let same : other ≡ refusal = cc in
+      subst (IsRefusalOf explicit m info ty) same here
+
+-- it stands in the module, and is the first where all in front of the function have plans
+pub refusal_stands : (explicit : Bool) (m : Module) (info : ModuleInfo) (ty : FunctionType) (refusal : Refusal) →
+    IsRefusalOf explicit m info ty refusal → StandsIn explicit m info refusal
+refusal_stands explicit m info (item.Function h) refusal r =
+    subst (λ p. StandsAt explicit m info p refusal.construct) (sym r.1) r.2
+refusal_stands explicit m info (item.EntryPoint i) refusal r =
+    subst (λ p. StandsAt explicit m info p refusal.construct) (sym r.1) r.2
+
+pub refusal_first : (explicit : Bool) (m : Module) (info : ModuleInfo) (ty : FunctionType) (refusal : Refusal) →
+    IsRefusalOf explicit m info ty refusal → AreWritableBefore explicit m info (function_number m ty) →
+    IsFirst explicit m info refusal.place
+refusal_first explicit m info (item.Function h) refusal r before = subst (IsFirst explicit m info) (sym r.1) before
+refusal_first explicit m info (item.EntryPoint i) refusal r before = subst (IsFirst explicit m info) (sym r.1) before
 
 -- so a construct in the next one is the first
 pub before_writable : (explicit : Bool) (m : Module) (info : ModuleInfo) (names : NameMap) (n : ℕ) (namer : Names) →

@@ -7,11 +7,13 @@ use Rattle.std.specs.Prelude.{◌≡◌, ℕ, ◌+◌, ◌<◌, ◌⊎◌, Bool,
 use Rattle.std.specs.Prelude.{length, slice_get}
 use Rattle.module_meaning.specs.DeclarationForms.{DeclarationsHaveForms}
 use Rattle.module_meaning.specs.ExpressionForms.{expression_has_form}
-use Rattle.module_meaning.specs.FunctionNumbers.{all_functions, all_infos}
+use Rattle.module_meaning.specs.FunctionNumbers.{all_functions, all_infos, function_number}
 use Rattle.module_meaning.specs.FunctionShapes.{function_shape}
 use Rattle.module_meaning.specs.Names.{labels_before}
 use Rattle.module_meaning.specs.Undeclared.{is_spellable}
 use Rattle.module_meaning.specs.Written.{IsSpelledIn, IsWrittenIn}
+use Rattle.naga_back.specs.declared.context.FunctionType.{FunctionType}
+use Rattle.naga_back.specs.declared.context.FunctionType.TheVariants as item
 use Rattle.naga_info.specs.declared.info.ExpressionInfo.{ExpressionInfo}
 use Rattle.naga_info.specs.declared.info.ModuleInfo.{ModuleInfo}
 use Rattle.naga_info.specs.declared.info.TypeResolution.{TypeResolution}
@@ -134,6 +136,17 @@ IsFirst explicit m info (place.EntryPoint i at) =
     AreWritableBefore explicit m info (length m.functions + i)
 
 -- ---- on the way
+-- the place of this part of a function or an entry point
+abbrev pub place_at : FunctionType → FunctionPart → RefusalPlace
+place_at (item.Function h) at = place.Function h at
+place_at (item.EntryPoint i) at = place.EntryPoint i at
+
+-- it is refused for this, which stands at a part of it
+abbrev pub IsRefusalOf : (explicit : Bool) → Module → ModuleInfo → FunctionType → Refusal → Type 0
+IsRefusalOf explicit m info ty refusal =
+    (at : FunctionPart) × (refusal.place ≡ place_at ty at)
+    × StandsInFunction explicit m info (function_number m ty) (refusal.construct, at)
+
 -- the function with this number has a plan, and the namer has named its labels after all in front of
 -- them
 pub record IsWritable (explicit : Bool) (m : Module) (info : ModuleInfo) (number : ℕ)

@@ -9,8 +9,8 @@ ghost use Rattle.naga_back.specs.Flags.{annotates_types};
 ghost use Rattle.naga_names.specs.Keys.{names_in};
 ghost use Rattle.naga_scope.specs.Tables.{AreTablesOf};
 ghost use Rattle.naga_wgsl_out.specs.ModuleRefusals.{HasAllNames, HasNamedBefore, NothingIsRefused};
-ghost use Rattle.naga_wgsl_out.specs.Unwritable.{IsFirst, IsWritable, StandsIn};
-ghost use Rattle.naga_wgsl_out.specs.Unwritable.{StandsInFunction};
+ghost use Rattle.naga_wgsl_out.specs.Unwritable.{IsFirst, IsRefusalOf, IsWritable, StandsIn};
+ghost use Rattle.naga_wgsl_out.specs.Unwritable.{place_at};
 
 use crate::writer::items_named;
 use naga_back::{FunctionType, WriterFlags};
@@ -122,32 +122,25 @@ fn unwritable_function(
         IsFirst (annotates_types flags) «module».now info.now refusal.place)) }
 {
     for index in 0..module.functions.len() {
-        let handle = Place::from_index(index);
-        let ty = FunctionType::Function(handle);
-        let found = refused_part(alloc, module, info, &ty, tables, names, namer, flags)?;
-        if let Some((construct, part)) = found {
-            return Ok(Some(Refusal {
-                construct,
-                place: RefusalPlace::Function(handle, part),
-            }));
+        let ty = FunctionType::Function(Place::from_index(index));
+        let found = refused_in(alloc, module, info, &ty, tables, names, namer, flags)?;
+        if let Some(refusal) = found {
+            return Ok(Some(refusal));
         }
     }
     for index in 0..module.entry_points.len() {
         let ty = FunctionType::EntryPoint(index as u16);
-        let found = refused_part(alloc, module, info, &ty, tables, names, namer, flags)?;
-        if let Some((construct, part)) = found {
-            return Ok(Some(Refusal {
-                construct,
-                place: RefusalPlace::EntryPoint(index, part),
-            }));
+        let found = refused_in(alloc, module, info, &ty, tables, names, namer, flags)?;
+        if let Some(refusal) = found {
+            return Ok(Some(refusal));
         }
     }
     Ok(None)
 }
 
-/// A construct for which this function is refused, and where it stands in it. Where there is none,
+/// The first construct for which this function is refused, and where it stands. Where there is none,
 /// the namer has named its labels too.
-fn refused_part(
+fn refused_in(
     alloc: Global,
     module: &Module,
     info: &ModuleInfo,
@@ -156,7 +149,7 @@ fn refused_part(
     names: &HashMap<NameKey, String>,
     namer: &mut Namer,
     flags: WriterFlags,
-) -> Result<Option<(Construct, FunctionPart)>, AllocError>
+) -> Result<Option<Refusal>, AllocError>
     requires accepted { IsTrue (is_accepted «module».now info.now) }
     requires there { IsFunctionOf ty.now «module».now }
     requires tables { AreTablesOf «module».now tables.now }
@@ -165,15 +158,27 @@ fn refused_part(
     ensures { IfOk result (λ found. MatchOption found
         (IsWritable (annotates_types flags) «module».now info.now
         (function_number «module».now ty.now) namer.new)
-        (StandsInFunction (annotates_types flags) «module».now info.now
-        (function_number «module».now ty.now))) }
+        (IsRefusalOf (annotates_types flags) «module».now info.now ty.now)) }
 {
     match plan_or_refusal(alloc, module, info, ty, tables, names, flags, namer) {
         Ok(plan) => {
             drop(plan);
             Ok(None)
         }
-        Err(Unplanned::Refused(construct, part)) => Ok(Some((construct, part))),
+        Err(Unplanned::Refused(construct, part)) => {
+            let place = place_at(*ty, part);
+            Ok(Some(Refusal { construct, place }))
+        }
         Err(Unplanned::Memory(error)) => Err(error),
+    }
+}
+
+/// The place of this part of a function or an entry point.
+fn place_at(ty: FunctionType, part: FunctionPart) -> RefusalPlace
+    ensures { result ≡ place_at ty part }
+{
+    match ty {
+        FunctionType::Function(handle) => RefusalPlace::Function(handle, part),
+        FunctionType::EntryPoint(index) => RefusalPlace::EntryPoint(index as usize, part),
     }
 }

@@ -29,7 +29,7 @@ pub returns-in-Some-formless_in_functions-clause-some : goal.returns-in-Some-for
 returns-in-Some-formless_in_functions-clause-some c =
     let step = c.in-Some-formless_in_functions in
     (of_functions c.args.module.now c.in_default.ensures c.in_default-formless_in_constants.ensures c.in_default-formless_in_overrides.ensures
-    c.in_default-formless_in_variables.ensures (step.handle, step.value) step.ensures).some
+    c.in_default-formless_in_variables.ensures step.formless step.ensures).some
 
 pub returns-in-Some-formless_in_entry_points-clause-some : goal.returns-in-Some-formless_in_entry_points-clause-some
 returns-in-Some-formless_in_entry_points-clause-some c =
@@ -63,7 +63,7 @@ pub returns-in-Some-formless_in_functions-clause-place : goal.returns-in-Some-fo
 returns-in-Some-formless_in_functions-clause-place c =
     let step = c.in-Some-formless_in_functions in
     (of_functions c.args.module.now c.in_default.ensures c.in_default-formless_in_constants.ensures c.in_default-formless_in_overrides.ensures
-    c.in_default-formless_in_variables.ensures (step.handle, step.value) step.ensures).place
+    c.in_default-formless_in_variables.ensures step.formless step.ensures).place
 
 pub returns-in-Some-formless_in_entry_points-clause-place : goal.returns-in-Some-formless_in_entry_points-clause-place
 returns-in-Some-formless_in_entry_points-clause-place c =
@@ -97,7 +97,7 @@ pub returns-in-Some-formless_in_functions-clause-first : goal.returns-in-Some-fo
 returns-in-Some-formless_in_functions-clause-first c =
     let step = c.in-Some-formless_in_functions in
     (of_functions c.args.module.now c.in_default.ensures c.in_default-formless_in_constants.ensures c.in_default-formless_in_overrides.ensures
-    c.in_default-formless_in_variables.ensures (step.handle, step.value) step.ensures).first
+    c.in_default-formless_in_variables.ensures step.formless step.ensures).first
 
 pub returns-in-Some-formless_in_entry_points-clause-first : goal.returns-in-Some-formless_in_entry_points-clause-first
 returns-in-Some-formless_in_entry_points-clause-first c =

@@ -4,7 +4,7 @@ use Rattle.naga_back.specs.Flags.{annotates_types}
 use Rattle.naga_names.proofs.Refusal.{element}
 use Rattle.naga_wgsl_out.proofs.ExpressionNames.{named_plan, none_full}
 use Rattle.naga_wgsl_out.proofs.Unwritable.{known_at, stands_in}
-use Rattle.naga_wgsl_out.proofs.unwritable.refused_part.Goals as goal
+use Rattle.naga_wgsl_out.proofs.unwritable.refused_in.Goals as goal
 
 pub returns-in-Ok : goal.returns-in-Ok
 returns-in-Ok c =
@@ -30,7 +30,10 @@ returns-in-Err-Refused c =
     let info = c.args.info.now in
     let number = function_number m c.args.ty.now in
     let here = element (all_functions m) number (number_within m c.args.ty.now c.requires.there) in
-    let known = known_at m info c.requires.accepted number here.0 here.1 in
-    stands_in (annotates_types c.args.flags) m info c.requires.accepted number here.0 here.1 known.0
-    known.1 c.args.namer.now c.requires.namer c.in-Err-Refused.construct c.in-Err-Refused.part
-    c.in-Err-Refused.ensures.err
+    let known = known_at m info c.requires.accepted number here.0 here.1 in (
+      c.in-Err-Refused.part,
+      c.place_at-place.ensures,
+      stands_in (annotates_types c.args.flags) m info c.requires.accepted number here.0 here.1 known.0
+          known.1 c.args.namer.now c.requires.namer c.in-Err-Refused.construct c.in-Err-Refused.part
+          c.in-Err-Refused.ensures.err,
+    )
