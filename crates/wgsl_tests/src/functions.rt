@@ -16,8 +16,8 @@ use std::alloc::Global;
 use std::collections::HashMap;
 use std::process::Abort;
 
-/// A function with a label of a front end, one that returns what was loaded nowhere, a mesh stage that
-/// lacks its output, and a compute stage that does nothing.
+/// A function with a label of a front end, one that returns what was loaded nowhere, a mesh stage
+/// that lacks its output, and a compute stage that does nothing.
 const MODULE: &str = r#"{
     "module": {
         "types": [{"inner": {"Scalar": {"kind": "Sint", "width": 4}}}],
