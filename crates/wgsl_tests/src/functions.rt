@@ -2,7 +2,6 @@
 
 ghost use Rattle.std.specs.Prelude.{IsTrue};
 ghost use Rattle.module_meaning.specs.Accepted.{is_accepted};
-ghost use Rattle.module_meaning.specs.FunctionNumbers.{IsFunctionOf};
 ghost use Rattle.module_meaning.specs.Names.{HasNamesOf};
 ghost use Rattle.naga_names.specs.Keys.{names_in};
 ghost use Rattle.naga_wgsl_fns.specs.Items.{HasNamedItemsOf};
@@ -10,15 +9,15 @@ ghost use Rattle.naga_wgsl_fns.specs.Items.{HasNamedItemsOf};
 use crate::modules::read;
 use naga_json::Known;
 use naga_wgsl_out::back::FunctionType;
-use naga_wgsl_out::ir::{Module, Place};
+use naga_wgsl_out::ir::Place;
 use naga_wgsl_out::namer::{NameKey, Namer};
 use naga_wgsl_out::wgsl::{names_of, no_flags, write_function, write_string};
 use std::alloc::Global;
 use std::collections::HashMap;
 use std::process::Abort;
 
-/// A function with a label of a front end, one that returns what was loaded nowhere, a mesh stage that
-/// lacks its output, and a compute stage that does nothing.
+/// A function with a label of a front end, one that returns what was loaded nowhere, a mesh stage
+/// that lacks its output, and a compute stage that does nothing.
 const MODULE: &str = r#"{
     "module": {
         "types": [{"inner": {"Scalar": {"kind": "Sint", "width": 4}}}],
@@ -62,16 +61,6 @@ const NAMED_AGAIN: &str = "fn e(x: i32) -> i32 {\n    let x_2 = (x + x);\n    re
 
 const COMPUTE: &str = "@compute @workgroup_size(64, 1, 1) \nfn main() {\n}\n";
 
-/// Whether the module has this function or entry point.
-fn has(module: &Module, ty: FunctionType) -> bool
-    ensures { IsTrue result → IsFunctionOf ty «module».now }
-{
-    match ty {
-        FunctionType::Function(handle) => handle.index() < module.functions.len(),
-        FunctionType::EntryPoint(index) => (index as usize) < module.entry_points.len(),
-    }
-}
-
 /// The function has this text behind what stands in a sink, or is refused, and nothing is written.
 fn is_written(
     rt: &impl Abort,
@@ -87,7 +76,14 @@ fn is_written(
     requires namer { HasNamedItemsOf known.now.module namer.old }
     ensures { HasNamedItemsOf known.now.module namer.new }
 {
-    assert!(rt; has(&known.module, ty));
+    match ty {
+        FunctionType::Function(handle) => {
+            assert!(rt; handle.index() < known.module.functions.len());
+        }
+        FunctionType::EntryPoint(index) => {
+            assert!(rt; (index as usize) < known.module.entry_points.len());
+        }
+    }
     let mut text = String::from_str(alloc, "before ").expect(rt, "memory");
     let (module, info) = (&known.module, &known.info);
     let written = write_function(alloc, module, info, ty, names, namer, no_flags(), &mut text);
@@ -106,13 +102,51 @@ fn a_function_is_written_by_itself(rt: HostRuntime) {
     let known = read(&rt, alloc, MODULE);
     assert!(rt; write_string(alloc, &known.module, &known.info, no_flags()).is_err());
     let (names, mut namer) = names_of(alloc, &known.module).expect(&rt, "names");
-    let e = FunctionType::Function(Place::from_index(0));
-    is_written(&rt, alloc, &known, e, &names, &mut namer, Some(NAMED));
-    is_written(&rt, alloc, &known, e, &names, &mut namer, Some(NAMED_AGAIN));
-    let h = FunctionType::Function(Place::from_index(1));
-    is_written(&rt, alloc, &known, h, &names, &mut namer, None);
-    let ms = FunctionType::EntryPoint(0);
-    is_written(&rt, alloc, &known, ms, &names, &mut namer, None);
-    let main = FunctionType::EntryPoint(1);
-    is_written(&rt, alloc, &known, main, &names, &mut namer, Some(COMPUTE));
+    let e = Place::from_index(0);
+    let h = Place::from_index(1);
+    is_written(
+        &rt,
+        alloc,
+        &known,
+        FunctionType::Function(e),
+        &names,
+        &mut namer,
+        Some(NAMED),
+    );
+    is_written(
+        &rt,
+        alloc,
+        &known,
+        FunctionType::Function(e),
+        &names,
+        &mut namer,
+        Some(NAMED_AGAIN),
+    );
+    is_written(
+        &rt,
+        alloc,
+        &known,
+        FunctionType::Function(h),
+        &names,
+        &mut namer,
+        None,
+    );
+    is_written(
+        &rt,
+        alloc,
+        &known,
+        FunctionType::EntryPoint(0),
+        &names,
+        &mut namer,
+        None,
+    );
+    is_written(
+        &rt,
+        alloc,
+        &known,
+        FunctionType::EntryPoint(1),
+        &names,
+        &mut namer,
+        Some(COMPUTE),
+    );
 }

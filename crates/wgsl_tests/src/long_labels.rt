@@ -17,30 +17,30 @@ struct Long {
     again: &'static str,
 }
 
-const LABELS: &[Long] = &[
-    Long {
-        part: "a",
-        times: MEBIBYTE,
-        named: "a",
-        named_times: MEBIBYTE,
-        again: "_1",
-    },
-    // the base ends in a digit, so that the first name has a `_` behind it
-    Long {
-        part: "\u{1f600}",
-        times: MEBIBYTE / 4,
-        named: "u1f600_",
-        named_times: MEBIBYTE / 4,
-        again: "1",
-    },
-    Long {
-        part: "_",
-        times: MEBIBYTE,
-        named: "unnamed",
-        named_times: 1,
-        again: "_1",
-    },
-];
+const LETTERS: Long = Long {
+    part: "a",
+    times: MEBIBYTE,
+    named: "a",
+    named_times: MEBIBYTE,
+    again: "_1",
+};
+
+/// The base ends in a digit, so that the first name has a `_` behind it.
+const FOREIGN: Long = Long {
+    part: "\u{1f600}",
+    times: MEBIBYTE / 4,
+    named: "u1f600_",
+    named_times: MEBIBYTE / 4,
+    again: "1",
+};
+
+const NO_LETTERS: Long = Long {
+    part: "_",
+    times: MEBIBYTE,
+    named: "unnamed",
+    named_times: 1,
+    again: "_1",
+};
 
 /// The label has these names when it comes and when it comes again.
 fn are_given(rt: &impl Abort, alloc: Global, label: &str, name: &str, again: &str) {
@@ -99,8 +99,16 @@ fn check_long(rt: &impl Abort, alloc: Global, long: &Long) {
 }
 
 #[test]
-fn a_long_label_has_a_name(rt: HostRuntime) {
-    for long in LABELS {
-        check_long(&rt, rt.alloc(), long);
-    }
+fn a_long_label_is_a_name(rt: HostRuntime) {
+    check_long(&rt, rt.alloc(), &LETTERS);
+}
+
+#[test]
+fn a_long_label_in_another_script_has_a_name(rt: HostRuntime) {
+    check_long(&rt, rt.alloc(), &FOREIGN);
+}
+
+#[test]
+fn a_long_label_without_letters_has_a_name(rt: HostRuntime) {
+    check_long(&rt, rt.alloc(), &NO_LETTERS);
 }

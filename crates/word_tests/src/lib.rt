@@ -1,6 +1,6 @@
-//! Tests of names, words and spellings: what the namer makes of labels and of a module's items, sets
-//! of words, WGSL's words for values, types in each context, and sinks. Beside them a context as a
-//! user would write it.
+//! Tests of names, words and spellings: what the namer makes of labels and of a module's items,
+//! sets of words, WGSL's words for values, types in each context, and sinks. Beside them a context
+//! as a user would write it.
 #![tactic(auto)]
 
 pub mod numbered;
