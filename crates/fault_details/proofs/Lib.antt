@@ -1,3 +1,4 @@
+pub mod Choosing
 pub mod Fitting
 pub mod Holding
 pub mod Passing
