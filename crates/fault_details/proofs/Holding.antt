@@ -354,10 +354,7 @@ module _ (m : Module) where
 
   entry_point_holds : (p : EntryPoint) (known : List TypeResolution) (kind : Fault) (place : FunctionPlace) → Holds (entry_point_reason m p known kind place)
   entry_point_holds p known fault.Names part.Whole = variables_hold (length m.global_variables) p
-  entry_point_holds p known kind part.Whole = function_holds (length m.functions) p.function known kind part.Whole
-  entry_point_holds p known kind (part.Local h) = function_holds (length m.functions) p.function known kind (part.Local h)
-  entry_point_holds p known kind (part.Expression h) = function_holds (length m.functions) p.function known kind (part.Expression h)
-  entry_point_holds p known kind (part.Statement n) = function_holds (length m.functions) p.function known kind (part.Statement n)
+  entry_point_holds p known kind place = function_holds (length m.functions) p.function known kind place
 
   module_holds : (info : ModuleInfo) (kind : Fault) → Holds (module_reason m info kind)
   module_holds info fault.InfoSize =
