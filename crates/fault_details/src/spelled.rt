@@ -208,27 +208,38 @@ fn other_class(
 }
 
 /// A reason, as it is told.
-fn told_reason(alloc: Global, module: &Module, reason: Reason<'_>) -> Result<Wanted, AllocError>
-    ensures { IfOk result (Tells «module».now (shown reason.entry)) }
+fn told_reason(alloc: Global, module: &Module, reason: &Reason<'_>) -> Result<Wanted, AllocError>
+    ensures { IfOk result (Tells «module».now (shown reason.now)) }
 {
     match reason {
-        Reason::OtherType { wanted, got } => other_type(alloc, module, wanted, got),
-        Reason::OtherClass { class, got } => other_class(alloc, module, class, got),
-        Reason::NoValue { wanted } => no_value(alloc, module, wanted),
-        Reason::Unwanted { got } => unwanted(alloc, module, got),
-        Reason::Absent { list, index, count } => Ok(Wanted::Item { list, index, count }),
+        Reason::OtherType { wanted, got } => other_type(alloc, module, *wanted, *got),
+        Reason::OtherClass { class, got } => other_class(alloc, module, *class, *got),
+        Reason::NoValue { wanted } => no_value(alloc, module, *wanted),
+        Reason::Unwanted { got } => unwanted(alloc, module, *got),
+        Reason::Absent { list, index, count } => Ok(Wanted::Item {
+            list: *list,
+            index: *index,
+            count: *count,
+        }),
         Reason::Later {
             list,
             index,
             before,
         } => Ok(Wanted::EarlierItem {
-            list,
-            index,
-            before,
+            list: *list,
+            index: *index,
+            before: *before,
         }),
-        Reason::OtherNumber { of, wanted, got } => Ok(Wanted::Number { of, wanted, got }),
-        Reason::PastParts { count, got } => Ok(Wanted::Part { count, got }),
-        Reason::Needs { need } => Ok(Wanted::Need(need)),
+        Reason::OtherNumber { of, wanted, got } => Ok(Wanted::Number {
+            of: *of,
+            wanted: *wanted,
+            got: *got,
+        }),
+        Reason::PastParts { count, got } => Ok(Wanted::Part {
+            count: *count,
+            got: *got,
+        }),
+        Reason::Needs { need } => Ok(Wanted::Need(*need)),
     }
 }
 
@@ -264,7 +275,7 @@ pub fn explain(
     ensures { IfOk result (TellsOf «module».now (fault_reason «module».now info.now fault)) }
 {
     match fault_reason(module, info, fault) {
-        Some(reason) => Ok(Some(told_reason(alloc, module, reason)?)),
+        Some(reason) => Ok(Some(told_reason(alloc, module, &reason)?)),
         None => Ok(None),
     }
 }
