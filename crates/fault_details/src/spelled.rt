@@ -49,6 +49,7 @@ fn unspelled(alloc: Global, ty: &TypeResolution) -> Result<String, AllocError>
 }
 
 /// Whether what a type names is there.
+#[tactic(auto, using(crate::proofs::Fitting::fits_behind))]
 fn fits(module: &Module, ty: &TypeResolution) -> bool
     ensures { IsTrue result → FitsResolution
         (global_context «module».now.types «module».now.overrides) ty.now }
