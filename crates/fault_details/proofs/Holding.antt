@@ -1,5 +1,5 @@
 -- Each reason is one: each comes from a test that fails.
-use Rattle.std.proofs.Common.{◌≡◌, ◌≢◌, ◌<◌, ◌≤◌, ◌==◌, ◌-◌, ℕ, Bool, true, false, List, [], ◌∷◌, arith, Option, Some, None}
+use Rattle.std.proofs.Common.{◌≡◌, ◌≢◌, ◌<◌, ◌==◌, ◌-◌, ℕ, Bool, true, false, List, [], ◌∷◌, arith, Option, Some, None}
 use Rattle.std.proofs.Common.{refl, length, nat_lt, nat_le, not, slice_get, true≢false, sym, eq-eqb, ◌∙◌}
 use Rattle.std.proofs.lemmas.Bool.{ltb-false, leb-false}
 use Rattle.std.specs.Prelude.{if◌then◌else◌}
@@ -34,7 +34,6 @@ use Rattle.naga_acceptance.specs.declared.faults.Item.{Item}
 use Rattle.naga_acceptance.specs.declared.faults.Item.TheVariants as item
 use Rattle.naga_acceptance.specs.declared.faults.FunctionPlace.{FunctionPlace}
 use Rattle.naga_acceptance.specs.declared.faults.FunctionPlace.TheVariants as part
-use Rattle.naga_acceptance.specs.declared.faults.Unaccepted.{Unaccepted}
 use Rattle.module_meaning.specs.AlikeTypes.{are_alike}
 use Rattle.module_meaning.specs.ExpressionTypes.{WantedType, LikeThis, Anything, Nothing, wanted_type}
 use Rattle.module_meaning.specs.StatementsFit.{has_label, is_result, is_result_of, labels_are_of, labels_differ, last_falls_through}
@@ -49,8 +48,8 @@ use Rattle.fault_details.specs.Reasons.{return_reason, simple_name_reason, simpl
 use Rattle.fault_details.specs.Reasons.{statement_name_reason, statement_reason, stored_reason, type_reason}
 use Rattle.fault_details.specs.Reasons.{typeless_reason, unlike, wanted_reason, whole_reason, function_reason}
 use Rattle.fault_details.specs.Reasons.{expression_reason, entry_point_reason, order_reason, variables_reason, module_reason}
-use Rattle.fault_details.specs.Reasons.{made_reason, fault_reason, is_in_class, signature_reason, call_reason}
-use Rattle.fault_details.specs.Reasons.{answer_reason, special_reason, sizes_reason}
+use Rattle.fault_details.specs.Reasons.{made_reason, is_in_class, call_reason}
+use Rattle.fault_details.specs.Reasons.{answer_reason}
 use Rattle.fault_details.specs.declared.words.Counted.{Counted}
 use Rattle.fault_details.specs.declared.words.Counted.TheVariants as counted
 use Rattle.fault_details.specs.declared.words.ListName.{ListName}

@@ -1,4 +1,3 @@
-pub mod Choosing
 pub mod Fitting
 pub mod Holding
 pub mod Passing

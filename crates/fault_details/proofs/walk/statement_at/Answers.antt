@@ -1,4 +1,4 @@
-use Rattle.std.proofs.Common.{ap, sym, ◌∙◌}
+use Rattle.std.proofs.Common.{ap, ◌∙◌}
 use Rattle.std.specs.Result.{result_err}
 use Rattle.naga_acceptance.specs.TextOrder.{text_order}
 use Rattle.fault_details.proofs.Passing.{passed_item}
