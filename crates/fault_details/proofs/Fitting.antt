@@ -1,5 +1,5 @@
 -- A type that names types and overrides that there are fits the context of the module.
-use Rattle.std.proofs.Common.{◌≡◌, ℕ, List, length, refl, IsTrue}
+use Rattle.std.proofs.Common.{List, length, refl, IsTrue}
 use Rattle.naga_ir.specs.declared.module.Override.{Override}
 use Rattle.naga_ir.specs.declared.types.Type_.{Type_}
 use Rattle.naga_ir.specs.declared.types.TypeInner.{TypeInner}

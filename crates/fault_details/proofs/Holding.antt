@@ -1,9 +1,9 @@
 -- Each reason is one: each comes from a test that fails.
-use Rattle.std.proofs.Common.{◌≡◌, ⊤, ◌≢◌, ◌<◌, ◌≤◌, ◌==◌, ◌-◌, ℕ, Bool, true, false, List, [], ◌∷◌, arith, Option, Some, None}
+use Rattle.std.proofs.Common.{◌≡◌, ◌≢◌, ◌<◌, ◌==◌, ◌-◌, ℕ, Bool, true, false, List, [], ◌∷◌, arith, Option, Some, None}
 use Rattle.std.proofs.Common.{refl, length, nat_lt, nat_le, not, slice_get, true≢false, sym, eq-eqb, ◌∙◌}
 use Rattle.std.proofs.lemmas.Bool.{ltb-false, leb-false}
 use Rattle.std.specs.Prelude.{if◌then◌else◌}
-use Rattle.std.specs.Option.{IfSome, option_and_then, option_map, option_map_or, option_or}
+use Rattle.std.specs.Option.{IfSome, is_some, option_and_then, option_map, option_map_or, option_or}
 use Rattle.naga_ir.specs.StatementTree.{SimpleStatement, emit, break, continue, return, store}
 use Rattle.naga_ir.specs.StatementTree.{atomic, call, cooperative_store, subgroup_ballot}
 use Rattle.naga_ir.specs.StatementTree.{subgroup_collective_operation, subgroup_gather}
@@ -17,6 +17,7 @@ use Rattle.naga_ir.specs.declared.module.Function.{Function}
 use Rattle.naga_ir.specs.declared.module.FunctionArgument.{FunctionArgument}
 use Rattle.naga_ir.specs.declared.module.FunctionResult.{FunctionResult}
 use Rattle.naga_ir.specs.declared.module.Module.{Module}
+use Rattle.naga_ir.specs.declared.statement.SwitchValue.TheVariants as label
 use Rattle.naga_ir.specs.declared.types.ArraySize.{ArraySize}
 use Rattle.naga_ir.specs.declared.types.ArraySize.TheVariants as size
 use Rattle.naga_ir.specs.declared.types.TypeInner.{TypeInner}
@@ -33,9 +34,9 @@ use Rattle.naga_acceptance.specs.declared.faults.Item.{Item}
 use Rattle.naga_acceptance.specs.declared.faults.Item.TheVariants as item
 use Rattle.naga_acceptance.specs.declared.faults.FunctionPlace.{FunctionPlace}
 use Rattle.naga_acceptance.specs.declared.faults.FunctionPlace.TheVariants as part
-use Rattle.naga_acceptance.specs.declared.faults.Unaccepted.{Unaccepted}
 use Rattle.module_meaning.specs.AlikeTypes.{are_alike}
 use Rattle.module_meaning.specs.ExpressionTypes.{WantedType, LikeThis, Anything, Nothing, wanted_type}
+use Rattle.module_meaning.specs.StatementsFit.{has_label, is_result, is_result_of, labels_are_of, labels_differ, last_falls_through}
 use Rattle.module_meaning.specs.TypeParts.{known_pointee}
 use Rattle.fault_details.specs.Holds.{IsReason, ReasonsHold}
 use Rattle.fault_details.specs.Reasons.{Reason, Absent, Later, OtherClass, OtherNumber, OtherType, PastParts, Unwanted}
@@ -47,12 +48,14 @@ use Rattle.fault_details.specs.Reasons.{return_reason, simple_name_reason, simpl
 use Rattle.fault_details.specs.Reasons.{statement_name_reason, statement_reason, stored_reason, type_reason}
 use Rattle.fault_details.specs.Reasons.{typeless_reason, unlike, wanted_reason, whole_reason, function_reason}
 use Rattle.fault_details.specs.Reasons.{expression_reason, entry_point_reason, order_reason, variables_reason, module_reason}
-use Rattle.fault_details.specs.Reasons.{made_reason, fault_reason, is_in_class, signature_reason, call_reason}
-use Rattle.fault_details.specs.Reasons.{answer_reason, special_reason, sizes_reason}
+use Rattle.fault_details.specs.Reasons.{made_reason, is_in_class, call_reason}
+use Rattle.fault_details.specs.Reasons.{answer_reason}
 use Rattle.fault_details.specs.declared.words.Counted.{Counted}
+use Rattle.fault_details.specs.declared.words.Counted.TheVariants as counted
 use Rattle.fault_details.specs.declared.words.ListName.{ListName}
 use Rattle.fault_details.specs.declared.words.ListName.TheVariants as list
 use Rattle.fault_details.specs.declared.words.Need.{Need}
+use Rattle.fault_details.specs.declared.words.Need.TheVariants as need
 use Rattle.fault_details.specs.declared.words.TypeClass.{TypeClass}
 use Rattle.fault_details.specs.declared.words.TypeClass.TheVariants as class
 
@@ -97,6 +100,20 @@ module _ (m : Module) where
   need_holds : (test : Bool) (it : Need) → Holds (need_unless test it)
   need_holds true it = tt
   need_holds false it = tt
+
+  two_needs : (a b : Bool) (x y : Need) → Holds (option_or (need_unless a x) (need_unless b y))
+  two_needs a b x y = or_holds (IsReason m) (need_unless a x) (need_unless b y) (need_holds a x) (need_holds b y)
+
+  four_needs : (a b c d : Bool) (x y z w : Need) →
+      Holds (option_or (need_unless a x) (option_or (need_unless b y) (option_or (need_unless c z) (need_unless d w))))
+  four_needs a b c d x y z w =
+      or_holds (IsReason m) (need_unless a x) (option_or (need_unless b y) (option_or (need_unless c z) (need_unless d w))) (need_holds a x)
+      (or_holds (IsReason m) (need_unless b y) (option_or (need_unless c z) (need_unless d w)) (need_holds b y) (two_needs c d z w))
+
+  three_numbers : (o p q : Counted) (a b c d e g : ℕ) → Holds (option_or (number_reason o a b) (option_or (number_reason p c d) (number_reason q e g)))
+  three_numbers o p q a b c d e g =
+      or_holds (IsReason m) (number_reason o a b) (option_or (number_reason p c d) (number_reason q e g)) (number_holds o a b)
+      (or_holds (IsReason m) (number_reason p c d) (number_reason q e g) (number_holds p c d) (number_holds q e g))
 
   -- ---- what is named
 
@@ -224,7 +241,7 @@ module _ (m : Module) where
 
   label_holds : (cs : CaseTrees) (it : TypeInner) → Holds (label_reason cs it)
   label_holds cs (inner.Scalar s) =
-      or_holds (IsReason m) _ _ (need_holds _ _) (or_holds (IsReason m) _ _ (need_holds _ _) (or_holds (IsReason m) _ _ (need_holds _ _) (need_holds _ _)))
+      four_needs (labels_are_of s cs) (labels_differ cs) (has_label label.Default cs) (not (last_falls_through false cs)) need.Labels need.DistinctLabels need.Default need.End
   label_holds cs _ = tt
 
   stored_holds : (known : List TypeResolution) (value pointer : ℕ) (wanted : Option TypeResolution) → Holds (stored_reason m.types known value pointer wanted)
@@ -253,7 +270,7 @@ module _ (m : Module) where
   call_holds f known function arguments outcome callee =
       or_holds (IsReason m) _ _ (number_holds _ _ _)
       (or_holds (IsReason m) _ _ (passed_holds known callee.arguments.items arguments)
-      (then_holds (IsReason m) (answer_reason callee function f) (λ h. or_holds (IsReason m) _ _ (need_holds _ _) (need_holds _ _)) outcome))
+      (then_holds (IsReason m) (answer_reason callee function f) (λ h. two_needs (is_some callee.result) (is_result (is_result_of function) f h) need.CalleeResult need.OwnResult) outcome))
 
   simple_holds : (f : Function) (known : List TypeResolution) (breaks continues : Bool) (s : SimpleStatement) → Holds (simple_reason m f known breaks continues s)
   simple_holds f known breaks continues break = need_holds _ _
@@ -336,13 +353,12 @@ module _ (m : Module) where
 
   entry_point_holds : (p : EntryPoint) (known : List TypeResolution) (kind : Fault) (place : FunctionPlace) → Holds (entry_point_reason m p known kind place)
   entry_point_holds p known fault.Names part.Whole = variables_hold (length m.global_variables) p
-  entry_point_holds p known kind part.Whole = function_holds (length m.functions) p.function known kind part.Whole
-  entry_point_holds p known kind (part.Local h) = function_holds (length m.functions) p.function known kind (part.Local h)
-  entry_point_holds p known kind (part.Expression h) = function_holds (length m.functions) p.function known kind (part.Expression h)
-  entry_point_holds p known kind (part.Statement n) = function_holds (length m.functions) p.function known kind (part.Statement n)
+  entry_point_holds p known kind place = function_holds (length m.functions) p.function known kind place
 
   module_holds : (info : ModuleInfo) (kind : Fault) → Holds (module_reason m info kind)
-  module_holds info fault.InfoSize = or_holds (IsReason m) _ _ (number_holds _ _ _) (or_holds (IsReason m) _ _ (number_holds _ _ _) (number_holds _ _ _))
+  module_holds info fault.InfoSize =
+      three_numbers counted.Functions counted.EntryPoints counted.GlobalExpressions (length m.functions) (length info.functions.items)
+      (length m.entry_points.items) (length info.entry_points.items) (length m.global_expressions) (length info.const_expression_types.items)
   module_holds info fault.SpecialTypes =
       or_holds (IsReason m) _ _ (first_holds (absent list.Types (length m.types)) (absent_holds list.Types (length m.types)) _)
       (or_holds (IsReason m) _ _ (then_holds (IsReason m) (absent list.Types (length m.types)) (absent_holds list.Types (length m.types)) m.special_types.external_texture_params)

@@ -1,13 +1,13 @@
 -- A walk that passes statements in the order of the text, up to one of a number.
-use Rattle.std.proofs.Common.{◌≡◌, ℕ, zero, suc, ◌+◌, ◌<◌, Bool, List, [], ◌∷◌, ◌++◌, length, drop, refl, ap, sym, ◌∙◌}
-use Rattle.std.proofs.Common.{slice_get, slice_index_or, Option, Some, None}
+use Rattle.std.proofs.Common.{◌≡◌, ℕ, zero, suc, ◌+◌, ◌<◌, Bool, List, [], ◌∷◌, ◌++◌, length, drop, refl, ap, ◌∙◌}
+use Rattle.std.proofs.Common.{slice_get, slice_index_or}
 use Rattle.std.specs.Prelude.{Result, Ok, Err}
 use Rattle.std.specs.Result.{result_err}
 use Rattle.naga_ir.specs.StatementViews.{tree_of, block_of, cases_of}
 use Rattle.naga_ir.specs.declared.statement.Statement.{Statement}
 use Rattle.naga_ir.specs.declared.statement.SwitchCase.{SwitchCase}
 use Rattle.module_meaning.proofs.Fitting.{drop_first}
-use Rattle.naga_acceptance.specs.TextOrder.{PlacedStatement, case_statements, statements_in, statements_inside}
+use Rattle.naga_acceptance.specs.TextOrder.{case_statements, statements_in, statements_inside}
 use Rattle.fault_details.specs.Shown.{passed}
 
 -- goes on behind what was passed

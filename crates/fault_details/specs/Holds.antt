@@ -3,7 +3,7 @@
 -- that each reason that is told is one.
 --
 -- Throughout, m is a module, info what is known of it, and u a place with a kind of fault.
-use Rattle.std.specs.Prelude.{◌≡◌, ⊤, ◌≢◌, ◌<◌, ◌≤◌, false, Option}
+use Rattle.std.specs.Prelude.{◌≡◌, ⊤, ◌≢◌, ◌≤◌, false}
 use Rattle.std.specs.Option.{IfSome, option_map_or}
 use Rattle.naga_ir.specs.declared.module.Module.{Module}
 use Rattle.naga_info.specs.declared.info.ModuleInfo.{ModuleInfo}

@@ -7,10 +7,10 @@
 -- types of expressions by handle, h is a handle, xs are several items, here is the handle of an
 -- item that names others, and count is how many items a list has. Of the functions of a module a
 -- function may call those before it, and an entry point all: those before callees.
-use Rattle.std.specs.Prelude.{ℕ, ◌-◌, Bool, true, false, ◌==◌, nat_lt, nat_le, not}
-use Rattle.std.specs.Prelude.{List, [], ◌∷◌, ◌++◌, length, map, slice_get}
+use Rattle.std.specs.Prelude.{ℕ, ◌-◌, Bool, false, ◌==◌, nat_lt, nat_le, not}
+use Rattle.std.specs.Prelude.{List, [], ◌∷◌, length, slice_get}
 use Rattle.std.specs.Prelude.{Option, Some, None, if◌then◌else◌}
-use Rattle.std.specs.Option.{option_and_then, option_map, option_map_or, option_or, option_to_list}
+use Rattle.std.specs.Option.{option_and_then, option_map, option_map_or, option_or}
 use Rattle.std.specs.Option.{is_some}
 use Rattle.indexmap.specs.IndexMap.{keys, values}
 use Rattle.naga_ir.specs.Operands.{expression_operands, own_operands, own_result}
@@ -30,7 +30,6 @@ use Rattle.naga_ir.specs.declared.module.SpecialTypes.{SpecialTypes}
 use Rattle.naga_ir.specs.declared.statement.SwitchValue.TheVariants as label
 use Rattle.naga_ir.specs.declared.types.ArraySize.{ArraySize}
 use Rattle.naga_ir.specs.declared.types.ArraySize.TheVariants as size
-use Rattle.naga_ir.specs.declared.types.Scalar.{Scalar}
 use Rattle.naga_ir.specs.declared.types.Type_.{Type_}
 use Rattle.naga_ir.specs.declared.types.TypeInner.{TypeInner}
 use Rattle.naga_ir.specs.declared.types.TypeInner.TheVariants as inner
@@ -158,7 +157,8 @@ name_reason m arguments locals _ = None
 -- the initialiser of the constant or override that a global expression names
 abbrev pub initialiser_reason : Module → (here : ℕ) → Expression → Option Reason
 initialiser_reason m here (expression.Constant h) =
-    option_and_then (λ k. not_before list.GlobalExpressions here (length m.global_expressions) k.init)
+    option_and_then
+    (λ k. not_before list.GlobalExpressions here (length m.global_expressions) k.init)
     (slice_get m.constants h)
 initialiser_reason m here (expression.Override h) =
     option_and_then (not_before list.GlobalExpressions here (length m.global_expressions))
@@ -170,7 +170,8 @@ initialiser_reason m here _ = None
 abbrev pub emitted_reason : (expressions : ℕ) → (first end : ℕ) → Option Reason
 emitted_reason expressions first end =
     if nat_le first expressions
-    then (if nat_le end expressions then None else Some (Absent list.Expressions (end - 1) expressions))
+    then (if nat_le end expressions then None
+    else Some (Absent list.Expressions (end - 1) expressions))
     else Some (Absent list.Expressions first expressions)
 
 abbrev pub simple_name_reason :
@@ -509,19 +510,23 @@ made_reason m fault.TypeParts h it = part_reason h (length m.types) it
 made_reason m fault.TypeLength h it = length_reason (length m.overrides) it
 made_reason m _ h it = None
 
+-- the type and the initialiser of a constant, an override or a variable of the module
+abbrev pub global_reason :
+    Module → ModuleInfo → Fault → (ty : ℕ) → (init : Option ℕ) → Option Reason
+global_reason m info kind ty init =
+    declared_reason m.types list.GlobalExpressions (length m.global_expressions)
+    info.const_expression_types.items kind ty init
+
 abbrev pub item_reason : Module → ModuleInfo → Fault → Item → Option Reason
 item_reason m info kind item.Module = module_reason m info kind
 item_reason m info kind (item.Type h) =
     option_and_then (made_reason m kind h) (inner_at m.types h)
 item_reason m info kind (item.Constant h) =
-    option_and_then (λ k. declared_reason m.types list.GlobalExpressions (length m.global_expressions)
-    info.const_expression_types.items kind k.ty (Some k.init)) (slice_get m.constants h)
+    option_and_then (λ k. global_reason m info kind k.ty (Some k.init)) (slice_get m.constants h)
 item_reason m info kind (item.Override h) =
-    option_and_then (λ k. declared_reason m.types list.GlobalExpressions (length m.global_expressions)
-    info.const_expression_types.items kind k.ty k.init) (slice_get m.overrides h)
+    option_and_then (λ k. global_reason m info kind k.ty k.init) (slice_get m.overrides h)
 item_reason m info kind (item.GlobalVariable h) =
-    option_and_then (λ k. declared_reason m.types list.GlobalExpressions (length m.global_expressions)
-    info.const_expression_types.items kind k.ty k.init) (slice_get m.global_variables h)
+    option_and_then (λ k. global_reason m info kind k.ty k.init) (slice_get m.global_variables h)
 item_reason m info kind (item.GlobalExpression h) =
     option_and_then (expression_reason m None info.const_expression_types.items kind h)
     (slice_get m.global_expressions h)

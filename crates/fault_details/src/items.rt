@@ -1,13 +1,14 @@
 //! Why a module is not accepted, item by item.
 
-ghost use Rattle.std.specs.Prelude.{◌≡◌, length, map, slice_get};
+ghost use Rattle.std.specs.Prelude.{◌≡◌, length, slice_get};
 ghost use Rattle.std.specs.Option.{option_and_then, option_copied, option_map};
 ghost use Rattle.naga_acceptance.specs.Faults.{known_of};
-ghost use Rattle.naga_acceptance.specs.KnownTypes.{inferred, known_types};
+ghost use Rattle.naga_acceptance.specs.KnownTypes.{known_types};
 ghost use Rattle.naga_acceptance.specs.TextOrder.{text_order};
 ghost use Rattle.module_meaning.specs.TypeParts.{inner_at};
 ghost use Rattle.fault_details.specs.Reasons.{declared_reason, entry_point_reason};
 ghost use Rattle.fault_details.specs.Reasons.{expression_reason, fault_reason, function_reason};
+ghost use Rattle.fault_details.specs.Reasons.{global_reason};
 ghost use Rattle.fault_details.specs.Reasons.{item_reason, made_reason, module_reason};
 ghost use Rattle.fault_details.specs.Reasons.{sizes_reason, statement_reason, type_reason};
 ghost use Rattle.fault_details.specs.Reasons.{whole_reason};
@@ -71,9 +72,7 @@ fn global_reason<'a>(
     ty: Handle<Type_>,
     init: Option<Handle<Expression>>,
 ) -> Option<Reason<'a>>
-    ensures { option_map shown result ≡ declared_reason «module».now.types
-        ListName.GlobalExpressions (length «module».now.global_expressions)
-        info.now.const_expression_types.items fault ty init }
+    ensures { option_map shown result ≡ global_reason «module».now info.now fault ty init }
 {
     let known = Known::Global(info.const_expression_types.as_slice());
     let list = ListName::GlobalExpressions;

@@ -6,13 +6,15 @@ ghost use Rattle.naga_acceptance.specs.KnownTypes.{inferred};
 ghost use Rattle.naga_words.specs.Contexts.{global_context};
 ghost use Rattle.naga_words.specs.Segments.{IsText};
 ghost use Rattle.naga_words.specs.Spelling.{FitsResolution, resolution_segments};
-ghost use Rattle.fault_details.specs.Reasons.{NoValue, OtherType, fault_reason};
+ghost use Rattle.fault_details.specs.Reasons.{NoValue, OtherClass, OtherType, Unwanted};
+ghost use Rattle.fault_details.specs.Reasons.{fault_reason};
 ghost use Rattle.fault_details.specs.Shown.{shown};
 ghost use Rattle.fault_details.specs.Told.{IsTold, Tells, TellsOf, place_text, unspelled_text};
 
 use crate::items::fault_reason;
 use crate::reasons::Reason;
 use crate::wanted::Wanted;
+use crate::words::TypeClass;
 use naga_acceptance::Unaccepted;
 use naga_acceptance::parts::InferredType;
 use naga_info::{ModuleInfo, ToCtx, TypeResolution};
@@ -47,6 +49,7 @@ fn unspelled(alloc: Global, ty: &TypeResolution) -> Result<String, AllocError>
 }
 
 /// Whether what a type names is there.
+#[tactic(auto, using(crate::proofs::Fitting::fits_behind))]
 fn fits(module: &Module, ty: &TypeResolution) -> bool
     ensures { IsTrue result → FitsResolution
         (global_context «module».now.types «module».now.overrides) ty.now }
@@ -181,34 +184,64 @@ fn no_value(alloc: Global, module: &Module, wanted: InferredType) -> Result<Want
     })
 }
 
-/// A reason, as it is told.
-fn told_reason(alloc: Global, module: &Module, reason: Reason<'_>) -> Result<Wanted, AllocError>
-    ensures { IfOk result (Tells «module».now (shown reason.entry)) }
+/// A type where none is wanted.
+fn unwanted(alloc: Global, module: &Module, got: &TypeResolution) -> Result<Wanted, AllocError>
+    ensures { IfOk result (Tells «module».now (Unwanted got.now)) }
 {
-    Ok(match reason {
-        Reason::OtherType { wanted, got } => other_type(alloc, module, wanted, got)?,
-        Reason::OtherClass { class, got } => Wanted::Class {
-            class,
-            got: told(alloc, module, got)?,
-        },
-        Reason::NoValue { wanted } => no_value(alloc, module, wanted)?,
-        Reason::Unwanted { got } => Wanted::Nothing {
-            got: told(alloc, module, got)?,
-        },
-        Reason::Absent { list, index, count } => Wanted::Item { list, index, count },
+    Ok(Wanted::Nothing {
+        got: told(alloc, module, got)?,
+    })
+}
+
+/// A type that is of none of a class.
+fn other_class(
+    alloc: Global,
+    module: &Module,
+    class: TypeClass,
+    got: &TypeResolution,
+) -> Result<Wanted, AllocError>
+    ensures { IfOk result (Tells «module».now (OtherClass class got.now)) }
+{
+    Ok(Wanted::Class {
+        class,
+        got: told(alloc, module, got)?,
+    })
+}
+
+/// A reason, as it is told.
+fn told_reason(alloc: Global, module: &Module, reason: &Reason<'_>) -> Result<Wanted, AllocError>
+    ensures { IfOk result (Tells «module».now (shown reason.now)) }
+{
+    match reason {
+        Reason::OtherType { wanted, got } => other_type(alloc, module, *wanted, *got),
+        Reason::OtherClass { class, got } => other_class(alloc, module, *class, *got),
+        Reason::NoValue { wanted } => no_value(alloc, module, *wanted),
+        Reason::Unwanted { got } => unwanted(alloc, module, *got),
+        Reason::Absent { list, index, count } => Ok(Wanted::Item {
+            list: *list,
+            index: *index,
+            count: *count,
+        }),
         Reason::Later {
             list,
             index,
             before,
-        } => Wanted::EarlierItem {
-            list,
-            index,
-            before,
-        },
-        Reason::OtherNumber { of, wanted, got } => Wanted::Number { of, wanted, got },
-        Reason::PastParts { count, got } => Wanted::Part { count, got },
-        Reason::Needs { need } => Wanted::Need(need),
-    })
+        } => Ok(Wanted::EarlierItem {
+            list: *list,
+            index: *index,
+            before: *before,
+        }),
+        Reason::OtherNumber { of, wanted, got } => Ok(Wanted::Number {
+            of: *of,
+            wanted: *wanted,
+            got: *got,
+        }),
+        Reason::PastParts { count, got } => Ok(Wanted::Part {
+            count: *count,
+            got: *got,
+        }),
+        Reason::Needs { need } => Ok(Wanted::Need(*need)),
+    }
 }
 
 /// What was wanted at a place where the module is not accepted, and what stands there, by the fault
@@ -243,7 +276,7 @@ pub fn explain(
     ensures { IfOk result (TellsOf «module».now (fault_reason «module».now info.now fault)) }
 {
     match fault_reason(module, info, fault) {
-        Some(reason) => Ok(Some(told_reason(alloc, module, reason)?)),
+        Some(reason) => Ok(Some(told_reason(alloc, module, &reason)?)),
         None => Ok(None),
     }
 }

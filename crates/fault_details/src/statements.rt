@@ -1,9 +1,9 @@
 //! Why a statement does not get what it wants.
 
-ghost use Rattle.std.specs.Prelude.{◌≡◌, length, slice_get, false};
+ghost use Rattle.std.specs.Prelude.{◌≡◌, length, slice_get};
 ghost use Rattle.std.specs.Option.{option_and_then, option_map, option_or};
 ghost use Rattle.naga_ir.specs.StatementViews.{cases_of, tree_of};
-ghost use Rattle.naga_acceptance.specs.KnownTypes.{inferred, known_types};
+ghost use Rattle.naga_acceptance.specs.KnownTypes.{known_types};
 ghost use Rattle.module_meaning.specs.StatementsFit.{is_atomic_result, is_ballot_result};
 ghost use Rattle.module_meaning.specs.StatementsFit.{is_subgroup_result, is_uniform_load_result};
 ghost use Rattle.fault_details.specs.Reasons.{answer_reason, call_reason, class_reason};

@@ -1,6 +1,6 @@
 //! Types that are not those that are wanted.
 
-ghost use Rattle.std.specs.Prelude.{◌≡◌, []};
+ghost use Rattle.std.specs.Prelude.{◌≡◌, [], false};
 ghost use Rattle.std.specs.Option.{option_and_then, option_copied, option_map, option_map_or};
 ghost use Rattle.std.specs.Option.{option_or};
 ghost use Rattle.module_meaning.specs.TypeParts.{known_inner, part_count};

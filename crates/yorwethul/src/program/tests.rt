@@ -312,7 +312,8 @@ struct Out: no layout
 ";
 
 const OPERAND_FAULT: &str = "not accepted: module.functions[0].expressions[1]: \
-    an operand does not stand before the expression\n";
+    an operand does not stand before the expression: \
+    names expressions[1], wanted one before expressions[1]\n";
 
 const OPERAND_LISTING: &str = "\
 not accepted: module.functions[0].expressions[1]: an operand does not stand before the expression
