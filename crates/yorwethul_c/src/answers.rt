@@ -50,6 +50,7 @@ pub struct Answer {
 }
 
 /// Writes the module that the JSON holds with what is known of it.
+#[tactic(auto, using(crate::proofs::Told::unread_written))]
 pub fn written(alloc: Global, json: &[u8], flags: u32) -> Answer
     ensures { TellsOfWriting json.now flags result.status (string_bytes result.text) }
 {
@@ -63,6 +64,7 @@ pub fn written(alloc: Global, json: &[u8], flags: u32) -> Answer
 }
 
 /// Says whether the module that the JSON holds is accepted.
+#[tactic(auto, using(crate::proofs::Told::unread_checked))]
 pub fn checked(alloc: Global, json: &[u8]) -> Answer
     ensures { TellsOfChecking json.now result.status (string_bytes result.text) }
 {
@@ -73,6 +75,7 @@ pub fn checked(alloc: Global, json: &[u8]) -> Answer
 }
 
 /// Tells where the members of the structs stand of the module that the JSON holds.
+#[tactic(auto, using(crate::proofs::Told::unread_laid_out))]
 pub fn laid_out(alloc: Global, json: &[u8]) -> Answer
     ensures { TellsOfLayouts json.now result.status (string_bytes result.text) }
 {
