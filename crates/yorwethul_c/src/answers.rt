@@ -204,9 +204,16 @@ fn not_written(alloc: Global, unwritten: Unwritten) -> Answer
 fn checked_known(alloc: Global, known: &Known) -> Answer
     ensures { (json : List ℕ) → TellsOfChecking json result.status (string_bytes result.text) }
 {
-    if let Err(unwritten) = look_into(alloc, &known.module, DEEPEST_NESTING) {
-        return not_written(alloc, unwritten);
+    match look_into(alloc, &known.module, DEEPEST_NESTING) {
+        Ok(()) => checked_flat(alloc, known),
+        Err(unwritten) => not_written(alloc, unwritten),
     }
+}
+
+/// Says whether a module that is nested no deeper than it may be is accepted.
+fn checked_flat(alloc: Global, known: &Known) -> Answer
+    ensures { (json : List ℕ) → TellsOfChecking json result.status (string_bytes result.text) }
+{
     match unaccepted(&known.module, &known.info) {
         Some(fault) => not_accepted(alloc, fault),
         None => Answer {
@@ -219,9 +226,16 @@ fn checked_known(alloc: Global, known: &Known) -> Answer
 fn laid_out_known(alloc: Global, known: &Known) -> Answer
     ensures { (json : List ℕ) → TellsOfLayouts json result.status (string_bytes result.text) }
 {
-    if let Err(unwritten) = look_into(alloc, &known.module, DEEPEST_NESTING) {
-        return not_written(alloc, unwritten);
+    match look_into(alloc, &known.module, DEEPEST_NESTING) {
+        Ok(()) => laid_out_flat(alloc, known),
+        Err(unwritten) => not_written(alloc, unwritten),
     }
+}
+
+/// Tells the layouts of one that is nested no deeper than it may be.
+fn laid_out_flat(alloc: Global, known: &Known) -> Answer
+    ensures { (json : List ℕ) → TellsOfLayouts json result.status (string_bytes result.text) }
+{
     match unaccepted(&known.module, &known.info) {
         Some(fault) => not_accepted(alloc, fault),
         None => match layout_table(alloc, &known.module, &known.info) {
