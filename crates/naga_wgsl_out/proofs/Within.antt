@@ -60,7 +60,7 @@ pub answers_bounded : {Y : Type 0} (flags own : WriterFlags) (m : Module) (info 
     TellsBounded bound answer now result → AnswersBounded flags bound m info result
 answers_bounded flags own m info bound answer content held now before after (Ok text) same empty none taken faithful resolves binds lays appends behind tells =
     let P : Result Unit Error → Type 0 = λ a. FaithfulWriting own m info a content held before after in
-    let f = subst P tells.0 faithful in
+    let f : FaithfulWriting own m info (Ok tt) content held before after = subst P tells.0 faithful in
     let whole : FaithfulWriting own m info (Ok tt) content held 0 0 = record { refusals = f.refusals; reading = f.reading; interface = f.interface; runs = f.runs } in
     let is : string_bytes text ≡ held = tells.1 ∙ taken in
     text_within m info bound own flags content held (string_bytes text) same empty is whole

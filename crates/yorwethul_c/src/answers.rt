@@ -51,6 +51,7 @@ pub struct Answer {
 }
 
 /// Writes the module that the JSON holds with what is known of it.
+#[tactic(auto, using(crate::proofs::Told::unread_written))]
 pub fn written(alloc: Global, json: &[u8], flags: u32) -> Answer
     ensures { TellsOfWriting json.now flags result.status (string_bytes result.text) }
 {
@@ -64,6 +65,7 @@ pub fn written(alloc: Global, json: &[u8], flags: u32) -> Answer
 }
 
 /// Says whether the module that the JSON holds is accepted.
+#[tactic(auto, using(crate::proofs::Told::unread_checked))]
 pub fn checked(alloc: Global, json: &[u8]) -> Answer
     ensures { TellsOfChecking json.now result.status (string_bytes result.text) }
 {
@@ -74,6 +76,7 @@ pub fn checked(alloc: Global, json: &[u8]) -> Answer
 }
 
 /// Tells where the members of the structs stand of the module that the JSON holds.
+#[tactic(auto, using(crate::proofs::Told::unread_laid_out))]
 pub fn laid_out(alloc: Global, json: &[u8]) -> Answer
     ensures { TellsOfLayouts json.now result.status (string_bytes result.text) }
 {
@@ -217,9 +220,16 @@ fn not_written(alloc: Global, known: &Known, unwritten: Unwritten) -> Answer
 fn checked_known(alloc: Global, known: &Known) -> Answer
     ensures { (json : List ℕ) → TellsOfChecking json result.status (string_bytes result.text) }
 {
-    if let Err(unwritten) = look_into(alloc, &known.module, DEEPEST_NESTING) {
-        return not_written(alloc, known, unwritten);
+    match look_into(alloc, &known.module, DEEPEST_NESTING) {
+        Ok(()) => checked_flat(alloc, known),
+        Err(unwritten) => not_written(alloc, known, unwritten),
     }
+}
+
+/// Says whether a module that is nested no deeper than it may be is accepted.
+fn checked_flat(alloc: Global, known: &Known) -> Answer
+    ensures { (json : List ℕ) → TellsOfChecking json result.status (string_bytes result.text) }
+{
     match unaccepted(&known.module, &known.info) {
         Some(fault) => not_accepted(alloc, known, fault),
         None => Answer {
@@ -232,9 +242,16 @@ fn checked_known(alloc: Global, known: &Known) -> Answer
 fn laid_out_known(alloc: Global, known: &Known) -> Answer
     ensures { (json : List ℕ) → TellsOfLayouts json result.status (string_bytes result.text) }
 {
-    if let Err(unwritten) = look_into(alloc, &known.module, DEEPEST_NESTING) {
-        return not_written(alloc, known, unwritten);
+    match look_into(alloc, &known.module, DEEPEST_NESTING) {
+        Ok(()) => laid_out_flat(alloc, known),
+        Err(unwritten) => not_written(alloc, known, unwritten),
     }
+}
+
+/// Tells the layouts of one that is nested no deeper than it may be.
+fn laid_out_flat(alloc: Global, known: &Known) -> Answer
+    ensures { (json : List ℕ) → TellsOfLayouts json result.status (string_bytes result.text) }
+{
     match unaccepted(&known.module, &known.info) {
         Some(fault) => not_accepted(alloc, known, fault),
         None => match layout_table(alloc, &known.module, &known.info) {
