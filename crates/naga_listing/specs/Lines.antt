@@ -104,6 +104,11 @@ abbrev mutual
       line (wrapping_add level 1) (row.Case v falls)
       ∷ (block_lines (wrapping_add level 2) number b ++ case_lines level (after_block number b) cs)
 
+-- a block of the statement at this level, after a line that tells which
+abbrev pub headed_lines : Row → (level number : ℕ) → BlockTree → List Line
+headed_lines r level number b =
+    line (wrapping_add level 1) r ∷ block_lines (wrapping_add level 2) number b
+
 abbrev pub body_lines : BlockTree → List Line
 body_lines no_statements = []
 body_lines (statement s b) = line 1 (row.Title title.Statements) ∷ block_lines 2 0 (statement s b)

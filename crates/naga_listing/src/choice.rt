@@ -58,6 +58,7 @@ fn marked_line(spot: Spot, lines: &[Line]) -> usize
         .unwrap_or(0)
 }
 
+#[tactic(auto, using(crate::proofs::Choosing::kept_next))]
 fn kept_lines(
     alloc: Global,
     marked: usize,

@@ -4,7 +4,7 @@ ghost use Rattle.std.specs.Prelude.{◌≡◌, [], ◌∷◌, ◌++◌, IfOk};
 ghost use Rattle.naga_ir.specs.StatementViews.{cases_of, tree_of};
 ghost use Rattle.naga_listing.specs.Lines.{after_block, after_cases, after_statement};
 ghost use Rattle.naga_listing.specs.Lines.{all_lines, another_lines, block_lines, body_lines};
-ghost use Rattle.naga_listing.specs.Lines.{case_lines};
+ghost use Rattle.naga_listing.specs.Lines.{case_lines, headed_lines};
 ghost use Rattle.naga_listing.specs.Lines.{declaration_lines, function_lines, items_below};
 ghost use Rattle.naga_listing.specs.Lines.{section, spot_in, statement_lines};
 
@@ -21,10 +21,7 @@ pub(crate) fn all_lines(
     ensures { IfOk result (λ lines. lines.items ≡ all_lines «module».now listed) }
 {
     let mut lines = Vec::new(alloc);
-    lines.push(Line {
-        level: 0,
-        row: Row::Item(Spot::Whole),
-    })?;
+    push_row(&mut lines, 0, Row::Item(Spot::Whole))?;
     match listed {
         Listed::Declarations => add_declarations(&mut lines, module)?,
         Listed::Function(handle) => {
@@ -65,16 +62,14 @@ fn add_function(lines: &mut Vec<Line>, function: &Function) -> Result<(), AllocE
 }
 
 /// A list of so many items under its title, and nothing where there are none.
+#[tactic(auto, using(crate::proofs::AddedLines::full_section))]
 fn add_section(lines: &mut Vec<Line>, title: Title, count: usize) -> Result<(), AllocError>
     ensures { IfOk result (λ _. lines.new.items ≡ lines.old.items ++ section title count) }
 {
     if count == 0 {
         return Ok(());
     }
-    lines.push(Line {
-        level: 1,
-        row: Row::Title(title),
-    })?;
+    push_row(lines, 1, Row::Title(title))?;
     add_items(lines, title, count)
 }
 
@@ -82,10 +77,7 @@ fn add_items(lines: &mut Vec<Line>, title: Title, count: usize) -> Result<(), Al
     ensures { IfOk result (λ _. lines.new.items ≡ lines.old.items ++ items_below title count) }
 {
     for index in 0..count {
-        lines.push(Line {
-            level: 2,
-            row: Row::Item(spot_in(title, index)),
-        })?;
+        push_row(lines, 2, Row::Item(spot_in(title, index)))?;
     }
     Ok(())
 }
@@ -106,16 +98,14 @@ fn spot_in(title: Title, index: usize) -> Spot
     }
 }
 
+#[tactic(auto, using(crate::proofs::AddedLines::full_body))]
 fn add_body(lines: &mut Vec<Line>, body: &Block) -> Result<(), AllocError>
     ensures { IfOk result (λ _. lines.new.items ≡ lines.old.items ++ body_lines body.now) }
 {
     if body.is_empty() {
         return Ok(());
     }
-    lines.push(Line {
-        level: 1,
-        row: Row::Title(Title::Statements),
-    })?;
+    push_row(lines, 1, Row::Title(Title::Statements))?;
     add_block(lines, body, 2, 0)?;
     Ok(())
 }
@@ -178,14 +168,34 @@ fn add_block(
 {
     let mut number = first;
     for statement in block.as_slice() {
-        number = add_statement(lines, statement, level, number)?;
+        let next = add_statement(lines, statement, level, number)?;
+        number = next;
     }
     Ok(number)
 }
 
-/// The lines of another block of the statement that stands at this level, if it has statements,
-/// after a line that tells which it is.
+/// The lines of a block of the statement that stands at this level, after a line that tells which
+/// it is.
 #[cycle(lines)]
+#[tactic(auto, using(crate::proofs::AddedLines::headed))]
+fn add_headed(
+    lines: &mut Vec<Line>,
+    row: Row,
+    block: &Block,
+    level: usize,
+    first: usize,
+) -> Result<usize, AllocError>
+    ensures lines { IfOk result (λ _. lines.new.items
+        ≡ lines.old.items ++ headed_lines row level first block.now) }
+    ensures next { IfOk result (λ next. next ≡ after_block first block.now) }
+{
+    push_row(lines, level.wrapping_add(1), row)?;
+    add_block(lines, block, level.wrapping_add(2), first)
+}
+
+/// The same of a block that has a line only where it has statements.
+#[cycle(lines)]
+#[tactic(auto, using(crate::proofs::AddedLines::another))]
 fn add_another(
     lines: &mut Vec<Line>,
     row: Row,
@@ -198,10 +208,10 @@ fn add_another(
     ensures next { IfOk result (λ next. next ≡ after_block first block.now) }
 {
     if block.is_empty() {
-        return Ok(first);
+        Ok(first)
+    } else {
+        add_headed(lines, row, block, level, first)
     }
-    push_row(lines, level.wrapping_add(1), row)?;
-    add_block(lines, block, level.wrapping_add(2), first)
 }
 
 #[cycle(lines)]
@@ -218,8 +228,8 @@ fn add_cases(
     let mut number = first;
     for case in cases {
         let row = Row::Case(case.value, case.fall_through);
-        push_row(lines, level.wrapping_add(1), row)?;
-        number = add_block(lines, &case.body, level.wrapping_add(2), number)?;
+        let next = add_headed(lines, row, &case.body, level, number)?;
+        number = next;
     }
     Ok(number)
 }

@@ -9,6 +9,7 @@ use naga_ir::{Block, Statement, SwitchCase};
 
 /// The statement of a body with this number in the order of the text, those in blocks counted too,
 /// each after the one that holds the block.
+#[tactic(auto, using(crate::proofs::Seeking::sought_item))]
 pub(crate) fn statement_at(body: &Block, number: usize) -> Option<&Statement>
     ensures { option_map (λ s. tree_of s.now) result ≡ slice_get (trees_in body.now) number }
 {
@@ -21,7 +22,6 @@ pub(crate) fn statement_at(body: &Block, number: usize) -> Option<&Statement>
 /// Of a statement and those in its blocks the one before which so many stand; else how many are
 /// left to be gone past.
 #[cycle(seek)]
-#[tactic(auto, using(crate::proofs::Seeking::sought_append))]
 fn seek_statement(statement: &Statement, left: usize) -> Result<&Statement, usize>
     ensures { MatchResult result
         (λ s. sought left (statement_trees (tree_of statement.now)) ≡ Ok (tree_of s.now))
@@ -45,7 +45,7 @@ fn seek_statement(statement: &Statement, left: usize) -> Result<&Statement, usiz
 }
 
 #[cycle(seek)]
-#[tactic(auto, using(crate::proofs::Seeking::sought_append))]
+#[tactic(auto, using(crate::proofs::Seeking::found_first, crate::proofs::Seeking::found_then))]
 fn seek_two<'a>(first: &'a Block, second: &'a Block, left: usize) -> Result<&'a Statement, usize>
     ensures { MatchResult result
         (λ s. sought left (trees_in first.now ++ trees_in second.now) ≡ Ok (tree_of s.now))
