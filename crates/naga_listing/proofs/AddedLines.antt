@@ -54,6 +54,12 @@ pub cases_number_more : (n n' : ℕ) (cs cs' : CaseTrees) (v : SwitchValue) (b :
 cases_number_more n n' cs cs' v b falls whole split next so_far =
     ap (λ m. after_cases m cs') next ∙ ap (after_cases n) (sym split) ∙ so_far
 
+-- a line, and then those of the statements inside
+pub first_then : (l : Line) (before middle now more : List Line) → middle ≡ before ++ (l ∷ [])
+    → now ≡ middle ++ more → now ≡ before ++ (l ∷ more)
+first_then l before middle now more first then =
+    then ∙ ap (λ ls. ls ++ more) first ∙ append_assoc before (l ∷ []) more
+
 -- the line that tells which block it is, and those of its statements
 pub headed : (level one two n : ℕ) (r : Row) (b : BlockTree) (before middle now : List Line)
     → one ≡ wrapping_add level 1 → two ≡ wrapping_add level 2

@@ -1,6 +1,6 @@
 -- A statement is sought in one list after another.
 use Rattle.std.proofs.Common.{◌≡◌, ℕ, ◌+◌, ◌<◌, zero, suc, List, [], ◌∷◌, ◌++◌, length, drop, refl}
-use Rattle.std.proofs.Common.{ap, ◌∙◌, sym, slice_index_or, add-one, slice_get, Bool}
+use Rattle.std.proofs.Common.{ap, ◌∙◌, sym, slice_index_or, add-one, slice_get, Bool, arith}
 use Rattle.std.proofs.Math.Seq.{drop-cons}
 use Rattle.std.specs.Prelude.{Result, Ok, Err}
 use Rattle.std.specs.Result.{result_ok}
@@ -32,6 +32,13 @@ pub found_then : (left rest : ℕ) (ss ts : List StatementTree) (r : Result Stat
 found_then left rest ss ts r past there =
     sought_append left ss ts ∙ ap (λ q. onward q ts) past ∙ there
 
+-- where some are to be gone past
+pub sought_past : (left rest : ℕ) (s : StatementTree) (ss : List StatementTree)
+    → rest + 1 ≡ left → sought left (s ∷ ss) ≡ sought rest ss
+sought_past zero rest s ss e = absurd (omega arith)
+sought_past (suc left) rest s ss e = let same : left ≡ rest = omega arith in
+    ap (λ n. sought n ss) same
+
 -- what is found is the item of that number
 pub sought_item : (n : ℕ) (ss : List StatementTree) → result_ok (sought n ss) ≡ slice_get ss n
 sought_item n [] = refl
@@ -57,37 +64,37 @@ first_case items i item h is = ap cases_of (drop_first i items item h is)
 
 -- a statement of a block is the one, or it is among those after it
 pub block_found : (left first : ℕ) (b b' whole : BlockTree) (s found : StatementTree)
-    → b ≡ statement s b' → sought left (statement_trees s) ≡ Ok found
+    → b ≡ statement s b' → Ok found ≡ sought left (statement_trees s)
     → sought left (trees_in b) ≡ sought first (trees_in whole)
-    → sought first (trees_in whole) ≡ Ok found
+    → Ok found ≡ sought first (trees_in whole)
 block_found left first b b' whole s found split here so_far =
-    sym so_far ∙ ap (λ d. sought left (trees_in d)) split
-    ∙ found_first left (statement_trees s) (trees_in b') found here
+    sym (found_first left (statement_trees s) (trees_in b') found (sym here))
+    ∙ ap (λ d. sought left (trees_in d)) (sym split) ∙ so_far
 
 pub block_more : (left rest first : ℕ) (b b' whole : BlockTree) (s : StatementTree)
-    → b ≡ statement s b' → sought left (statement_trees s) ≡ Err rest
+    → b ≡ statement s b' → Err rest ≡ sought left (statement_trees s)
     → sought left (trees_in b) ≡ sought first (trees_in whole)
     → sought rest (trees_in b') ≡ sought first (trees_in whole)
 block_more left rest first b b' whole s split past so_far =
     sym (ap (λ d. sought left (trees_in d)) split
-    ∙ found_then left rest (statement_trees s) (trees_in b') (sought rest (trees_in b')) past refl)
+    ∙ found_then left rest (statement_trees s) (trees_in b') (sought rest (trees_in b')) (sym past) refl)
     ∙ so_far
 
 pub cases_found : (left first : ℕ) (cs cs' whole : CaseTrees) (v : SwitchValue) (b : BlockTree)
     (falls : Bool) (found : StatementTree) → cs ≡ case v b falls cs'
-    → sought left (trees_in b) ≡ Ok found
+    → Ok found ≡ sought left (trees_in b)
     → sought left (case_trees cs) ≡ sought first (case_trees whole)
-    → sought first (case_trees whole) ≡ Ok found
+    → Ok found ≡ sought first (case_trees whole)
 cases_found left first cs cs' whole v b falls found split here so_far =
-    sym so_far ∙ ap (λ d. sought left (case_trees d)) split
-    ∙ found_first left (trees_in b) (case_trees cs') found here
+    sym (found_first left (trees_in b) (case_trees cs') found (sym here))
+    ∙ ap (λ d. sought left (case_trees d)) (sym split) ∙ so_far
 
 pub cases_more : (left rest first : ℕ) (cs cs' whole : CaseTrees) (v : SwitchValue)
     (b : BlockTree) (falls : Bool) → cs ≡ case v b falls cs'
-    → sought left (trees_in b) ≡ Err rest
+    → Err rest ≡ sought left (trees_in b)
     → sought left (case_trees cs) ≡ sought first (case_trees whole)
     → sought rest (case_trees cs') ≡ sought first (case_trees whole)
 cases_more left rest first cs cs' whole v b falls split past so_far =
     sym (ap (λ d. sought left (case_trees d)) split
-    ∙ found_then left rest (trees_in b) (case_trees cs') (sought rest (case_trees cs')) past refl)
+    ∙ found_then left rest (trees_in b) (case_trees cs') (sought rest (case_trees cs')) (sym past) refl)
     ∙ so_far

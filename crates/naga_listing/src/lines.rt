@@ -2,11 +2,12 @@
 
 ghost use Rattle.std.specs.Prelude.{◌≡◌, [], ◌∷◌, ◌++◌, IfOk};
 ghost use Rattle.naga_ir.specs.StatementViews.{cases_of, tree_of};
-ghost use Rattle.naga_listing.specs.Lines.{after_block, after_cases, after_statement};
-ghost use Rattle.naga_listing.specs.Lines.{all_lines, another_lines, block_lines, body_lines};
-ghost use Rattle.naga_listing.specs.Lines.{case_lines, headed_lines};
-ghost use Rattle.naga_listing.specs.Lines.{declaration_lines, function_lines, items_below};
-ghost use Rattle.naga_listing.specs.Lines.{section, spot_in, statement_lines};
+ghost use Rattle.naga_listing.specs.Lines.{after_block, after_cases, after_inside};
+ghost use Rattle.naga_listing.specs.Lines.{after_statement, all_lines, another_lines, block_lines};
+ghost use Rattle.naga_listing.specs.Lines.{body_lines, case_lines, declaration_lines};
+ghost use Rattle.naga_listing.specs.Lines.{function_lines, headed_lines, inside_lines};
+ghost use Rattle.naga_listing.specs.Lines.{items_below, section, spot_in, statement_lines};
+ghost use Rattle.naga_listing.specs.Lines.{two_lines};
 
 use crate::places::{Line, Listed, Row, Spot, Title};
 use naga_ir::{Block, Function, Module, Place, Statement, SwitchCase};
@@ -98,7 +99,7 @@ fn spot_in(title: Title, index: usize) -> Spot
     }
 }
 
-#[tactic(auto, using(crate::proofs::AddedLines::full_body))]
+#[tactic(auto, using(crate::proofs::AddedLines::full_body, crate::proofs::AddedLines::no_body))]
 fn add_body(lines: &mut Vec<Line>, body: &Block) -> Result<(), AllocError>
     ensures { IfOk result (λ _. lines.new.items ≡ lines.old.items ++ body_lines body.now) }
 {
@@ -121,6 +122,7 @@ fn push_row(lines: &mut Vec<Line>, level: usize, row: Row) -> Result<(), AllocEr
 /// The lines of a statement, which has this number, and of those in its blocks. Gives the next
 /// number.
 #[cycle(lines)]
+#[tactic(auto, using(crate::proofs::AddedLines::first_then))]
 fn add_statement(
     lines: &mut Vec<Line>,
     statement: &Statement,
@@ -132,25 +134,55 @@ fn add_statement(
     ensures next { IfOk result (λ next. next ≡ after_statement number (tree_of statement.now)) }
 {
     push_row(lines, level, Row::Item(Spot::Statement(number)))?;
-    let next = number.wrapping_add(1);
-    let inside = level.wrapping_add(2);
+    add_inside(lines, statement, level, number.wrapping_add(1))
+}
+
+/// The lines of the statements in the blocks of a statement, of which the first has this number.
+/// Gives the number after them.
+#[cycle(lines)]
+fn add_inside(
+    lines: &mut Vec<Line>,
+    statement: &Statement,
+    level: usize,
+    first: usize,
+) -> Result<usize, AllocError>
+    ensures lines { IfOk result (λ _. lines.new.items
+        ≡ lines.old.items ++ inside_lines level first (tree_of statement.now)) }
+    ensures next { IfOk result (λ next. next ≡ after_inside first (tree_of statement.now)) }
+{
     match statement {
-        Statement::Block(block) => add_block(lines, block, inside, next),
+        Statement::Block(block) => add_block(lines, block, level.wrapping_add(2), first),
         Statement::If { accept, reject, .. } => {
-            let next = add_block(lines, accept, inside, next)?;
-            add_another(lines, Row::Else, reject, level, next)
+            add_two(lines, accept, Row::Else, reject, level, first)
         }
-        Statement::Switch { cases, .. } => add_cases(lines, cases, level, next),
+        Statement::Switch { cases, .. } => add_cases(lines, cases, level, first),
         Statement::Loop {
             body,
             continuing,
             ..
-        } => {
-            let next = add_block(lines, body, inside, next)?;
-            add_another(lines, Row::Continuing, continuing, level, next)
-        }
-        _ => Ok(next),
+        } => add_two(lines, body, Row::Continuing, continuing, level, first),
+        _ => Ok(first),
     }
+}
+
+/// The lines of two blocks of the statement that stands at this level, the second after a line that
+/// tells which it is.
+#[cycle(lines)]
+fn add_two(
+    lines: &mut Vec<Line>,
+    accept: &Block,
+    row: Row,
+    reject: &Block,
+    level: usize,
+    first: usize,
+) -> Result<usize, AllocError>
+    ensures lines { IfOk result (λ _. lines.new.items
+        ≡ lines.old.items ++ two_lines row level first accept.now reject.now) }
+    ensures next { IfOk result (λ next.
+        next ≡ after_block (after_block first accept.now) reject.now) }
+{
+    let next = add_block(lines, accept, level.wrapping_add(2), first)?;
+    add_another(lines, row, reject, level, next)
 }
 
 /// The lines of the statements of a block, of which the first has this number. Gives the number
@@ -195,7 +227,7 @@ fn add_headed(
 
 /// The same of a block that has a line only where it has statements.
 #[cycle(lines)]
-#[tactic(auto, using(crate::proofs::AddedLines::another))]
+#[tactic(auto, using(crate::proofs::AddedLines::another, crate::proofs::AddedLines::no_other, crate::proofs::AddedLines::number_stays))]
 fn add_another(
     lines: &mut Vec<Line>,
     row: Row,
