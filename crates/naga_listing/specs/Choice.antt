@@ -63,7 +63,7 @@ after_gap (l ∷ ls) = if is_gap l.row then l ∷ ls else line 0 row.Gap ∷ l �
 abbrev pub is_shown : (marked : ℕ) (spots : List Spot) (i : ℕ) → Line → Kept → Bool
 is_shown marked spots i l k =
     if is_title l.row then k.opened
-    else (is_near marked i || (nat_lt l.level k.level || (i == 0 || is_named spots l.row)))
+    else (((is_near marked i || nat_lt l.level k.level) || (i == 0)) || is_named spots l.row)
 
 -- a line that is shown, or left out, before those that were kept
 abbrev pub with_line : (shown : Bool) → Line → Kept → Kept
