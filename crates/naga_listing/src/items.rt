@@ -4,6 +4,7 @@ use crate::declarations::{
     push_constant, push_declared_type, push_init, push_override, push_variable,
 };
 use crate::expressions::{push_expression, push_function};
+use crate::lookup::item_at;
 use crate::numbers::statement_at;
 use crate::operands::{push_label, push_numbered};
 use crate::places::{Listed, Spot};
@@ -47,13 +48,7 @@ impl<'a> Lister<'a> {
     fn function(&self) -> Option<&'a Function> {
         match self.listed {
             Listed::Declarations => None,
-            Listed::Function(handle) => {
-                if handle.index() < self.module.functions.len() {
-                    Some(&self.module.functions[handle])
-                } else {
-                    None
-                }
-            }
+            Listed::Function(handle) => item_at(&self.module.functions, handle),
             Listed::EntryPoint(index) => match self.module.entry_points.get(index) {
                 Some(entry_point) => Some(&entry_point.function),
                 None => None,
@@ -104,8 +99,7 @@ impl<'a> Lister<'a> {
         handle: Handle<Expression>,
         out: &mut String,
     ) -> Result<(), AllocError> {
-        if handle.index() < self.module.global_expressions.len() {
-            let expression = &self.module.global_expressions[handle];
+        if let Some(expression) = item_at(&self.module.global_expressions, handle) {
             push_expression(self.module, None, expression, out)?;
         }
         Ok(())
@@ -117,8 +111,7 @@ impl<'a> Lister<'a> {
         out: &mut String,
     ) -> Result<(), AllocError> {
         if let Some(function) = self.function() {
-            if handle.index() < function.local_variables.len() {
-                let local = &function.local_variables[handle];
+            if let Some(local) = item_at(&function.local_variables, handle) {
                 push_init(local.init, out)?;
                 push_label(local.name.as_ref(), out)?;
             }
@@ -133,8 +126,7 @@ impl<'a> Lister<'a> {
         out: &mut String,
     ) -> Result<(), AllocError> {
         if let Some(function) = self.function() {
-            if handle.index() < function.expressions.len() {
-                let expression = &function.expressions[handle];
+            if let Some(expression) = item_at(&function.expressions, handle) {
                 push_expression(self.module, Some(function), expression, out)?;
             }
             if let Some(label) = function.named_expressions.get(&handle) {
@@ -194,16 +186,12 @@ impl<'a> Lister<'a> {
     /// The type that a constant, an override or a variable is declared with.
     fn declared_type(&self, spot: Spot) -> Option<Handle<Type_>> {
         match spot {
-            Spot::Constant(handle) if handle.index() < self.module.constants.len() => {
-                Some(self.module.constants[handle].ty)
+            Spot::Constant(handle) => Some(item_at(&self.module.constants, handle)?.ty),
+            Spot::Override(handle) => Some(item_at(&self.module.overrides, handle)?.ty),
+            Spot::GlobalVariable(handle) => {
+                Some(item_at(&self.module.global_variables, handle)?.ty)
             }
-            Spot::Override(handle) if handle.index() < self.module.overrides.len() => {
-                Some(self.module.overrides[handle].ty)
-            }
-            Spot::GlobalVariable(handle) if handle.index() < self.module.global_variables.len() => {
-                Some(self.module.global_variables[handle].ty)
-            }
-            Spot::Local(handle) => local_type(self.function()?, handle),
+            Spot::Local(handle) => Some(item_at(&self.function()?.local_variables, handle)?.ty),
             _ => None,
         }
     }
@@ -269,14 +257,6 @@ impl<'a> Lister<'a> {
             write!(out, "{:?}: ", label.as_str())?;
         }
         push_type(self.alloc, self.module, argument.ty, out)
-    }
-}
-
-fn local_type(function: &Function, handle: Handle<LocalVariable>) -> Option<Handle<Type_>> {
-    if handle.index() < function.local_variables.len() {
-        Some(function.local_variables[handle].ty)
-    } else {
-        None
     }
 }
 

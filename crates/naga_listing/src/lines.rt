@@ -9,6 +9,7 @@ ghost use Rattle.naga_listing.specs.Lines.{function_lines, headed_lines, inside_
 ghost use Rattle.naga_listing.specs.Lines.{items_below, section, spot_in, statement_lines};
 ghost use Rattle.naga_listing.specs.Lines.{two_lines};
 
+use crate::lookup::item_at;
 use crate::places::{Line, Listed, Row, Spot, Title};
 use naga_ir::{Block, Function, Module, Place, Statement, SwitchCase};
 use std::alloc::{AllocError, Global};
@@ -26,8 +27,8 @@ pub(crate) fn all_lines(
     match listed {
         Listed::Declarations => add_declarations(&mut lines, module)?,
         Listed::Function(handle) => {
-            if handle.index() < module.functions.len() {
-                add_function(&mut lines, &module.functions[handle])?;
+            if let Some(function) = item_at(&module.functions, handle) {
+                add_function(&mut lines, function)?;
             }
         }
         Listed::EntryPoint(index) => {
