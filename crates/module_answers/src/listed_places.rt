@@ -1,7 +1,5 @@
 //! Where a module is not accepted, as a place of a listing.
 
-ghost use Rattle.std.specs.Prelude.{◌≡◌};
-
 use naga_listing::{Listed, Place, Spot};
 use naga_wgsl_out::info::{FunctionPlace, Item};
 

@@ -1,7 +1,7 @@
 -- Lines that are added one after another.
 --
 -- Throughout, before and now are all lines before some are added and then, and n and n' the numbers.
-use Rattle.std.proofs.Common.{◌≡◌, ℕ, zero, suc, ◌+◌, ◌<◌, ◌≤◌, List, [], ◌∷◌, ◌++◌, length, drop}
+use Rattle.std.proofs.Common.{◌≡◌, ℕ, zero, suc, ◌+◌, ◌<◌, List, [], ◌∷◌, ◌++◌, add-one}
 use Rattle.std.proofs.Common.{ap, ◌∙◌, sym, refl, arith, append_assoc, Bool, true, false}
 use Rattle.std.proofs.lemmas.List.{append-nil}
 use Rattle.std.specs.Hash.DefaultHasher.{wrapping_add}
@@ -11,11 +11,12 @@ use Rattle.naga_ir.specs.declared.statement.SwitchValue.{SwitchValue}
 use Rattle.naga_listing.specs.declared.places.Line.{Line}
 use Rattle.naga_listing.specs.declared.places.Row.{Row}
 use Rattle.naga_listing.specs.declared.places.Row.TheVariants as row
+use Rattle.naga_listing.specs.declared.places.Spot.{Spot}
 use Rattle.naga_listing.specs.declared.places.Title.{Title}
 use Rattle.naga_listing.specs.declared.places.Title.TheVariants as title
 use Rattle.naga_listing.specs.Lines.{after_block, after_cases, after_statement, another_lines}
 use Rattle.naga_listing.specs.Lines.{block_lines, body_lines, case_lines, headed_lines, items_below}
-use Rattle.naga_listing.specs.Lines.{line, section, statement_lines}
+use Rattle.naga_listing.specs.Lines.{line, section, spot_in, statement_lines}
 
 -- one statement more of a block
 pub block_more : (level n n' : ℕ) (b b' : BlockTree) (s : StatementTree)
@@ -57,8 +58,8 @@ cases_number_more n n' cs cs' v b falls whole split next so_far =
 -- a line, and then those of the statements inside
 pub first_then : (l : Line) (before middle now more : List Line) → middle ≡ before ++ (l ∷ [])
     → now ≡ middle ++ more → now ≡ before ++ (l ∷ more)
-first_then l before middle now more first then =
-    then ∙ ap (λ ls. ls ++ more) first ∙ append_assoc before (l ∷ []) more
+first_then l before middle now more first later =
+    later ∙ ap (λ ls. ls ++ more) first ∙ append_assoc before (l ∷ []) more
 
 -- the line that tells which block it is, and those of its statements
 pub headed : (level one two n : ℕ) (r : Row) (b : BlockTree) (before middle now : List Line)
@@ -86,6 +87,18 @@ no_other r level n (statement s b) before h = absurd (cc)
 pub number_stays : (n : ℕ) (b : BlockTree) → has_no_statements b ≡ true → n ≡ after_block n b
 number_stays n no_statements h = refl
 number_stays n (statement s b) h = absurd (cc)
+
+-- one item more of a list
+pub items_more : (t : Title) (i : ℕ) (s : Spot) (start before now : List Line)
+    → before ≡ start ++ items_below t i → s ≡ spot_in t i
+    → now ≡ before ++ (record { level = 2; row = row.Item s } ∷ [])
+    → now ≡ start ++ items_below t (i + 1)
+items_more t i s start before now so_far is more =
+    more
+    ∙ ap (λ ls. ls ++ (line 2 (row.Item s) ∷ [])) so_far
+    ∙ append_assoc start (items_below t i) (line 2 (row.Item s) ∷ [])
+    ∙ ap (λ k. start ++ (items_below t i ++ (line 2 (row.Item k) ∷ []))) is
+    ∙ ap (λ n. start ++ items_below t n) (sym (add-one i))
 
 -- a list that has items has a title
 pub full_section : (t : Title) (count : ℕ) → 0 < count

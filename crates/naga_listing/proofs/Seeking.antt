@@ -47,6 +47,10 @@ sought_item (suc n) (s ∷ ss) = sought_item n ss
 
 -- ---- loops over statements and cases
 -- a list from an item of it on
+pub drop_head : {X : Type 0} (i : ℕ) (xs : List X) (d : X) → i < length xs
+    → drop i xs ≡ slice_index_or xs i d ∷ drop (i + 1) xs
+drop_head i xs d h = rw (add-one, drop-cons xs i d)
+
 pub drop_first : {X : Type 0} (i : ℕ) (xs : List X) (x : X) → i < length xs
     → x ≡ slice_index_or xs i x → drop i xs ≡ x ∷ drop (i + 1) xs
 drop_first i xs x h is =

@@ -127,7 +127,7 @@ impl Model for Kept {
 }
 
 impl Kept {
-    ghost use Rattle.std.specs.Prelude.{[], ◌∷◌, false};
+    ghost use Rattle.std.specs.Prelude.{[], ◌∷◌, false, if◌then◌else◌};
 
     fn new(alloc: Global) -> Self
         ensures { result ≡ record { lines = []; level = 0; opened = false } }
@@ -191,14 +191,23 @@ impl Kept {
     }
 
     /// Puts a line before those that were kept if it is shown, and else leaves it out.
+    fn put_or_leave_out(&mut self, shown: bool, line: Line) -> Result<(), AllocError>
+        ensures { OnOk result (self.new ≡ record self.old {
+          lines = if shown then line ∷ self.old.lines else after_gap self.old.lines;
+        }) }
+    {
+        if shown {
+            self.put(line)
+        } else {
+            self.leave_out()
+        }
+    }
+
+    /// Goes on with a line that is not marked.
     fn add_line(&mut self, shown: bool, line: Line) -> Result<(), AllocError>
         ensures { OnOk result (self.new ≡ with_line shown line self.old) }
     {
-        if shown {
-            self.put(line)?;
-        } else {
-            self.leave_out()?;
-        }
+        self.put_or_leave_out(shown, line)?;
         self.level = self.level.min(line.level);
         self.opened = if is_title(line.row) {
             false

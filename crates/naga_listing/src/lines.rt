@@ -6,7 +6,8 @@ ghost use Rattle.naga_listing.specs.Lines.{after_block, after_cases, after_insid
 ghost use Rattle.naga_listing.specs.Lines.{after_statement, all_lines, another_lines, block_lines};
 ghost use Rattle.naga_listing.specs.Lines.{body_lines, case_lines, declaration_lines};
 ghost use Rattle.naga_listing.specs.Lines.{function_lines, headed_lines, inside_lines};
-ghost use Rattle.naga_listing.specs.Lines.{items_below, section, spot_in, statement_lines};
+ghost use Rattle.naga_listing.specs.Lines.{items_below, part_lines, section, spot_in};
+ghost use Rattle.naga_listing.specs.Lines.{statement_lines};
 ghost use Rattle.naga_listing.specs.Lines.{two_lines};
 
 use crate::lookup::item_at;
@@ -24,20 +25,25 @@ pub(crate) fn all_lines(
 {
     let mut lines = Vec::new(alloc);
     push_row(&mut lines, 0, Row::Item(Spot::Whole))?;
-    match listed {
-        Listed::Declarations => add_declarations(&mut lines, module)?,
-        Listed::Function(handle) => {
-            if let Some(function) = item_at(&module.functions, handle) {
-                add_function(&mut lines, function)?;
-            }
-        }
-        Listed::EntryPoint(index) => {
-            if let Some(entry_point) = module.entry_points.get(index) {
-                add_function(&mut lines, &entry_point.function)?;
-            }
-        }
-    }
+    add_parts(&mut lines, module, listed)?;
     Ok(lines)
+}
+
+/// The lines after the first.
+fn add_parts(lines: &mut Vec<Line>, module: &Module, listed: Listed) -> Result<(), AllocError>
+    ensures { IfOk result (λ _. lines.new.items ≡ lines.old.items ++ part_lines «module».now listed) }
+{
+    match listed {
+        Listed::Declarations => add_declarations(lines, module),
+        Listed::Function(handle) => match item_at(&module.functions, handle) {
+            Some(function) => add_function(lines, function),
+            None => Ok(()),
+        },
+        Listed::EntryPoint(index) => match module.entry_points.get(index) {
+            Some(entry_point) => add_function(lines, &entry_point.function),
+            None => Ok(()),
+        },
+    }
 }
 
 fn add_declarations(lines: &mut Vec<Line>, module: &Module) -> Result<(), AllocError>
@@ -112,11 +118,11 @@ fn add_body(lines: &mut Vec<Line>, body: &Block) -> Result<(), AllocError>
     Ok(())
 }
 
-fn push_row(lines: &mut Vec<Line>, level: usize, row: Row) -> Result<(), AllocError>
+fn push_row(lines: &mut Vec<Line>, level: usize, head: Row) -> Result<(), AllocError>
     ensures { IfOk result (λ _. lines.new.items
-        ≡ lines.old.items ++ record { level = level; row = row } ∷ []) }
+        ≡ lines.old.items ++ record { level = level; row = head } ∷ []) }
 {
-    lines.push(Line { level, row })?;
+    lines.push(Line { level, row: head })?;
     Ok(())
 }
 
@@ -172,18 +178,18 @@ fn add_inside(
 fn add_two(
     lines: &mut Vec<Line>,
     accept: &Block,
-    row: Row,
+    head: Row,
     reject: &Block,
     level: usize,
     first: usize,
 ) -> Result<usize, AllocError>
     ensures lines { IfOk result (λ _. lines.new.items
-        ≡ lines.old.items ++ two_lines row level first accept.now reject.now) }
+        ≡ lines.old.items ++ two_lines head level first accept.now reject.now) }
     ensures next { IfOk result (λ next.
         next ≡ after_block (after_block first accept.now) reject.now) }
 {
     let next = add_block(lines, accept, level.wrapping_add(2), first)?;
-    add_another(lines, row, reject, level, next)
+    add_another(lines, head, reject, level, next)
 }
 
 /// The lines of the statements of a block, of which the first has this number. Gives the number
@@ -213,16 +219,16 @@ fn add_block(
 #[tactic(auto, using(crate::proofs::AddedLines::headed))]
 fn add_headed(
     lines: &mut Vec<Line>,
-    row: Row,
+    head: Row,
     block: &Block,
     level: usize,
     first: usize,
 ) -> Result<usize, AllocError>
     ensures lines { IfOk result (λ _. lines.new.items
-        ≡ lines.old.items ++ headed_lines row level first block.now) }
+        ≡ lines.old.items ++ headed_lines head level first block.now) }
     ensures next { IfOk result (λ next. next ≡ after_block first block.now) }
 {
-    push_row(lines, level.wrapping_add(1), row)?;
+    push_row(lines, level.wrapping_add(1), head)?;
     add_block(lines, block, level.wrapping_add(2), first)
 }
 
@@ -231,19 +237,19 @@ fn add_headed(
 #[tactic(auto, using(crate::proofs::AddedLines::another, crate::proofs::AddedLines::no_other, crate::proofs::AddedLines::number_stays))]
 fn add_another(
     lines: &mut Vec<Line>,
-    row: Row,
+    head: Row,
     block: &Block,
     level: usize,
     first: usize,
 ) -> Result<usize, AllocError>
     ensures lines { IfOk result (λ _. lines.new.items
-        ≡ lines.old.items ++ another_lines row level first block.now) }
+        ≡ lines.old.items ++ another_lines head level first block.now) }
     ensures next { IfOk result (λ next. next ≡ after_block first block.now) }
 {
     if block.is_empty() {
         Ok(first)
     } else {
-        add_headed(lines, row, block, level, first)
+        add_headed(lines, head, block, level, first)
     }
 }
 
@@ -260,8 +266,8 @@ fn add_cases(
 {
     let mut number = first;
     for case in cases {
-        let row = Row::Case(case.value, case.fall_through);
-        let next = add_headed(lines, row, &case.body, level, number)?;
+        let head = Row::Case(case.value, case.fall_through);
+        let next = add_headed(lines, head, &case.body, level, number)?;
         number = next;
     }
     Ok(number)
