@@ -1,7 +1,8 @@
 //! Which lines are shown.
 
 ghost use Rattle.std.specs.Prelude.{◌≡◌, IfOk, OnOk};
-ghost use Rattle.naga_listing.specs.Choice.{after_gap, is_about, is_gap, is_named, is_near};
+ghost use Rattle.naga_listing.specs.Choice.{after_gap, begins_with_gap, is_about, is_gap};
+ghost use Rattle.naga_listing.specs.Choice.{is_named, is_near};
 ghost use Rattle.naga_listing.specs.Choice.{is_shown, is_title, kept_from, marked_line};
 ghost use Rattle.naga_listing.specs.Choice.{place_lines, shown_lines, with_any, with_line};
 ghost use Rattle.naga_listing.specs.Choice.{with_marked};
@@ -101,6 +102,15 @@ fn is_gap(row: Row) -> bool
     matches!(row, Row::Gap)
 }
 
+fn begins_with_gap(lines: &[Line]) -> bool
+    ensures { result ≡ begins_with_gap lines.now }
+{
+    match lines.first() {
+        Some(line) => is_gap(line.row),
+        None => false,
+    }
+}
+
 fn is_near(marked: usize, index: usize) -> bool
     ensures { result ≡ is_near marked index }
 {
@@ -152,15 +162,14 @@ impl Kept {
         ensures { OnOk result (self.new
             ≡ record self.old { lines = after_gap self.old.lines }) }
     {
-        if let Some(line) = self.lines.first() {
-            if is_gap(line.row) {
-                return Ok(());
-            }
+        if begins_with_gap(&self.lines) {
+            Ok(())
+        } else {
+            self.put(Line {
+                level: 0,
+                row: Row::Gap,
+            })
         }
-        self.put(Line {
-            level: 0,
-            row: Row::Gap,
-        })
     }
 
     fn shows(&self, marked: usize, spots: &[Spot], index: usize, line: Line) -> bool
