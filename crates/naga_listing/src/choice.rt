@@ -1,6 +1,6 @@
 //! Which lines are shown.
 
-ghost use Rattle.std.specs.Prelude.{◌≡◌, IfOk, OnOk};
+ghost use Rattle.std.specs.Prelude.{◌≡◌, ◌||◌, false, if◌then◌else◌, IfOk, OnOk};
 ghost use Rattle.naga_listing.specs.Choice.{after_gap, begins_with_gap, is_about, is_gap};
 ghost use Rattle.naga_listing.specs.Choice.{is_named, is_near};
 ghost use Rattle.naga_listing.specs.Choice.{is_shown, is_title, kept_from, marked_line};
@@ -30,9 +30,14 @@ const RADIUS: usize = 5;
 pub fn listing(alloc: Global, module: &Module, place: Place) -> Result<Vec<Line>, AllocError>
     ensures { IfOk result (λ lines. lines.items ≡ place_lines «module».now place) }
 {
-    let lines = all_lines(alloc, module, place.listed)?;
-    let spots = named_spots(alloc, module, place)?;
-    shown_lines(alloc, place.spot, &spots, &lines)
+    let Place {
+        listed,
+        spot,
+        beside,
+    } = place;
+    let lines = all_lines(alloc, module, listed)?;
+    let spots = named_spots(alloc, module, listed, spot, beside)?;
+    shown_lines(alloc, spot, &spots, &lines)
 }
 
 fn shown_lines(
@@ -70,7 +75,7 @@ fn kept_lines(
 {
     let mut kept = Kept::new(alloc);
     for index in (0..lines.len()).rev() {
-        kept.add(marked, spots, index, lines[index])?;
+        kept.add(marked, spots, index, &lines[index])?;
     }
     Ok(kept)
 }
@@ -84,10 +89,10 @@ fn is_about(spot: Spot, row: Row) -> bool
     }
 }
 
-fn is_named(spots: &[Spot], row: Row) -> bool
-    ensures { result ≡ is_named spots.now row }
+fn is_named(spots: &[Spot], row: &Row) -> bool
+    ensures { result ≡ is_named spots.now row.now }
 {
-    spots.iter().any(|spot| is_about(*spot, row))
+    spots.iter().any(|spot| is_about(*spot, *row))
 }
 
 fn is_title(row: Row) -> bool
@@ -108,6 +113,17 @@ fn begins_with_gap(lines: &[Line]) -> bool
     match lines.first() {
         Some(line) => is_gap(line.row),
         None => false,
+    }
+}
+
+/// Whether a line of the list is shown that begins with this row, by whether one is after it.
+fn opens(row: Row, shown: bool, opened: bool) -> bool
+    ensures { result ≡ (if is_title row then false else (shown || opened)) }
+{
+    if is_title(row) {
+        false
+    } else {
+        shown || opened
     }
 }
 
@@ -137,7 +153,7 @@ impl Model for Kept {
 }
 
 impl Kept {
-    ghost use Rattle.std.specs.Prelude.{[], ◌∷◌, false, if◌then◌else◌};
+    ghost use Rattle.std.specs.Prelude.{[], ◌∷◌};
 
     fn new(alloc: Global) -> Self
         ensures { result ≡ record { lines = []; level = 0; opened = false } }
@@ -172,57 +188,59 @@ impl Kept {
         }
     }
 
-    fn shows(&self, marked: usize, spots: &[Spot], index: usize, line: Line) -> bool
-        ensures { result ≡ is_shown marked spots.now index line self.now }
+    fn shows(&self, marked: usize, spots: &[Spot], index: usize, line: &Line) -> bool
+        ensures { result ≡ is_shown marked spots.now index line.now self.now }
     {
-        if is_title(line.row) {
+        let row = line.row;
+        if is_title(row) {
             self.opened
         } else {
             is_near(marked, index)
                 || line.level < self.level
                 || index == 0
-                || is_named(spots, line.row)
+                || is_named(spots, &line.row)
         }
     }
 
     /// Puts the marked line before those that were kept, with the line that says what is wrong.
-    fn add_marked(&mut self, line: Line) -> Result<(), AllocError>
-        ensures { OnOk result (self.new ≡ with_marked line self.old) }
+    fn add_marked(&mut self, line: &Line) -> Result<(), AllocError>
+        ensures { OnOk result (self.new ≡ with_marked line.now self.old) }
     {
+        let level = line.level;
         self.put(Line {
-            level: line.level,
+            level,
             row: Row::Mark,
         })?;
-        self.put(line)?;
-        self.level = line.level;
+        self.put(*line)?;
+        self.level = level;
         self.opened = true;
         Ok(())
     }
 
     /// Puts a line before those that were kept if it is shown, and else leaves it out.
-    fn put_or_leave_out(&mut self, shown: bool, line: Line) -> Result<(), AllocError>
+    fn put_or_leave_out(&mut self, shown: bool, line: &Line) -> Result<(), AllocError>
         ensures { OnOk result (self.new ≡ record self.old {
-          lines = if shown then line ∷ self.old.lines else after_gap self.old.lines;
+          lines = if shown then line.now ∷ self.old.lines else after_gap self.old.lines;
         }) }
     {
         if shown {
-            self.put(line)
+            self.put(*line)
         } else {
             self.leave_out()
         }
     }
 
     /// Goes on with a line that is not marked.
-    fn add_line(&mut self, shown: bool, line: Line) -> Result<(), AllocError>
-        ensures { OnOk result (self.new ≡ with_line shown line self.old) }
+    fn add_line(&mut self, shown: bool, line: &Line) -> Result<(), AllocError>
+        ensures { OnOk result (self.new ≡ with_line shown line.now self.old) }
     {
         self.put_or_leave_out(shown, line)?;
-        self.level = self.level.min(line.level);
-        self.opened = if is_title(line.row) {
-            false
-        } else {
-            shown || self.opened
-        };
+        let level = line.level;
+        let before = self.level;
+        self.level = before.min(level);
+        let row = line.row;
+        let opened = self.opened;
+        self.opened = opens(row, shown, opened);
         Ok(())
     }
 
@@ -232,14 +250,14 @@ impl Kept {
         marked: usize,
         spots: &[Spot],
         index: usize,
-        line: Line,
+        line: &Line,
     ) -> Result<(), AllocError>
-        ensures { OnOk result (self.new ≡ with_any marked spots.now index line self.old) }
+        ensures { OnOk result (self.new ≡ with_any marked spots.now index line.now self.old) }
     {
         if index == marked {
-            self.add_marked(line)
-        } else {
-            self.add_line(self.shows(marked, spots, index, line), line)
+            return self.add_marked(line);
         }
+        let shown = self.shows(marked, spots, index, line);
+        self.add_line(shown, line)
     }
 }

@@ -22,18 +22,18 @@ const TYPE_COLUMN: usize = 44;
 
 /// What is listed, with the module around it and what is known of it.
 #[derive(Clone, Copy)]
-pub(crate) struct Lister<'a> {
+pub(crate) struct Lister<'m, 'i> {
     alloc: Global,
-    module: &'a Module,
-    info: &'a ModuleInfo,
+    module: &'m Module,
+    info: &'i ModuleInfo,
     listed: Listed,
 }
 
-impl<'a> Lister<'a> {
+impl<'m, 'i> Lister<'m, 'i> {
     pub(crate) fn new(
         alloc: Global,
-        module: &'a Module,
-        info: &'a ModuleInfo,
+        module: &'m Module,
+        info: &'i ModuleInfo,
         listed: Listed,
     ) -> Self {
         Lister {
@@ -45,7 +45,7 @@ impl<'a> Lister<'a> {
     }
 
     /// The function that is listed, if it is one that the module has.
-    fn function(&self) -> Option<&'a Function> {
+    fn function(&self) -> Option<&'m Function> {
         match self.listed {
             Listed::Declarations => None,
             Listed::Function(handle) => item_at(&self.module.functions, handle),
@@ -57,7 +57,7 @@ impl<'a> Lister<'a> {
     }
 
     /// What is known of it.
-    fn known(&self) -> Option<&'a FunctionInfo> {
+    fn known(&self) -> Option<&'i FunctionInfo> {
         match self.listed {
             Listed::Declarations => None,
             Listed::Function(handle) => self.info.functions.get(handle.index()),
@@ -70,14 +70,17 @@ impl<'a> Lister<'a> {
         match spot {
             Spot::Whole => self.push_head(out),
             Spot::Statement(number) => self.push_statement(number, out),
-            _ => {
-                let mut line = String::new(self.alloc);
-                self.push_words(spot, &mut line)?;
-                let mut ty = String::new(self.alloc);
-                self.push_type_of(spot, &mut ty)?;
-                push_columns(line.as_str(), ty.as_str(), out)
-            }
+            _ => self.push_typed(&spot, out),
         }
+    }
+
+    /// Appends what an item is, and its type, if that is known.
+    fn push_typed(&self, spot: &Spot, out: &mut String) -> Result<(), AllocError> {
+        let mut line = String::new(self.alloc);
+        self.push_words(*spot, &mut line)?;
+        let mut ty = String::new(self.alloc);
+        self.push_type_of(*spot, &mut ty)?;
+        push_columns(line.as_str(), ty.as_str(), out)
     }
 
     /// Appends what an item is, without its type.

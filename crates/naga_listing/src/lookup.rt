@@ -3,15 +3,16 @@
 ghost use Rattle.std.specs.Prelude.{◌≡◌, slice_get};
 ghost use Rattle.std.specs.Option.{option_copied};
 
-use naga_ir::{Arena, Handle, Item, Module, Type_};
+use naga_ir::{Arena, Handle, Item, Module, Place, Type_};
 
 /// The item at a handle, if there is one.
 #[tactic(auto, using(std::proofs::lemmas::Option::slice_get_past))]
 pub(crate) fn item_at<T: Item + Drop>(arena: &Arena<T>, handle: Handle<T>) -> Option<&T>
     ensures { option_copied result ≡ slice_get arena.now handle }
 {
-    if handle.index() < arena.len() {
-        Some(&arena[handle])
+    let index = handle.index();
+    if index < arena.len() {
+        Some(&arena[Place::from_index(index)])
     } else {
         None
     }

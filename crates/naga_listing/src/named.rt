@@ -12,7 +12,7 @@ ghost use Rattle.naga_listing.specs.Named.{size_spots, statement_spots, type_spo
 
 use crate::lookup::{item_at, type_at};
 use crate::numbers::statement_at;
-use crate::places::{Listed, Place, Spot};
+use crate::places::{Listed, Spot};
 use naga_ir::{
     ArraySize, Expression, Function, Handle, Module, Statement, StructMember, Type_, TypeInner,
 };
@@ -25,12 +25,15 @@ const MOST_NAMED: usize = 6;
 pub(crate) fn named_spots(
     alloc: Global,
     module: &Module,
-    place: Place,
+    listed: Listed,
+    spot: Spot,
+    beside: Option<Spot>,
 ) -> Result<Vec<Spot>, AllocError>
-    ensures { IfOk result (λ spots. spots.items ≡ named_spots «module».now place) }
+    ensures { IfOk result (λ spots. spots.items ≡ named_spots «module».now
+        (record { listed = listed; spot = spot; beside = beside })) }
 {
-    let mut spots = listed_spots(alloc, module, place.listed, place.spot)?;
-    if let Some(beside) = place.beside {
+    let mut spots = listed_spots(alloc, module, listed, spot)?;
+    if let Some(beside) = beside {
         spots.push(beside)?;
     }
     Ok(spots)

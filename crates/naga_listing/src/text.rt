@@ -44,25 +44,34 @@ pub fn explain(
 }
 
 fn push_line(
-    lister: &Lister<'_>,
+    lister: &Lister<'_, '_>,
     line: Line,
     message: &str,
     out: &mut String,
 ) -> Result<(), AllocError> {
-    match line.row {
+    let Line { level, row } = line;
+    match row {
         Row::Gap => out.push_str("    .."),
         Row::Title(title) => out.push_str(title_words(title)),
-        Row::Item(spot) => {
-            push_number(spot, out)?;
-            push_bars(line.level, out)?;
-            lister.push_item(spot, out)
-        }
-        Row::Mark | Row::Else | Row::Case(..) | Row::Continuing => {
-            push_margin(line.level, out)?;
-            push_bars(line.level, out)?;
-            push_words(line.row, message, out)
+        Row::Item(spot) => push_item(lister, level, &spot, out),
+        _ => {
+            push_margin(level, out)?;
+            push_bars(level, out)?;
+            push_words(row, message, out)
         }
     }
+}
+
+/// Appends what a line is about after its number and a bar for each block around it.
+fn push_item(
+    lister: &Lister<'_, '_>,
+    level: usize,
+    spot: &Spot,
+    out: &mut String,
+) -> Result<(), AllocError> {
+    push_number(*spot, out)?;
+    push_bars(level, out)?;
+    lister.push_item(*spot, out)
 }
 
 /// Appends what a line says that has no number.
