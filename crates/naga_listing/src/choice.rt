@@ -25,28 +25,23 @@ const RADIUS: usize = 5;
 ///
 /// ```text
 /// let place = Place::of(Listed::Function(double), Spot::Expression(sum));
-/// let lines = listing(alloc, &module, place)?;
+/// let lines = listing(alloc, &module, &place)?;
 /// ```
-pub fn listing(alloc: Global, module: &Module, place: Place) -> Result<Vec<Line>, AllocError>
-    ensures { IfOk result (λ lines. lines.items ≡ place_lines «module».now place) }
+pub fn listing(alloc: Global, module: &Module, place: &Place) -> Result<Vec<Line>, AllocError>
+    ensures { IfOk result (λ lines. lines.items ≡ place_lines «module».now place.now) }
 {
-    let Place {
-        listed,
-        spot,
-        beside,
-    } = place;
-    let lines = all_lines(alloc, module, listed)?;
-    let spots = named_spots(alloc, module, listed, spot, beside)?;
-    shown_lines(alloc, spot, &spots, &lines)
+    let lines = all_lines(alloc, module, &place.listed)?;
+    let spots = named_spots(alloc, module, place)?;
+    shown_lines(alloc, &place.spot, &spots, &lines)
 }
 
 fn shown_lines(
     alloc: Global,
-    spot: Spot,
+    spot: &Spot,
     spots: &[Spot],
     lines: &[Line],
 ) -> Result<Vec<Line>, AllocError>
-    ensures { IfOk result (λ shown. shown.items ≡ shown_lines spot spots.now lines.now) }
+    ensures { IfOk result (λ shown. shown.items ≡ shown_lines spot.now spots.now lines.now) }
 {
     let marked = marked_line(spot, lines);
     let kept = kept_lines(alloc, marked, spots, lines)?;
@@ -55,12 +50,12 @@ fn shown_lines(
 }
 
 /// The number of the line that is about this, or that of the first line.
-fn marked_line(spot: Spot, lines: &[Line]) -> usize
-    ensures { result ≡ marked_line spot lines.now }
+fn marked_line(spot: &Spot, lines: &[Line]) -> usize
+    ensures { result ≡ marked_line spot.now lines.now }
 {
     lines
         .iter()
-        .position(|line| is_about(spot, line.row))
+        .position(|line| is_about(spot, &line.row))
         .unwrap_or(0)
 }
 
@@ -80,11 +75,11 @@ fn kept_lines(
     Ok(kept)
 }
 
-fn is_about(spot: Spot, row: Row) -> bool
-    ensures { result ≡ is_about spot row }
+fn is_about(spot: &Spot, row: &Row) -> bool
+    ensures { result ≡ is_about spot.now row.now }
 {
     match row {
-        Row::Item(item) => item == spot,
+        Row::Item(item) => *item == *spot,
         _ => false,
     }
 }
@@ -92,17 +87,17 @@ fn is_about(spot: Spot, row: Row) -> bool
 fn is_named(spots: &[Spot], row: &Row) -> bool
     ensures { result ≡ is_named spots.now row.now }
 {
-    spots.iter().any(|spot| is_about(*spot, *row))
+    spots.iter().any(|spot| is_about(spot, row))
 }
 
-fn is_title(row: Row) -> bool
-    ensures { result ≡ is_title row }
+fn is_title(row: &Row) -> bool
+    ensures { result ≡ is_title row.now }
 {
     matches!(row, Row::Title(_))
 }
 
-fn is_gap(row: Row) -> bool
-    ensures { result ≡ is_gap row }
+fn is_gap(row: &Row) -> bool
+    ensures { result ≡ is_gap row.now }
 {
     matches!(row, Row::Gap)
 }
@@ -111,14 +106,14 @@ fn begins_with_gap(lines: &[Line]) -> bool
     ensures { result ≡ begins_with_gap lines.now }
 {
     match lines.first() {
-        Some(line) => is_gap(line.row),
+        Some(line) => is_gap(&line.row),
         None => false,
     }
 }
 
 /// Whether a line of the list is shown that begins with this row, by whether one is after it.
-fn opens(row: Row, shown: bool, opened: bool) -> bool
-    ensures { result ≡ (if is_title row then false else (shown || opened)) }
+fn opens(row: &Row, shown: bool, opened: bool) -> bool
+    ensures { result ≡ (if is_title row.now then false else (shown || opened)) }
 {
     if is_title(row) {
         false
@@ -191,8 +186,7 @@ impl Kept {
     fn shows(&self, marked: usize, spots: &[Spot], index: usize, line: &Line) -> bool
         ensures { result ≡ is_shown marked spots.now index line.now self.now }
     {
-        let row = line.row;
-        if is_title(row) {
+        if is_title(&line.row) {
             self.opened
         } else {
             is_near(marked, index)
@@ -238,9 +232,8 @@ impl Kept {
         let level = line.level;
         let before = self.level;
         self.level = before.min(level);
-        let row = line.row;
         let opened = self.opened;
-        self.opened = opens(row, shown, opened);
+        self.opened = opens(&line.row, shown, opened);
         Ok(())
     }
 

@@ -22,19 +22,19 @@ const TYPE_COLUMN: usize = 44;
 
 /// What is listed, with the module around it and what is known of it.
 #[derive(Clone, Copy)]
-pub(crate) struct Lister<'m, 'i> {
+pub(crate) struct Lister<'m, 'i, 'p> {
     alloc: Global,
     module: &'m Module,
     info: &'i ModuleInfo,
-    listed: Listed,
+    listed: &'p Listed,
 }
 
-impl<'m, 'i> Lister<'m, 'i> {
+impl<'m, 'i, 'p> Lister<'m, 'i, 'p> {
     pub(crate) fn new(
         alloc: Global,
         module: &'m Module,
         info: &'i ModuleInfo,
-        listed: Listed,
+        listed: &'p Listed,
     ) -> Self {
         Lister {
             alloc,
@@ -48,8 +48,8 @@ impl<'m, 'i> Lister<'m, 'i> {
     fn function(&self) -> Option<&'m Function> {
         match self.listed {
             Listed::Declarations => None,
-            Listed::Function(handle) => item_at(&self.module.functions, handle),
-            Listed::EntryPoint(index) => match self.module.entry_points.get(index) {
+            Listed::Function(handle) => item_at(&self.module.functions, *handle),
+            Listed::EntryPoint(index) => match self.module.entry_points.get(*index) {
                 Some(entry_point) => Some(&entry_point.function),
                 None => None,
             },
@@ -61,38 +61,38 @@ impl<'m, 'i> Lister<'m, 'i> {
         match self.listed {
             Listed::Declarations => None,
             Listed::Function(handle) => self.info.functions.get(handle.index()),
-            Listed::EntryPoint(index) => self.info.entry_points.get(index),
+            Listed::EntryPoint(index) => self.info.entry_points.get(*index),
         }
     }
 
     /// Appends what a line is about, and its type, if it has one that is known.
-    pub(crate) fn push_item(&self, spot: Spot, out: &mut String) -> Result<(), AllocError> {
+    pub(crate) fn push_item(&self, spot: &Spot, out: &mut String) -> Result<(), AllocError> {
         match spot {
             Spot::Whole => self.push_head(out),
-            Spot::Statement(number) => self.push_statement(number, out),
-            _ => self.push_typed(&spot, out),
+            Spot::Statement(number) => self.push_statement(*number, out),
+            _ => self.push_typed(spot, out),
         }
     }
 
     /// Appends what an item is, and its type, if that is known.
     fn push_typed(&self, spot: &Spot, out: &mut String) -> Result<(), AllocError> {
         let mut line = String::new(self.alloc);
-        self.push_words(*spot, &mut line)?;
+        self.push_words(spot, &mut line)?;
         let mut ty = String::new(self.alloc);
-        self.push_type_of(*spot, &mut ty)?;
+        self.push_type_of(spot, &mut ty)?;
         push_columns(line.as_str(), ty.as_str(), out)
     }
 
     /// Appends what an item is, without its type.
-    fn push_words(&self, spot: Spot, out: &mut String) -> Result<(), AllocError> {
+    fn push_words(&self, spot: &Spot, out: &mut String) -> Result<(), AllocError> {
         match spot {
-            Spot::Type_(handle) => push_declared_type(self.alloc, self.module, handle, out),
-            Spot::Constant(handle) => push_constant(self.module, handle, out),
-            Spot::Override(handle) => push_override(self.module, handle, out),
-            Spot::GlobalVariable(handle) => push_variable(self.module, handle, out),
-            Spot::GlobalExpression(handle) => self.push_global_expression(handle, out),
-            Spot::Local(handle) => self.push_local(handle, out),
-            Spot::Expression(handle) => self.push_expression(handle, out),
+            Spot::Type_(handle) => push_declared_type(self.alloc, self.module, *handle, out),
+            Spot::Constant(handle) => push_constant(self.module, *handle, out),
+            Spot::Override(handle) => push_override(self.module, *handle, out),
+            Spot::GlobalVariable(handle) => push_variable(self.module, *handle, out),
+            Spot::GlobalExpression(handle) => self.push_global_expression(*handle, out),
+            Spot::Local(handle) => self.push_local(*handle, out),
+            Spot::Expression(handle) => self.push_expression(*handle, out),
             Spot::Whole | Spot::Statement(_) => Ok(()),
         }
     }
@@ -151,10 +151,10 @@ impl<'m, 'i> Lister<'m, 'i> {
     // ---- types
 
     /// Appends the type of an item, if it has one that is known.
-    fn push_type_of(&self, spot: Spot, out: &mut String) -> Result<(), AllocError> {
+    fn push_type_of(&self, spot: &Spot, out: &mut String) -> Result<(), AllocError> {
         match spot {
-            Spot::GlobalExpression(handle) => self.push_global_type(handle, out),
-            Spot::Expression(handle) => self.push_expression_type(handle, out),
+            Spot::GlobalExpression(handle) => self.push_global_type(*handle, out),
+            Spot::Expression(handle) => self.push_expression_type(*handle, out),
             _ => match self.declared_type(spot) {
                 Some(ty) => push_type(self.alloc, self.module, ty, out),
                 None => Ok(()),
@@ -187,14 +187,14 @@ impl<'m, 'i> Lister<'m, 'i> {
     }
 
     /// The type that a constant, an override or a variable is declared with.
-    fn declared_type(&self, spot: Spot) -> Option<Handle<Type_>> {
+    fn declared_type(&self, spot: &Spot) -> Option<Handle<Type_>> {
         match spot {
-            Spot::Constant(handle) => Some(item_at(&self.module.constants, handle)?.ty),
-            Spot::Override(handle) => Some(item_at(&self.module.overrides, handle)?.ty),
+            Spot::Constant(handle) => Some(item_at(&self.module.constants, *handle)?.ty),
+            Spot::Override(handle) => Some(item_at(&self.module.overrides, *handle)?.ty),
             Spot::GlobalVariable(handle) => {
-                Some(item_at(&self.module.global_variables, handle)?.ty)
+                Some(item_at(&self.module.global_variables, *handle)?.ty)
             }
-            Spot::Local(handle) => Some(item_at(&self.function()?.local_variables, handle)?.ty),
+            Spot::Local(handle) => Some(item_at(&self.function()?.local_variables, *handle)?.ty),
             _ => None,
         }
     }
@@ -207,14 +207,14 @@ impl<'m, 'i> Lister<'m, 'i> {
             Listed::Declarations => out.push_str("module"),
             Listed::Function(handle) => {
                 out.push_str("function")?;
-                push_function(self.module, handle, out)?;
+                push_function(self.module, *handle, out)?;
                 self.push_signature(out)
             }
             Listed::EntryPoint(index) => {
                 out.push_str("entry point")?;
-                match self.module.entry_points.get(index) {
-                    Some(entry_point) => push_stage(index, entry_point, out)?,
-                    None => push_numbered(index, None, out)?,
+                match self.module.entry_points.get(*index) {
+                    Some(entry_point) => push_stage(*index, entry_point, out)?,
+                    None => push_numbered(*index, None, out)?,
                 }
                 self.push_signature(out)
             }

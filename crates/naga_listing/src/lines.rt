@@ -19,9 +19,9 @@ use std::alloc::{AllocError, Global};
 pub(crate) fn all_lines(
     alloc: Global,
     module: &Module,
-    listed: Listed,
+    listed: &Listed,
 ) -> Result<Vec<Line>, AllocError>
-    ensures { IfOk result (λ lines. lines.items ≡ all_lines «module».now listed) }
+    ensures { IfOk result (λ lines. lines.items ≡ all_lines «module».now listed.now) }
 {
     let mut lines = Vec::new(alloc);
     push_row(&mut lines, 0, Row::Item(Spot::Whole))?;
@@ -30,16 +30,17 @@ pub(crate) fn all_lines(
 }
 
 /// The lines after the first.
-fn add_parts(lines: &mut Vec<Line>, module: &Module, listed: Listed) -> Result<(), AllocError>
-    ensures { IfOk result (λ _. lines.new.items ≡ lines.old.items ++ part_lines «module».now listed) }
+fn add_parts(lines: &mut Vec<Line>, module: &Module, listed: &Listed) -> Result<(), AllocError>
+    ensures { IfOk result (λ _. lines.new.items
+        ≡ lines.old.items ++ part_lines «module».now listed.now) }
 {
     match listed {
         Listed::Declarations => add_declarations(lines, module),
-        Listed::Function(handle) => match item_at(&module.functions, handle) {
+        Listed::Function(handle) => match item_at(&module.functions, *handle) {
             Some(function) => add_function(lines, function),
             None => Ok(()),
         },
-        Listed::EntryPoint(index) => match module.entry_points.get(index) {
+        Listed::EntryPoint(index) => match module.entry_points.get(*index) {
             Some(entry_point) => add_function(lines, &entry_point.function),
             None => Ok(()),
         },

@@ -53,7 +53,7 @@ fn of_unaccepted(
 ) -> Result<Explanation, AllocError> {
     let fault = format!(in alloc; "{}", unaccepted.fault)?;
     let place = listed_place(unaccepted.item);
-    let listing = explain(alloc, &known.module, &known.info, place, fault.as_str())?;
+    let listing = explain(alloc, &known.module, &known.info, &place, fault.as_str())?;
     let place = JsonPlace(unaccepted.item);
     let text = format!(in alloc; "not accepted: {place}: {fault}\n\n{listing}")?;
     Ok(Explanation {
