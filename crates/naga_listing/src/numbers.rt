@@ -54,6 +54,7 @@ fn seek_inside(statement: &Statement, left: usize) -> Result<&Statement, usize>
 }
 
 #[cycle(seek)]
+#[tactic(auto, using(crate::proofs::Seeking::sought_append))]
 fn seek_two<'a>(first: &'a Block, second: &'a Block, left: usize) -> Result<&'a Statement, usize>
     ensures { found_as (λ s. tree_of s.now) result
         ≡ sought left (trees_in first.now ++ trees_in second.now) }

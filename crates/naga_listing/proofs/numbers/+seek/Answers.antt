@@ -1,7 +1,7 @@
-use Rattle.std.proofs.Common.{ap, arith, sym}
+use Rattle.std.proofs.Common.{ap, arith}
 use Rattle.naga_ir.specs.StatementTree.{block_size, cases_size}
 use Rattle.naga_listing.proofs.Seeking.{block_found, block_more, cases_found, cases_more}
-use Rattle.naga_listing.proofs.Seeking.{first_case, first_of, found_first, found_then}
+use Rattle.naga_listing.proofs.Seeking.{first_case, first_of}
 use Rattle.naga_listing.proofs.numbers.+seek.Goals as goal
 
 pub seek_block-returns-in-Ok : goal.seek_block-returns-in-Ok
@@ -29,10 +29,3 @@ seek_cases-loop-case-preserved t c =
       left = cases_more _ _ _ _ _ _ _ _ _ split c.in-Err.ensures c.loop-case.invariant.left;
       smaller = omega (arith, ap cases_size split, c.loop-case.invariant.smaller);
     }
-
-pub seek_two-returns-in-Ok : goal.seek_two-returns-in-Ok
-seek_two-returns-in-Ok t c = sym (found_first _ _ _ _ (sym c.in-Ok.ensures))
-
-pub seek_two-returns-in-Err : goal.seek_two-returns-in-Err
-seek_two-returns-in-Err t c =
-    sym (found_then _ _ _ _ _ (sym c.in-Err.ensures) (sym c.seek_block-2.ensures))
