@@ -31,7 +31,7 @@ fn answer_known<W: Write>(
     place: Place,
     out: &mut W,
 ) -> io::Result<()> {
-    let listing = explain(alloc, &known.module, &known.info, place, "here")?;
+    let listing = explain(alloc, &known.module, &known.info, &place, "here")?;
     write!(out, "== {name}\n{listing}")
 }
 

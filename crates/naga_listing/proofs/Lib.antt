@@ -1,4 +1,4 @@
+pub mod AddedLines
 pub mod Choosing
-pub mod Lines
+pub mod FittingTypes
 pub mod Seeking
-pub mod Types

@@ -4,8 +4,9 @@
 -- known by their levels. Throughout, i is a line's number, l the line, spots is what is named, and k
 -- what was kept of the lines after it.
 use Rattle.std.specs.Prelude.{ℕ, suc, ◌-◌, Bool, true, false, ◌&&◌, ◌||◌, nat_lt, nat_le, ◌==◌, min}
-use Rattle.std.specs.Prelude.{List, [], ◌∷◌, if◌then◌else◌, unwrap_or}
+use Rattle.std.specs.Prelude.{List, [], ◌∷◌, if◌then◌else◌, slice_get, unwrap_or}
 use Rattle.std.specs.List.{list_any, position}
+use Rattle.std.specs.Option.{option_map_or}
 use Rattle.naga_ir.specs.declared.module.Module.{Module}
 use Rattle.naga_listing.specs.contracts.places.SpotPartialEq.TheImpl.{eq-value}
 use Rattle.naga_listing.specs.declared.places.Line.{Line}
@@ -53,17 +54,19 @@ pub record Kept : Type 0 where
   -- Is a line shown of the list that they begin in?
   pub opened : Bool
 
+abbrev pub begins_with_gap : List Line → Bool
+begins_with_gap lines = option_map_or (λ l. is_gap l.row) (slice_get lines 0) false
+
 -- lines are left out before these
 abbrev pub after_gap : List Line → List Line
-after_gap [] = line 0 row.Gap ∷ []
-after_gap (l ∷ ls) = if is_gap l.row then l ∷ ls else line 0 row.Gap ∷ l ∷ ls
+after_gap lines = if begins_with_gap lines then lines else line 0 row.Gap ∷ lines
 
 -- Is a line shown that is not marked? A title is, of which a line is shown, and any other line that
 -- is the first, near the marked one, around it, or named.
 abbrev pub is_shown : (marked : ℕ) (spots : List Spot) (i : ℕ) → Line → Kept → Bool
 is_shown marked spots i l k =
     if is_title l.row then k.opened
-    else (is_near marked i || (nat_lt l.level k.level || (i == 0 || is_named spots l.row)))
+    else (((is_near marked i || nat_lt l.level k.level) || (i == 0)) || is_named spots l.row)
 
 -- a line that is shown, or left out, before those that were kept
 abbrev pub with_line : (shown : Bool) → Line → Kept → Kept

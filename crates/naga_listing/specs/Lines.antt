@@ -48,61 +48,78 @@ section t (suc more) = line 1 (row.Title t) ∷ items_below t (suc more)
 
 -- ---- statements
 
--- the number after those of a statement, of a block, of cases
+-- the number after those of the statements inside one, of a block, of cases
 abbrev mutual
-  pub after_statement : (number : ℕ) → StatementTree → ℕ
-  after_statement number (simple s) = wrapping_add number 1
-  after_statement number (block b) = after_block (wrapping_add number 1) b
-  after_statement number (branch condition accept reject) =
-      after_block (after_block (wrapping_add number 1) accept) reject
-  after_statement number (switch selector cs) = after_cases (wrapping_add number 1) cs
-  after_statement number (loop body continuing break_if) =
-      after_block (after_block (wrapping_add number 1) body) continuing
+  pub after_inside : (number : ℕ) → StatementTree → ℕ
+  after_inside number (simple s) = number
+  after_inside number (block b) = after_block number b
+  after_inside number (branch condition accept reject) =
+      after_block (after_block number accept) reject
+  after_inside number (switch selector cs) = after_cases number cs
+  after_inside number (loop body continuing break_if) =
+      after_block (after_block number body) continuing
 
   pub after_block : (number : ℕ) → BlockTree → ℕ
   after_block number no_statements = number
-  after_block number (statement s b) = after_block (after_statement number s) b
+  after_block number (statement s b) = after_block (after_inside (wrapping_add number 1) s) b
 
   pub after_cases : (number : ℕ) → CaseTrees → ℕ
   after_cases number no_cases = number
   after_cases number (case v b falls cs) = after_cases (after_block number b) cs
 
--- the lines of a statement that stands at a level, and of those in its blocks
+-- the lines of what is inside a statement that stands at a level, of a block, of cases
 abbrev mutual
-  pub statement_lines : (level number : ℕ) → StatementTree → List Line
-  statement_lines level number (simple s) = line level (row.Item (spot.Statement number)) ∷ []
-  statement_lines level number (block b) =
-      line level (row.Item (spot.Statement number))
-      ∷ block_lines (wrapping_add level 2) (wrapping_add number 1) b
-  statement_lines level number (branch condition accept reject) =
-      line level (row.Item (spot.Statement number))
-      ∷ (block_lines (wrapping_add level 2) (wrapping_add number 1) accept
-      ++ another_lines row.Else level (after_block (wrapping_add number 1) accept) reject)
-  statement_lines level number (switch selector cs) =
-      line level (row.Item (spot.Statement number)) ∷ case_lines level (wrapping_add number 1) cs
-  statement_lines level number (loop body continuing break_if) =
-      line level (row.Item (spot.Statement number))
-      ∷ (block_lines (wrapping_add level 2) (wrapping_add number 1) body
-      ++ another_lines row.Continuing level (after_block (wrapping_add number 1) body) continuing)
+  pub inside_lines : (level number : ℕ) → StatementTree → List Line
+  inside_lines level number (simple s) = []
+  inside_lines level number (block b) = block_lines (wrapping_add level 2) number b
+  inside_lines level number (branch condition accept reject) =
+      block_lines (wrapping_add level 2) number accept
+      ++ another_lines row.Else level (after_block number accept) reject
+  inside_lines level number (switch selector cs) = case_lines level number cs
+  inside_lines level number (loop body continuing break_if) =
+      block_lines (wrapping_add level 2) number body
+      ++ another_lines row.Continuing level (after_block number body) continuing
 
   pub block_lines : (level number : ℕ) → BlockTree → List Line
   block_lines level number no_statements = []
   block_lines level number (statement s b) =
-      statement_lines level number s ++ block_lines level (after_statement number s) b
+      line level (row.Item (spot.Statement number))
+      ∷ (inside_lines level (wrapping_add number 1) s
+      ++ block_lines level (after_inside (wrapping_add number 1) s) b)
 
   -- another block of the statement at this level, if it has statements, after a line that tells which
   pub another_lines : Row → (level number : ℕ) → BlockTree → List Line
   another_lines r level number no_statements = []
   another_lines r level number (statement s b) =
       line (wrapping_add level 1) r
-      ∷ (statement_lines (wrapping_add level 2) number s
-      ++ block_lines (wrapping_add level 2) (after_statement number s) b)
+      ∷ (line (wrapping_add level 2) (row.Item (spot.Statement number))
+      ∷ (inside_lines (wrapping_add level 2) (wrapping_add number 1) s
+      ++ block_lines (wrapping_add level 2) (after_inside (wrapping_add number 1) s) b))
 
   pub case_lines : (level number : ℕ) → CaseTrees → List Line
   case_lines level number no_cases = []
   case_lines level number (case v b falls cs) =
       line (wrapping_add level 1) (row.Case v falls)
       ∷ (block_lines (wrapping_add level 2) number b ++ case_lines level (after_block number b) cs)
+
+-- the number after a statement and those inside it, and their lines
+abbrev pub after_statement : (number : ℕ) → StatementTree → ℕ
+after_statement number s = after_inside (wrapping_add number 1) s
+
+abbrev pub statement_lines : (level number : ℕ) → StatementTree → List Line
+statement_lines level number s =
+    line level (row.Item (spot.Statement number)) ∷ inside_lines level (wrapping_add number 1) s
+
+-- the lines of two blocks of the statement at this level
+abbrev pub two_lines : Row → (level number : ℕ) → (first second : BlockTree) → List Line
+two_lines r level number first second =
+    block_lines (wrapping_add level 2) number first
+    ++ another_lines r level (after_block number first) second
+
+-- a block of the statement at this level, after a line that tells which
+abbrev pub headed_lines : Row → (level number : ℕ) → BlockTree → List Line
+headed_lines r level number b =
+    line (wrapping_add level 1) r ∷ block_lines (wrapping_add level 2) number b
 
 abbrev pub body_lines : BlockTree → List Line
 body_lines no_statements = []

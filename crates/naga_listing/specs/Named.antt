@@ -3,7 +3,7 @@
 -- Throughout, m is a module, f a function, s a statement, b a block or the rest of one, and cs are
 -- the further cases of a switch.
 use Rattle.std.specs.Prelude.{ℕ, zero, suc, List, [], ◌∷◌, ◌++◌, map, slice_get, take}
-use Rattle.std.specs.Prelude.{Option, Some, None, Result, Ok, Err}
+use Rattle.std.specs.Prelude.{Option, Some, Result, Ok, Err}
 use Rattle.std.specs.Option.{option_map_or, option_to_list}
 use Rattle.naga_ir.specs.declared.expression.Expression.{Expression}
 use Rattle.naga_ir.specs.declared.expression.Expression.TheVariants as expression
@@ -24,30 +24,37 @@ use Rattle.naga_listing.specs.declared.places.Spot.{Spot}
 use Rattle.naga_listing.specs.declared.places.Spot.TheVariants as spot
 
 -- ---- statements in the order of the text
--- a statement and those in its blocks, those of a block, those of cases
+-- the statements inside one, those of a block, those of cases
 abbrev mutual
-  pub statement_trees : StatementTree → List StatementTree
-  statement_trees (simple s) = simple s ∷ []
-  statement_trees (block b) = block b ∷ trees_in b
-  statement_trees (branch condition accept reject) =
-      branch condition accept reject ∷ (trees_in accept ++ trees_in reject)
-  statement_trees (switch selector cs) = switch selector cs ∷ case_trees cs
-  statement_trees (loop body continuing break_if) =
-      loop body continuing break_if ∷ (trees_in body ++ trees_in continuing)
+  pub inside_trees : StatementTree → List StatementTree
+  inside_trees (simple s) = []
+  inside_trees (block b) = trees_in b
+  inside_trees (branch condition accept reject) = trees_in accept ++ trees_in reject
+  inside_trees (switch selector cs) = case_trees cs
+  inside_trees (loop body continuing break_if) = trees_in body ++ trees_in continuing
 
   pub trees_in : BlockTree → List StatementTree
   trees_in no_statements = []
-  trees_in (statement s b) = statement_trees s ++ trees_in b
+  trees_in (statement s b) = s ∷ (inside_trees s ++ trees_in b)
 
   pub case_trees : CaseTrees → List StatementTree
   case_trees no_cases = []
   case_trees (case v b falls cs) = trees_in b ++ case_trees cs
+
+-- a statement and those inside it
+abbrev pub statement_trees : StatementTree → List StatementTree
+statement_trees s = s ∷ inside_trees s
 
 -- the one before which so many stand, or how many are left to be gone past
 abbrev pub sought : ℕ → List StatementTree → Result StatementTree ℕ
 sought left [] = Err left
 sought zero (s ∷ ss) = Ok s
 sought (suc left) (s ∷ ss) = sought left ss
+
+-- what a search found, by a view of it
+abbrev pub found_as : {X Y E : Type 0} → (X → Y) → Result X E → Result Y E
+found_as view (Ok x) = Ok (view x)
+found_as view (Err e) = Err e
 
 -- ---- what is named
 

@@ -1,9 +1,8 @@
 //! Declarations, each in a line.
 
-use crate::expressions::push_expression;
+use crate::lookup::{item_at, type_at};
 use crate::operands::push_label;
 use crate::types::push_type;
-use naga_info::ModuleInfo;
 use naga_ir::{
     ArraySize, Constant, Expression, GlobalVariable, Handle, Module, Override, StructMember, Type_,
     TypeInner,
@@ -21,10 +20,9 @@ pub(crate) fn push_declared_type(
     handle: Handle<Type_>,
     out: &mut String,
 ) -> Result<(), AllocError> {
-    if handle.index() >= module.types.len() {
+    let Some(ty) = type_at(module, handle) else {
         return Ok(());
-    }
-    let ty = &module.types[handle];
+    };
     push_inner(alloc, module, handle, &ty.inner, out)?;
     push_label(ty.name.as_ref(), out)
 }
@@ -85,10 +83,9 @@ pub(crate) fn push_constant(
     handle: Handle<Constant>,
     out: &mut String,
 ) -> Result<(), AllocError> {
-    if handle.index() >= module.constants.len() {
+    let Some(constant) = item_at(&module.constants, handle) else {
         return Ok(());
-    }
-    let constant = &module.constants[handle];
+    };
     write!(out, "= [{}]", constant.init.index())?;
     push_label(constant.name.as_ref(), out)
 }
@@ -99,10 +96,9 @@ pub(crate) fn push_override(
     handle: Handle<Override>,
     out: &mut String,
 ) -> Result<(), AllocError> {
-    if handle.index() >= module.overrides.len() {
+    let Some(item) = item_at(&module.overrides, handle) else {
         return Ok(());
-    }
-    let item = &module.overrides[handle];
+    };
     if let Some(id) = item.id {
         write!(out, "@id({id}) ")?;
     }
@@ -116,10 +112,9 @@ pub(crate) fn push_variable(
     handle: Handle<GlobalVariable>,
     out: &mut String,
 ) -> Result<(), AllocError> {
-    if handle.index() >= module.global_variables.len() {
+    let Some(variable) = item_at(&module.global_variables, handle) else {
         return Ok(());
-    }
-    let variable = &module.global_variables[handle];
+    };
     write!(out, "{:?} ", variable.space)?;
     if let Some(binding) = variable.binding {
         write!(out, "group {} binding {} ", binding.group, binding.binding)?;

@@ -1,5 +1,6 @@
 //! Expressions, each in a line: what it is, its operands by their names, and what it names beside.
 
+use crate::lookup::item_at;
 use crate::operands::{push_list, push_numbered, push_operands};
 use float_numerals::{push_double, push_half, push_single};
 use naga_ir::{
@@ -112,12 +113,11 @@ fn push_constant(
     handle: Handle<Constant>,
     out: &mut String,
 ) -> Result<(), AllocError> {
-    if handle.index() < module.constants.len() {
-        let constant = &module.constants[handle];
-        push_numbered(handle.index(), constant.name.as_ref(), out)
-    } else {
-        push_numbered(handle.index(), None, out)
-    }
+    let label = match item_at(&module.constants, handle) {
+        Some(constant) => constant.name.as_ref(),
+        None => None,
+    };
+    push_numbered(handle.index(), label, out)
 }
 
 fn push_override(
@@ -125,11 +125,11 @@ fn push_override(
     handle: Handle<Override>,
     out: &mut String,
 ) -> Result<(), AllocError> {
-    if handle.index() < module.overrides.len() {
-        push_numbered(handle.index(), module.overrides[handle].name.as_ref(), out)
-    } else {
-        push_numbered(handle.index(), None, out)
-    }
+    let label = match item_at(&module.overrides, handle) {
+        Some(item) => item.name.as_ref(),
+        None => None,
+    };
+    push_numbered(handle.index(), label, out)
 }
 
 fn push_global(
@@ -137,12 +137,11 @@ fn push_global(
     handle: Handle<GlobalVariable>,
     out: &mut String,
 ) -> Result<(), AllocError> {
-    if handle.index() < module.global_variables.len() {
-        let variable = &module.global_variables[handle];
-        push_numbered(handle.index(), variable.name.as_ref(), out)
-    } else {
-        push_numbered(handle.index(), None, out)
-    }
+    let label = match item_at(&module.global_variables, handle) {
+        Some(variable) => variable.name.as_ref(),
+        None => None,
+    };
+    push_numbered(handle.index(), label, out)
 }
 
 /// Appends the number of a function and its label, if it has one: ` 2 "double"`.
@@ -151,11 +150,11 @@ pub(crate) fn push_function(
     handle: Handle<Function>,
     out: &mut String,
 ) -> Result<(), AllocError> {
-    if handle.index() < module.functions.len() {
-        push_numbered(handle.index(), module.functions[handle].name.as_ref(), out)
-    } else {
-        push_numbered(handle.index(), None, out)
-    }
+    let label = match item_at(&module.functions, handle) {
+        Some(function) => function.name.as_ref(),
+        None => None,
+    };
+    push_numbered(handle.index(), label, out)
 }
 
 fn push_argument(
@@ -187,11 +186,7 @@ fn push_local(
 }
 
 fn local_label(function: &Function, handle: Handle<LocalVariable>) -> Option<&String> {
-    if handle.index() < function.local_variables.len() {
-        function.local_variables[handle].name.as_ref()
-    } else {
-        None
-    }
+    item_at(&function.local_variables, handle)?.name.as_ref()
 }
 
 fn push_type_number(ty: Handle<Type_>, out: &mut String) -> Result<(), AllocError> {

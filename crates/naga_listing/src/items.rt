@@ -4,6 +4,7 @@ use crate::declarations::{
     push_constant, push_declared_type, push_init, push_override, push_variable,
 };
 use crate::expressions::{push_expression, push_function};
+use crate::lookup::item_at;
 use crate::numbers::statement_at;
 use crate::operands::{push_label, push_numbered};
 use crate::places::{Listed, Spot};
@@ -21,19 +22,19 @@ const TYPE_COLUMN: usize = 44;
 
 /// What is listed, with the module around it and what is known of it.
 #[derive(Clone, Copy)]
-pub(crate) struct Lister<'a> {
+pub(crate) struct Lister<'m, 'i, 'p> {
     alloc: Global,
-    module: &'a Module,
-    info: &'a ModuleInfo,
-    listed: Listed,
+    module: &'m Module,
+    info: &'i ModuleInfo,
+    listed: &'p Listed,
 }
 
-impl<'a> Lister<'a> {
+impl<'m, 'i, 'p> Lister<'m, 'i, 'p> {
     pub(crate) fn new(
         alloc: Global,
-        module: &'a Module,
-        info: &'a ModuleInfo,
-        listed: Listed,
+        module: &'m Module,
+        info: &'i ModuleInfo,
+        listed: &'p Listed,
     ) -> Self {
         Lister {
             alloc,
@@ -44,17 +45,11 @@ impl<'a> Lister<'a> {
     }
 
     /// The function that is listed, if it is one that the module has.
-    fn function(&self) -> Option<&'a Function> {
+    fn function(&self) -> Option<&'m Function> {
         match self.listed {
             Listed::Declarations => None,
-            Listed::Function(handle) => {
-                if handle.index() < self.module.functions.len() {
-                    Some(&self.module.functions[handle])
-                } else {
-                    None
-                }
-            }
-            Listed::EntryPoint(index) => match self.module.entry_points.get(index) {
+            Listed::Function(handle) => item_at(&self.module.functions, *handle),
+            Listed::EntryPoint(index) => match self.module.entry_points.get(*index) {
                 Some(entry_point) => Some(&entry_point.function),
                 None => None,
             },
@@ -62,39 +57,42 @@ impl<'a> Lister<'a> {
     }
 
     /// What is known of it.
-    fn known(&self) -> Option<&'a FunctionInfo> {
+    fn known(&self) -> Option<&'i FunctionInfo> {
         match self.listed {
             Listed::Declarations => None,
             Listed::Function(handle) => self.info.functions.get(handle.index()),
-            Listed::EntryPoint(index) => self.info.entry_points.get(index),
+            Listed::EntryPoint(index) => self.info.entry_points.get(*index),
         }
     }
 
     /// Appends what a line is about, and its type, if it has one that is known.
-    pub(crate) fn push_item(&self, spot: Spot, out: &mut String) -> Result<(), AllocError> {
+    pub(crate) fn push_item(&self, spot: &Spot, out: &mut String) -> Result<(), AllocError> {
         match spot {
             Spot::Whole => self.push_head(out),
-            Spot::Statement(number) => self.push_statement(number, out),
-            _ => {
-                let mut line = String::new(self.alloc);
-                self.push_words(spot, &mut line)?;
-                let mut ty = String::new(self.alloc);
-                self.push_type_of(spot, &mut ty)?;
-                push_columns(line.as_str(), ty.as_str(), out)
-            }
+            Spot::Statement(number) => self.push_statement(*number, out),
+            _ => self.push_typed(spot, out),
         }
     }
 
+    /// Appends what an item is, and its type, if that is known.
+    fn push_typed(&self, spot: &Spot, out: &mut String) -> Result<(), AllocError> {
+        let mut line = String::new(self.alloc);
+        self.push_words(spot, &mut line)?;
+        let mut ty = String::new(self.alloc);
+        self.push_type_of(spot, &mut ty)?;
+        push_columns(line.as_str(), ty.as_str(), out)
+    }
+
     /// Appends what an item is, without its type.
-    fn push_words(&self, spot: Spot, out: &mut String) -> Result<(), AllocError> {
+    fn push_words(&self, spot: &Spot, out: &mut String) -> Result<(), AllocError> {
         match spot {
-            Spot::Type_(handle) => push_declared_type(self.alloc, self.module, handle, out),
-            Spot::Constant(handle) => push_constant(self.module, handle, out),
-            Spot::Override(handle) => push_override(self.module, handle, out),
-            Spot::GlobalVariable(handle) => push_variable(self.module, handle, out),
-            Spot::GlobalExpression(handle) => self.push_global_expression(handle, out),
-            Spot::Local(handle) => self.push_local(handle, out),
-            Spot::Expression(handle) => self.push_expression(handle, out),
+            Spot::Type_(handle) => push_declared_type(self.alloc, self.module, *handle, out),
+            Spot::Constant(handle) => push_constant(self.module, *handle, out),
+            Spot::Override(handle) => push_override(self.module, *handle, out),
+            Spot::GlobalVariable(handle) => push_variable(self.module, *handle, out),
+            Spot::GlobalExpression(handle) => self.push_global_expression(*handle, out),
+            Spot::Local(handle) => self.push_local(*handle, out),
+            Spot::Expression(handle) => self.push_expression(*handle, out),
             Spot::Whole | Spot::Statement(_) => Ok(()),
         }
     }
@@ -104,8 +102,7 @@ impl<'a> Lister<'a> {
         handle: Handle<Expression>,
         out: &mut String,
     ) -> Result<(), AllocError> {
-        if handle.index() < self.module.global_expressions.len() {
-            let expression = &self.module.global_expressions[handle];
+        if let Some(expression) = item_at(&self.module.global_expressions, handle) {
             push_expression(self.module, None, expression, out)?;
         }
         Ok(())
@@ -117,8 +114,7 @@ impl<'a> Lister<'a> {
         out: &mut String,
     ) -> Result<(), AllocError> {
         if let Some(function) = self.function() {
-            if handle.index() < function.local_variables.len() {
-                let local = &function.local_variables[handle];
+            if let Some(local) = item_at(&function.local_variables, handle) {
                 push_init(local.init, out)?;
                 push_label(local.name.as_ref(), out)?;
             }
@@ -133,8 +129,7 @@ impl<'a> Lister<'a> {
         out: &mut String,
     ) -> Result<(), AllocError> {
         if let Some(function) = self.function() {
-            if handle.index() < function.expressions.len() {
-                let expression = &function.expressions[handle];
+            if let Some(expression) = item_at(&function.expressions, handle) {
                 push_expression(self.module, Some(function), expression, out)?;
             }
             if let Some(label) = function.named_expressions.get(&handle) {
@@ -156,10 +151,10 @@ impl<'a> Lister<'a> {
     // ---- types
 
     /// Appends the type of an item, if it has one that is known.
-    fn push_type_of(&self, spot: Spot, out: &mut String) -> Result<(), AllocError> {
+    fn push_type_of(&self, spot: &Spot, out: &mut String) -> Result<(), AllocError> {
         match spot {
-            Spot::GlobalExpression(handle) => self.push_global_type(handle, out),
-            Spot::Expression(handle) => self.push_expression_type(handle, out),
+            Spot::GlobalExpression(handle) => self.push_global_type(*handle, out),
+            Spot::Expression(handle) => self.push_expression_type(*handle, out),
             _ => match self.declared_type(spot) {
                 Some(ty) => push_type(self.alloc, self.module, ty, out),
                 None => Ok(()),
@@ -192,18 +187,14 @@ impl<'a> Lister<'a> {
     }
 
     /// The type that a constant, an override or a variable is declared with.
-    fn declared_type(&self, spot: Spot) -> Option<Handle<Type_>> {
+    fn declared_type(&self, spot: &Spot) -> Option<Handle<Type_>> {
         match spot {
-            Spot::Constant(handle) if handle.index() < self.module.constants.len() => {
-                Some(self.module.constants[handle].ty)
+            Spot::Constant(handle) => Some(item_at(&self.module.constants, *handle)?.ty),
+            Spot::Override(handle) => Some(item_at(&self.module.overrides, *handle)?.ty),
+            Spot::GlobalVariable(handle) => {
+                Some(item_at(&self.module.global_variables, *handle)?.ty)
             }
-            Spot::Override(handle) if handle.index() < self.module.overrides.len() => {
-                Some(self.module.overrides[handle].ty)
-            }
-            Spot::GlobalVariable(handle) if handle.index() < self.module.global_variables.len() => {
-                Some(self.module.global_variables[handle].ty)
-            }
-            Spot::Local(handle) => local_type(self.function()?, handle),
+            Spot::Local(handle) => Some(item_at(&self.function()?.local_variables, *handle)?.ty),
             _ => None,
         }
     }
@@ -216,14 +207,14 @@ impl<'a> Lister<'a> {
             Listed::Declarations => out.push_str("module"),
             Listed::Function(handle) => {
                 out.push_str("function")?;
-                push_function(self.module, handle, out)?;
+                push_function(self.module, *handle, out)?;
                 self.push_signature(out)
             }
             Listed::EntryPoint(index) => {
                 out.push_str("entry point")?;
-                match self.module.entry_points.get(index) {
-                    Some(entry_point) => push_stage(index, entry_point, out)?,
-                    None => push_numbered(index, None, out)?,
+                match self.module.entry_points.get(*index) {
+                    Some(entry_point) => push_stage(*index, entry_point, out)?,
+                    None => push_numbered(*index, None, out)?,
                 }
                 self.push_signature(out)
             }
@@ -269,14 +260,6 @@ impl<'a> Lister<'a> {
             write!(out, "{:?}: ", label.as_str())?;
         }
         push_type(self.alloc, self.module, argument.ty, out)
-    }
-}
-
-fn local_type(function: &Function, handle: Handle<LocalVariable>) -> Option<Handle<Type_>> {
-    if handle.index() < function.local_variables.len() {
-        Some(function.local_variables[handle].ty)
-    } else {
-        None
     }
 }
 

@@ -10,6 +10,7 @@ mod declarations;
 mod expressions;
 mod items;
 mod lines;
+mod lookup;
 mod named;
 mod numbers;
 mod operands;

@@ -10,6 +10,7 @@ ghost use Rattle.naga_listing.specs.Named.{listed_spots, most_named, named_spots
 ghost use Rattle.naga_listing.specs.Named.{part_spots};
 ghost use Rattle.naga_listing.specs.Named.{size_spots, statement_spots, type_spots, typed_spots};
 
+use crate::lookup::{item_at, type_at};
 use crate::numbers::statement_at;
 use crate::places::{Listed, Place, Spot};
 use naga_ir::{
@@ -24,13 +25,13 @@ const MOST_NAMED: usize = 6;
 pub(crate) fn named_spots(
     alloc: Global,
     module: &Module,
-    place: Place,
+    place: &Place,
 ) -> Result<Vec<Spot>, AllocError>
-    ensures { IfOk result (λ spots. spots.items ≡ named_spots «module».now place) }
+    ensures { IfOk result (λ spots. spots.items ≡ named_spots «module».now place.now) }
 {
-    let mut spots = listed_spots(alloc, module, place.listed, place.spot)?;
-    if let Some(beside) = place.beside {
-        spots.push(beside)?;
+    let mut spots = listed_spots(alloc, module, &place.listed, &place.spot)?;
+    if let Some(beside) = &place.beside {
+        spots.push(*beside)?;
     }
     Ok(spots)
 }
@@ -38,21 +39,18 @@ pub(crate) fn named_spots(
 fn listed_spots(
     alloc: Global,
     module: &Module,
-    listed: Listed,
-    spot: Spot,
+    listed: &Listed,
+    spot: &Spot,
 ) -> Result<Vec<Spot>, AllocError>
-    ensures { IfOk result (λ spots. spots.items ≡ listed_spots «module».now listed spot) }
+    ensures { IfOk result (λ spots. spots.items ≡ listed_spots «module».now listed.now spot.now) }
 {
     match listed {
         Listed::Declarations => declared_spots(alloc, module, spot),
-        Listed::Function(handle) => {
-            if handle.index() < module.functions.len() {
-                part_spots(alloc, &module.functions[handle], spot)
-            } else {
-                Ok(Vec::new(alloc))
-            }
-        }
-        Listed::EntryPoint(index) => match module.entry_points.get(index) {
+        Listed::Function(handle) => match item_at(&module.functions, *handle) {
+            Some(function) => part_spots(alloc, function, spot),
+            None => Ok(Vec::new(alloc)),
+        },
+        Listed::EntryPoint(index) => match module.entry_points.get(*index) {
             Some(entry_point) => part_spots(alloc, &entry_point.function, spot),
             None => Ok(Vec::new(alloc)),
         },
@@ -61,17 +59,19 @@ fn listed_spots(
 
 // ---- in a function
 
-fn part_spots(alloc: Global, function: &Function, spot: Spot) -> Result<Vec<Spot>, AllocError>
-    ensures { IfOk result (λ spots. spots.items ≡ part_spots function.now spot) }
+fn part_spots(alloc: Global, function: &Function, spot: &Spot) -> Result<Vec<Spot>, AllocError>
+    ensures { IfOk result (λ spots. spots.items ≡ part_spots function.now spot.now) }
 {
     match spot {
-        Spot::Local(handle) if handle.index() < function.local_variables.len() => {
-            expression_spots(alloc, function.local_variables[handle].init)
-        }
-        Spot::Expression(handle) if handle.index() < function.expressions.len() => {
-            operand_spots(alloc, &function.expressions[handle])
-        }
-        Spot::Statement(number) => match statement_at(&function.body, number) {
+        Spot::Local(handle) => match item_at(&function.local_variables, *handle) {
+            Some(local) => expression_spots(alloc, local.init),
+            None => Ok(Vec::new(alloc)),
+        },
+        Spot::Expression(handle) => match item_at(&function.expressions, *handle) {
+            Some(expression) => operand_spots(alloc, expression),
+            None => Ok(Vec::new(alloc)),
+        },
+        Spot::Statement(number) => match statement_at(&function.body, *number) {
             Some(statement) => statement_spots(alloc, statement),
             None => Ok(Vec::new(alloc)),
         },
@@ -127,28 +127,30 @@ fn statement_operand_spots(alloc: Global, statement: &Statement) -> Result<Vec<S
 
 // ---- in a declaration
 
-fn declared_spots(alloc: Global, module: &Module, spot: Spot) -> Result<Vec<Spot>, AllocError>
-    ensures { IfOk result (λ spots. spots.items ≡ declared_spots «module».now spot) }
+fn declared_spots(alloc: Global, module: &Module, spot: &Spot) -> Result<Vec<Spot>, AllocError>
+    ensures { IfOk result (λ spots. spots.items ≡ declared_spots «module».now spot.now) }
 {
     match spot {
-        Spot::Type_(handle) if handle.index() < module.types.len() => {
-            type_spots(alloc, &module.types[handle].inner)
-        }
-        Spot::Constant(handle) if handle.index() < module.constants.len() => {
-            let constant = &module.constants[handle];
-            typed_spots(alloc, constant.ty, Some(constant.init))
-        }
-        Spot::Override(handle) if handle.index() < module.overrides.len() => {
-            let item = &module.overrides[handle];
-            typed_spots(alloc, item.ty, item.init)
-        }
-        Spot::GlobalVariable(handle) if handle.index() < module.global_variables.len() => {
-            let variable = &module.global_variables[handle];
-            typed_spots(alloc, variable.ty, variable.init)
-        }
-        Spot::GlobalExpression(handle) if handle.index() < module.global_expressions.len() => {
-            global_spots(alloc, &module.global_expressions[handle])
-        }
+        Spot::Type_(handle) => match type_at(module, *handle) {
+            Some(ty) => type_spots(alloc, &ty.inner),
+            None => Ok(Vec::new(alloc)),
+        },
+        Spot::Constant(handle) => match item_at(&module.constants, *handle) {
+            Some(constant) => typed_spots(alloc, constant.ty, Some(constant.init)),
+            None => Ok(Vec::new(alloc)),
+        },
+        Spot::Override(handle) => match item_at(&module.overrides, *handle) {
+            Some(item) => typed_spots(alloc, item.ty, item.init),
+            None => Ok(Vec::new(alloc)),
+        },
+        Spot::GlobalVariable(handle) => match item_at(&module.global_variables, *handle) {
+            Some(variable) => typed_spots(alloc, variable.ty, variable.init),
+            None => Ok(Vec::new(alloc)),
+        },
+        Spot::GlobalExpression(handle) => match item_at(&module.global_expressions, *handle) {
+            Some(expression) => global_spots(alloc, expression),
+            None => Ok(Vec::new(alloc)),
+        },
         _ => Ok(Vec::new(alloc)),
     }
 }

@@ -1,9 +1,10 @@
 //! Statements by their numbers.
 
-ghost use Rattle.std.specs.Prelude.{◌≡◌, ◌++◌, MatchResult, slice_get};
+ghost use Rattle.std.specs.Prelude.{◌≡◌, ◌++◌, slice_get};
 ghost use Rattle.std.specs.Option.{option_map};
 ghost use Rattle.naga_ir.specs.StatementViews.{cases_of, tree_of};
-ghost use Rattle.naga_listing.specs.Named.{case_trees, sought, statement_trees, trees_in};
+ghost use Rattle.naga_listing.specs.Named.{case_trees, found_as, inside_trees, sought};
+ghost use Rattle.naga_listing.specs.Named.{statement_trees, trees_in};
 
 use naga_ir::{Block, Statement, SwitchCase};
 
@@ -21,16 +22,24 @@ pub(crate) fn statement_at(body: &Block, number: usize) -> Option<&Statement>
 /// Of a statement and those in its blocks the one before which so many stand; else how many are
 /// left to be gone past.
 #[cycle(seek)]
-#[tactic(auto, using(crate::proofs::Seeking::sought_append))]
+#[tactic(auto, using(crate::proofs::Seeking::sought_past))]
 fn seek_statement(statement: &Statement, left: usize) -> Result<&Statement, usize>
-    ensures { MatchResult result
-        (λ s. sought left (statement_trees (tree_of statement.now)) ≡ Ok (tree_of s.now))
-        (λ rest. sought left (statement_trees (tree_of statement.now)) ≡ Err rest) }
+    ensures { found_as (λ s. tree_of s.now) result
+        ≡ sought left (statement_trees (tree_of statement.now)) }
 {
     if left == 0 {
-        return Ok(statement);
+        Ok(statement)
+    } else {
+        seek_inside(statement, left - 1)
     }
-    let left = left - 1;
+}
+
+/// The same of those in its blocks.
+#[cycle(seek)]
+fn seek_inside(statement: &Statement, left: usize) -> Result<&Statement, usize>
+    ensures { found_as (λ s. tree_of s.now) result
+        ≡ sought left (inside_trees (tree_of statement.now)) }
+{
     match statement {
         Statement::Block(block) => seek_block(block, left),
         Statement::If { accept, reject, .. } => seek_two(accept, reject, left),
@@ -47,21 +56,18 @@ fn seek_statement(statement: &Statement, left: usize) -> Result<&Statement, usiz
 #[cycle(seek)]
 #[tactic(auto, using(crate::proofs::Seeking::sought_append))]
 fn seek_two<'a>(first: &'a Block, second: &'a Block, left: usize) -> Result<&'a Statement, usize>
-    ensures { MatchResult result
-        (λ s. sought left (trees_in first.now ++ trees_in second.now) ≡ Ok (tree_of s.now))
-        (λ rest. sought left (trees_in first.now ++ trees_in second.now) ≡ Err rest) }
+    ensures { found_as (λ s. tree_of s.now) result
+        ≡ sought left (trees_in first.now ++ trees_in second.now) }
 {
     match seek_block(first, left) {
         Ok(statement) => Ok(statement),
-        Err(left) => seek_block(second, left),
+        Err(rest) => seek_block(second, rest),
     }
 }
 
 #[cycle(seek)]
 fn seek_block(block: &Block, first: usize) -> Result<&Statement, usize>
-    ensures { MatchResult result
-        (λ s. sought first (trees_in block.now) ≡ Ok (tree_of s.now))
-        (λ rest. sought first (trees_in block.now) ≡ Err rest) }
+    ensures { found_as (λ s. tree_of s.now) result ≡ sought first (trees_in block.now) }
 {
     let mut left = first;
     for statement in block.as_slice() {
@@ -75,9 +81,8 @@ fn seek_block(block: &Block, first: usize) -> Result<&Statement, usize>
 
 #[cycle(seek)]
 fn seek_cases(cases: &[SwitchCase], first: usize) -> Result<&Statement, usize>
-    ensures { MatchResult result
-        (λ s. sought first (case_trees (cases_of cases.now)) ≡ Ok (tree_of s.now))
-        (λ rest. sought first (case_trees (cases_of cases.now)) ≡ Err rest) }
+    ensures { found_as (λ s. tree_of s.now) result
+        ≡ sought first (case_trees (cases_of cases.now)) }
 {
     let mut left = first;
     for case in cases {

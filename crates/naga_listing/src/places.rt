@@ -1,5 +1,7 @@
 //! Places in a module, and the lines of a listing.
 
+ghost use Rattle.std.specs.Prelude.{◌≡◌, None};
+
 use naga_ir::{
     Constant, Expression, Function, GlobalVariable, Handle, LocalVariable, Override, SwitchValue,
     Type_,
@@ -48,7 +50,9 @@ pub struct Place {
 
 impl Place {
     /// The place of this, with nothing beside it.
-    pub fn of(listed: Listed, spot: Spot) -> Self {
+    pub fn of(listed: Listed, spot: Spot) -> Self
+        ensures { result ≡ record { listed = listed; spot = spot; beside = None } }
+    {
         Place {
             listed,
             spot,

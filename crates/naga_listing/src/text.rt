@@ -14,7 +14,7 @@ use std::alloc::{AllocError, Global};
 ///
 /// ```text
 /// let place = Place::of(Listed::Function(double), Spot::Expression(sum));
-/// let text = explain(alloc, &module, &info, place, "an operand is no number")?;
+/// let text = explain(alloc, &module, &info, &place, "an operand is no number")?;
 /// // function 0 "double"("x": i32) -> i32
 /// //   expressions
 /// //      0  FunctionArgument 0 "x"                                      i32
@@ -30,50 +30,59 @@ pub fn explain(
     alloc: Global,
     module: &Module,
     info: &ModuleInfo,
-    place: Place,
+    place: &Place,
     message: &str,
 ) -> Result<String, AllocError> {
     let lines = listing(alloc, module, place)?;
-    let lister = Lister::new(alloc, module, info, place.listed);
+    let lister = Lister::new(alloc, module, info, &place.listed);
     let mut text = String::new(alloc);
     for line in &lines {
-        push_line(&lister, *line, message, &mut text)?;
+        push_line(&lister, line, message, &mut text)?;
         text.push_str("\n")?;
     }
     Ok(text)
 }
 
 fn push_line(
-    lister: &Lister<'_>,
-    line: Line,
+    lister: &Lister<'_, '_, '_>,
+    line: &Line,
     message: &str,
     out: &mut String,
 ) -> Result<(), AllocError> {
-    match line.row {
+    let level = line.level;
+    match &line.row {
         Row::Gap => out.push_str("    .."),
-        Row::Title(title) => out.push_str(title_words(title)),
-        Row::Item(spot) => {
-            push_number(spot, out)?;
-            push_bars(line.level, out)?;
-            lister.push_item(spot, out)
-        }
-        Row::Mark | Row::Else | Row::Case(..) | Row::Continuing => {
-            push_margin(line.level, out)?;
-            push_bars(line.level, out)?;
-            push_words(line.row, message, out)
+        Row::Title(title) => out.push_str(title_words(*title)),
+        Row::Item(spot) => push_item(lister, level, spot, out),
+        row => {
+            push_margin(level, out)?;
+            push_bars(level, out)?;
+            push_words(row, message, out)
         }
     }
 }
 
+/// Appends what a line is about after its number and a bar for each block around it.
+fn push_item(
+    lister: &Lister<'_, '_, '_>,
+    level: usize,
+    spot: &Spot,
+    out: &mut String,
+) -> Result<(), AllocError> {
+    push_number(spot, out)?;
+    push_bars(level, out)?;
+    lister.push_item(spot, out)
+}
+
 /// Appends what a line says that has no number.
-fn push_words(row: Row, message: &str, out: &mut String) -> Result<(), AllocError> {
+fn push_words(row: &Row, message: &str, out: &mut String) -> Result<(), AllocError> {
     match row {
         Row::Mark => {
             out.push_str("^ ")?;
             out.push_str(message)
         }
         Row::Else => out.push_str("else"),
-        Row::Case(value, fall_through) => push_case(value, fall_through, out),
+        Row::Case(value, fall_through) => push_case(*value, *fall_through, out),
         Row::Continuing => out.push_str("continuing"),
         _ => Ok(()),
     }
@@ -93,14 +102,14 @@ fn title_words(title: Title) -> &'static str {
 }
 
 /// Appends the number of an item, if it has one, in a column.
-fn push_number(spot: Spot, out: &mut String) -> Result<(), AllocError> {
+fn push_number(spot: &Spot, out: &mut String) -> Result<(), AllocError> {
     match number_of(spot) {
         Some(number) => write!(out, "{number:>6}  "),
         None => Ok(()),
     }
 }
 
-fn number_of(spot: Spot) -> Option<usize> {
+fn number_of(spot: &Spot) -> Option<usize> {
     match spot {
         Spot::Whole => None,
         Spot::Type_(handle) => Some(handle.index()),
@@ -110,7 +119,7 @@ fn number_of(spot: Spot) -> Option<usize> {
         Spot::GlobalExpression(handle) => Some(handle.index()),
         Spot::Local(handle) => Some(handle.index()),
         Spot::Expression(handle) => Some(handle.index()),
-        Spot::Statement(number) => Some(number),
+        Spot::Statement(number) => Some(*number),
     }
 }
 

@@ -37,6 +37,7 @@ pub(crate) fn push_type(
 }
 
 /// Appends a type by itself, and nothing where it or another type names what the module has not.
+#[tactic(auto, using(crate::proofs::FittingTypes::fits))]
 fn push_inner(
     alloc: Global,
     module: &Module,

@@ -6,6 +6,7 @@ use std::rt::Clock;
 use std::time::Duration;
 
 /// A clock that goes on by 400 milliseconds each time it is read.
+#[derive(Drop)]
 struct Steady {
     milliseconds: Cell<u64>,
 }
