@@ -42,7 +42,7 @@ returns-in-Ok-construct_of_plan-clause-err c =
     let m = c.args.«module».now in
     let info = c.args.info.now in
     let number = function_number m c.args.ty.now in
-    subst (λ explicit. IsRefusedFor explicit m info number c.args.namer.now c.in-Ok-construct_of_plan.construct c.part_of.result)
+    subst (λ explicit. IsRefusedFor explicit m info number c.args.namer.now c.in-Ok-construct_of_plan.construct c.part_of-part.result)
     c.annotates_types.ensures
     (record {
       error = c.in-Err.error;
@@ -51,6 +51,6 @@ returns-in-Ok-construct_of_plan-clause-err c =
       told = of_the_ok (λ f es it. Tells it (TellsPlanError m f es c.in-Err.error)) m info number
           c.function_of.result.0.now c.function_of.result.1.now c.function_of.ensures.function c.function_of.ensures.known
           c.construct_of_plan.result c.construct_of_plan.ensures.ok;
-      part = c.part_of.ensures;
+      part = c.part_of-part.ensures;
       other = c.in-Ok-construct_of_plan.ensures.refused;
     })
