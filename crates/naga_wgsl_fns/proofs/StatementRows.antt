@@ -172,10 +172,10 @@ outcome_in (shapes.Act action xs outcome) = outcome
 outcome_in _ = None
 
 -- a statement that does so, with these operands and this result
-record Asks (shape : shapes.Statement) (xs : List ℕ) (outcome : Option ℕ) : Type 0 where
+record Asks (shape : shapes.Statement) (xs : List ℕ) (o : Option ℕ) : Type 0 where
   pub acts : IsTrue (acts shape)
   pub operands : operands_in shape ≡ xs
-  pub outcome : outcome_in shape ≡ outcome
+  pub outcome : outcome_in shape ≡ o
 
 asks_for : (s : SimpleStatement) (o : Option Operator) → IsTrue (is_some o) →
     Asks (asked o s) (simple_operands s) (simple_result s)
