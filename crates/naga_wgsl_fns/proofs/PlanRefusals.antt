@@ -85,7 +85,9 @@ use Rattle.naga_ir.specs.declared.expression.Expression.TheVariants.{Cooperative
 use Rattle.naga_ir.specs.declared.types.Scalar.{Scalar}
 use Rattle.naga_wgsl_fns.specs.Refusals.{TellsPlanError}
 use Rattle.naga_wgsl_fns.specs.Constructs.{IsToldAs}
-use Rattle.naga_wgsl_fns.specs.Unplanned.{IsRefusedFor}
+use Rattle.naga_wgsl_fns.specs.Unplanned.{IsRefusedFor, IsUnplanned, TellsUnplanned}
+use Rattle.naga_wgsl_fns.specs.declared.plans.Unplanned.{Unplanned}
+use Rattle.naga_wgsl_fns.specs.declared.plans.Unplanned.TheVariants as unplanned
 use Rattle.naga_wgsl_fns.specs.declared.construct.Construct.{Construct}
 use Rattle.naga_wgsl_fns.specs.declared.plans.FunctionPart.{FunctionPart}
 
@@ -430,6 +432,14 @@ module _ (explicit : Bool) (m : Module) (info : ModuleInfo) (accepted : IsTrue (
     unplanned_refusal namer words has it at r reported told =
         plan_refusal known.0 known.1 namer words has r.error reported r.refused
         (r.told f known.0 stands known.1 reported told)
+
+    pub unplanned_told : (namer : Names) → HasOtherUses wgsl_names namer → HasNamed namer earlier →
+        (u : Unplanned) (reported : Error) → IsUnplanned explicit m info i namer u → TellsUnplanned u reported →
+        IsPlanRefusal explicit m info earlier i reported
+    unplanned_told namer words has (unplanned.Refused it at) reported r told =
+        unplanned_refusal namer words has it at r reported told
+    unplanned_told namer words has (unplanned.Memory e) reported r told =
+        subst (IsPlanRefusal explicit m info earlier i) (sym told) tt
 
 -- each constant and variable that an expression of an accepted function names is there
 pub items_there : (m : Module) (info : ModuleInfo) → IsTrue (is_accepted m info) → (i : ℕ)

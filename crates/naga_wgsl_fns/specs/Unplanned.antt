@@ -9,9 +9,11 @@ use Rattle.naga_names.specs.declared.error.NamerError.TheVariants as namer_error
 use Rattle.naga_scope.specs.Plans.{IsFirstToPlanOf, IsRefusalToPlanOf}
 use Rattle.naga_scope.specs.declared.plan.PlanError.{PlanError}
 use Rattle.naga_scope.specs.declared.plan.PlanError.TheVariants as plan_error
-use Rattle.naga_wgsl_fns.specs.Constructs.{Tells}
+use Rattle.naga_wgsl_fns.specs.Constructs.{IsToldAs, Tells}
 use Rattle.naga_wgsl_fns.specs.Refusals.{TellsPlanError}
 use Rattle.naga_wgsl_fns.specs.declared.construct.Construct.{Construct}
+use Rattle.naga_wgsl_fns.specs.declared.error.Error.{Error}
+use Rattle.naga_wgsl_fns.specs.declared.error.Error.TheVariants.{Memory}
 use Rattle.naga_wgsl_fns.specs.declared.plans.FunctionPart.{FunctionPart}
 use Rattle.naga_wgsl_fns.specs.declared.plans.FunctionPart.TheVariants as part
 use Rattle.naga_wgsl_fns.specs.declared.plans.Unplanned.{Unplanned}
@@ -54,3 +56,8 @@ abbrev pub IsUnplanned : (explicit : Bool) → Module → ModuleInfo → (number
 IsUnplanned explicit m info number namer (unplanned.Refused it at) =
     IsRefusedFor explicit m info number namer it at
 IsUnplanned explicit m info number namer (unplanned.Memory e) = Unit {0}
+
+-- the error that is told of that
+abbrev pub TellsUnplanned : Unplanned → Error → Type 0
+TellsUnplanned (unplanned.Refused it at) error = IsToldAs it error
+TellsUnplanned (unplanned.Memory e) error = error ≡ Memory e

@@ -18,7 +18,8 @@ ghost use Rattle.naga_back.specs.Flags.{annotates_types};
 ghost use Rattle.naga_wgsl_fns.specs.Refusals.{IsOfPlan, IsPlanRefusal, NamesItemsOf};
 ghost use Rattle.naga_wgsl_fns.specs.Constructs.{Tells};
 ghost use Rattle.naga_wgsl_fns.specs.Refusals.{IsErrorOfNames, TellsPlanError};
-ghost use Rattle.naga_wgsl_fns.specs.Unplanned.{IsUnplanned, is_names_want, is_want, part_of};
+ghost use Rattle.naga_wgsl_fns.specs.Unplanned.{IsUnplanned, TellsUnplanned, is_names_want};
+ghost use Rattle.naga_wgsl_fns.specs.Unplanned.{is_want, part_of};
 ghost use Rattle.naga_wgsl_fns.specs.declared.error.Error.TheVariants.{Memory};
 ghost use Rattle.naga_names.specs.declared.error.NamerError.TheVariants as namer_error;
 
@@ -97,8 +98,17 @@ pub fn plan_of<'a>(
 {
     match plan_or_refusal(alloc, module, info, ty, tables, names, flags, namer) {
         Ok(plan) => Ok(plan),
-        Err(Unplanned::Refused(construct, _)) => Err(construct.to_error(alloc)),
-        Err(Unplanned::Memory(error)) => Err(Error::Memory(error)),
+        Err(unplanned) => Err(unplanned_error(alloc, unplanned)),
+    }
+}
+
+/// The refusal that names the construct, or want of memory, here or for its text.
+fn unplanned_error(alloc: Global, unplanned: Unplanned) -> Error
+    ensures { TellsUnplanned unplanned result }
+{
+    match unplanned {
+        Unplanned::Refused(construct, _) => construct.to_error(alloc),
+        Unplanned::Memory(error) => Error::Memory(error),
     }
 }
 

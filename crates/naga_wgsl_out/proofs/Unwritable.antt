@@ -1,6 +1,6 @@
 -- Where a construct stands for which a module is refused.
 use Rattle.std.proofs.Common.{◌≡◌, ◌+◌, ◌<◌, ℕ, Bool, false, List, Some, None, Option, arith, below_more, inl, inr, length, slice_get, subst, sym, refl}
-use Rattle.std.specs.Prelude.{IsFalse, IsSomeAnd, IsTrue, MatchOption}
+use Rattle.std.specs.Prelude.{Err, IfOk, IsFalse, IsSomeAnd, IsTrue, MatchOption, Ok, Result}
 use Rattle.std.proofs.lemmas.Option.{slice_get_within}
 use Rattle.module_meaning.specs.Accepted.{is_accepted}
 use Rattle.module_meaning.specs.DeclarationForms.{DeclarationsHaveForms}
@@ -27,13 +27,15 @@ use Rattle.naga_scope.specs.declared.plan.PlanError.TheVariants as plan_error
 use Rattle.naga_wgsl_fns.proofs.PlanRefusals.{full_is}
 use Rattle.naga_wgsl_fns.specs.Constructs.{Tells}
 use Rattle.naga_wgsl_fns.specs.Refusals.{IsErrorOfNames, NamesExpression, NamesType, TellsPlanError}
-use Rattle.naga_wgsl_fns.specs.Unplanned.{IsRefusedFor, is_names_want, is_want, part_of}
+use Rattle.naga_wgsl_fns.specs.Unplanned.{IsRefusedFor, IsUnplanned, is_names_want, is_want, part_of}
+use Rattle.naga_wgsl_fns.specs.declared.plans.Unplanned.{Unplanned}
+use Rattle.naga_wgsl_fns.specs.declared.plans.Unplanned.TheVariants as unplanned
 use Rattle.naga_wgsl_fns.specs.declared.construct.Construct.{Construct}
 use Rattle.naga_wgsl_fns.specs.declared.plans.FunctionPart.{FunctionPart}
 use Rattle.naga_wgsl_out.proofs.ExpressionNames.{none_past}
 use Rattle.naga_wgsl_out.proofs.ModuleScopes.{all_planned_formed, all_planned_hold}
 use Rattle.naga_wgsl_out.specs.ModuleRefusals.{HasAllNames, HasNamedBefore, NamerIsFull, NothingIsRefused}
-use Rattle.naga_wgsl_out.specs.Unwritable.{AreWritableBefore, IsFirst, IsRefusalOf, IsUnspelled, IsWritable, StandsAt}
+use Rattle.naga_wgsl_out.specs.Unwritable.{AreWritableBefore, IsFirst, IsFoundOf, IsRefusalOf, IsUnspelled, IsWritable, StandsAt}
 use Rattle.naga_wgsl_out.specs.Unwritable.{StandsAtPart, StandsIn, StandsInFunction, StandsInLabels}
 use Rattle.naga_wgsl_out.specs.declared.unwritable.Refusal.{Refusal}
 use Rattle.naga_back.specs.declared.context.FunctionType.{FunctionType}
@@ -89,6 +91,16 @@ module _ (explicit : Bool) (m : Module) (info : ModuleInfo) (accepted : IsTrue (
         (by_error r.error it (r.refused f known stands is_known) (r.told f known stands is_known) r.other);
     first = (r.error, r.part, r.first f known stands is_known);
   }
+
+  -- so what is found where there is no plan
+  pub found_in : {E : Type 0} (ty : FunctionType) → number ≡ function_number m ty → (next : Names)
+      (r : Result (Option Refusal) E) (u : Unplanned) → IfOk r (IsFoundOf ty u) → IsUnplanned explicit m info number namer u →
+      IfOk r (λ found. MatchOption found (IsWritable explicit m info (function_number m ty) next) (IsRefusalOf explicit m info ty))
+  found_in ty same next (Err e) u found r = tt
+  found_in ty same next (Ok o) (unplanned.Memory e) found r = absurd found
+  found_in ty same next (Ok o) (unplanned.Refused it at) found r =
+      subst (λ o. MatchOption o (IsWritable explicit m info (function_number m ty) next) (IsRefusalOf explicit m info ty)) (sym found)
+      (at, refl, subst (λ n. StandsInFunction explicit m info n (it, at)) same (stands_in it at r))
 
 -- what is known of a function that there is
 pub known_at : (m : Module) (info : ModuleInfo) → IsTrue (is_accepted m info) → (number : ℕ) (f : Function) →

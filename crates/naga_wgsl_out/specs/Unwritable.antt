@@ -3,8 +3,8 @@
 -- Throughout, m is the module, info what is known of it, f is a function, known what is known of its
 -- expressions, number that of a function or an entry point, explicit says whether `let`s tell types,
 -- it is a construct and at is where it stands.
-use Rattle.std.specs.Prelude.{◌≡◌, ℕ, ◌+◌, ◌<◌, ◌⊎◌, Bool, List, Some, IsFalse, IsSomeAnd, codes}
-use Rattle.std.specs.Prelude.{length, slice_get}
+use Rattle.std.specs.Prelude.{◌≡◌, ℕ, ◌+◌, ◌<◌, ◌⊎◌, Bool, List, Option, Some, IsFalse, IsSomeAnd}
+use Rattle.std.specs.Prelude.{codes, length, slice_get}
 use Rattle.module_meaning.specs.DeclarationForms.{DeclarationsHaveForms}
 use Rattle.module_meaning.specs.ExpressionForms.{expression_has_form}
 use Rattle.module_meaning.specs.FunctionNumbers.{all_functions, all_infos, function_number}
@@ -38,6 +38,8 @@ use Rattle.naga_wgsl_fns.specs.Unplanned.{part_of}
 use Rattle.naga_wgsl_fns.specs.declared.construct.Construct.{Construct}
 use Rattle.naga_wgsl_fns.specs.declared.plans.FunctionPart.{FunctionPart}
 use Rattle.naga_wgsl_fns.specs.declared.plans.FunctionPart.TheVariants as part
+use Rattle.naga_wgsl_fns.specs.declared.plans.Unplanned.{Unplanned}
+use Rattle.naga_wgsl_fns.specs.declared.plans.Unplanned.TheVariants as unplanned
 use Rattle.naga_wgsl_out.specs.ModuleRefusals.{HasNamedBefore, ItemsAreFull, KeyIsOutOfRange}
 use Rattle.naga_wgsl_out.specs.Writing.{HasPlan}
 use Rattle.naga_wgsl_out.specs.declared.unwritable.Refusal.{Refusal}
@@ -140,6 +142,12 @@ IsFirst explicit m info (place.EntryPoint i at) =
 abbrev pub place_at : FunctionType → FunctionPart → RefusalPlace
 place_at (item.Function h) at = place.Function h at
 place_at (item.EntryPoint i) at = place.EntryPoint i at
+
+-- that is found where it has no plan
+abbrev pub IsFoundOf : FunctionType → Unplanned → Option Refusal → Type 0
+IsFoundOf ty (unplanned.Refused it at) found =
+    found ≡ Some (record { construct = it; place = place_at ty at })
+IsFoundOf ty (unplanned.Memory e) found = ⊥
 
 -- it is refused for this, which stands at a part of it
 abbrev pub IsRefusalOf : (explicit : Bool) → Module → ModuleInfo → FunctionType → Refusal → Type 0

@@ -9,8 +9,8 @@ ghost use Rattle.naga_back.specs.Flags.{annotates_types};
 ghost use Rattle.naga_names.specs.Keys.{names_in};
 ghost use Rattle.naga_scope.specs.Tables.{AreTablesOf};
 ghost use Rattle.naga_wgsl_out.specs.ModuleRefusals.{HasAllNames, HasNamedBefore, NothingIsRefused};
-ghost use Rattle.naga_wgsl_out.specs.Unwritable.{IsFirst, IsRefusalOf, IsWritable, StandsIn};
-ghost use Rattle.naga_wgsl_out.specs.Unwritable.{place_at};
+ghost use Rattle.naga_wgsl_out.specs.Unwritable.{IsFirst, IsFoundOf, IsRefusalOf, IsWritable};
+ghost use Rattle.naga_wgsl_out.specs.Unwritable.{StandsIn, place_at};
 
 use crate::writer::items_named;
 use naga_back::{FunctionType, WriterFlags};
@@ -165,11 +165,20 @@ fn refused_in(
             drop(plan);
             Ok(None)
         }
-        Err(Unplanned::Refused(construct, part)) => {
-            let place = place_at(*ty, part);
+        Err(unplanned) => refusal_of(*ty, unplanned),
+    }
+}
+
+/// The refusal of a function without a plan, if memory has not run out.
+fn refusal_of(ty: FunctionType, unplanned: Unplanned) -> Result<Option<Refusal>, AllocError>
+    ensures { IfOk result (IsFoundOf ty unplanned) }
+{
+    match unplanned {
+        Unplanned::Refused(construct, part) => {
+            let place = place_at(ty, part);
             Ok(Some(Refusal { construct, place }))
         }
-        Err(Unplanned::Memory(error)) => Err(error),
+        Unplanned::Memory(error) => Err(error),
     }
 }
 

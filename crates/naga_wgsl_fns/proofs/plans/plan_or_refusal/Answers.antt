@@ -1,5 +1,7 @@
 use Rattle.std.proofs.Common.{length, subst}
+use Rattle.std.specs.Prelude.{IfOk}
 use Rattle.module_meaning.specs.FunctionNumbers.{function_number}
+use Rattle.module_meaning.specs.Written.{OfFunctionAt}
 use Rattle.naga_form.proofs.AcceptedGroups.{fits_in_range, known_is_fit}
 use Rattle.naga_scope.proofs.Planned.{of_the_ok}
 use Rattle.naga_scope.proofs.WrittenConstants.{globals_in_order}
@@ -42,15 +44,18 @@ returns-in-Ok-construct_of_plan-clause-err c =
     let m = c.args.«module».now in
     let info = c.args.info.now in
     let number = function_number m c.args.ty.now in
-    subst (λ explicit. IsRefusedFor explicit m info number c.args.namer.now c.in-Ok-construct_of_plan.construct c.part_of.result)
+    subst (λ explicit. IsRefusedFor explicit m info number c.args.namer.now c.in-Ok-construct_of_plan.construct c.part_of-part.result)
     c.annotates_types.ensures
     (record {
       error = c.in-Err.error;
       refused = c.in-Err.ensures.err;
       first = c.in-Err.ensures.first;
-      told = of_the_ok (λ f es it. Tells it (TellsPlanError m f es c.in-Err.error)) m info number
+      told = subst
+          (λ r. IfOk r (λ it. OfFunctionAt m info number (λ f es. Tells it (TellsPlanError m f es c.in-Err.error))))
+          c.in-Ok-construct_of_plan.is
+          (of_the_ok (λ f es it. Tells it (TellsPlanError m f es c.in-Err.error)) m info number
           c.function_of.result.0.now c.function_of.result.1.now c.function_of.ensures.function c.function_of.ensures.known
-          c.construct_of_plan.result c.construct_of_plan.ensures.ok;
-      part = c.part_of.ensures;
+          c.construct_of_plan.result c.construct_of_plan.ensures.ok);
+      part = c.part_of-part.ensures;
       other = c.in-Ok-construct_of_plan.ensures.refused;
     })
