@@ -4,15 +4,15 @@ use crate::error::{Problem, ReadError, Wanted};
 use crate::let_be;
 use crate::shape::{
     FromJson, expect_members, expect_members_beside, expect_null, fill, in_item, in_member,
-    item_of, items_of, member, mistyped, word,
+    item_of, items_of, member, members_of, mistyped, word,
 };
 use indexmap::IndexMap;
+use json::Value;
 use naga_ir::{
     Constant, EntryPoint, Expression, Function, FunctionArgument, FunctionResult, GlobalVariable,
     Handle, LocalVariable, MeshStageInfo, Module, Override, Place, PredeclaredType, ShaderStage,
     SpecialTypes, Type_,
 };
-use serde_json::Value;
 use std::alloc::Global;
 
 /// The words of [`ShaderStage`].
@@ -163,10 +163,10 @@ impl FromJson for EntryPoint {
 
 /// Refuses a workgroup's size of which an override sets some part.
 fn expect_no_overrides(alloc: Global, value: &Value) -> Result<(), ReadError> {
-    if !value.is_array() {
+    let Value::Array(items) = value else {
         return expect_null(alloc, value);
-    }
-    match items_of(alloc, value)? {
+    };
+    match items.as_slice() {
         [x, y, z] => {
             in_item(alloc, 0, expect_null(alloc, x))?;
             in_item(alloc, 1, expect_null(alloc, y))?;
@@ -201,19 +201,17 @@ impl FromJson for IndexMap<Handle<Expression>, String> {
         alloc: Global,
         value: &Value,
     ) -> Result<IndexMap<Handle<Expression>, String>, ReadError> {
-        let Some(members) = value.as_object() else {
-            return Err(mistyped(alloc, Wanted::Object));
-        };
-        let mut named = Vec::new(alloc);
-        for (key, label) in members.iter() {
+        let members = members_of(alloc, value)?;
+        let mut named = Vec::with_capacity(alloc, members.len())?;
+        for member in members {
             named.push(in_member(
                 alloc,
-                key.as_str(),
-                named_expression(alloc, key.as_str(), label),
+                member.0,
+                named_expression(alloc, member.0, &member.1),
             )?)?;
         }
-        // the members' order is that of texts: "10" stands before "2"
-        named.sort_unstable_by_key(|named| named.index);
+        // a stable order: of an expression that is named twice, the last name stays
+        named.sort_by_key(|named| named.index)?;
         let mut read = IndexMap::new(alloc);
         for named in named {
             read.insert(Place::from_index(named.index), named.label)?;
@@ -281,9 +279,9 @@ fn predeclared_pair(alloc: Global, value: &Value) -> Result<PredeclaredPair, Rea
 }
 
 /// The pairs of a map whose keys are no texts: a list of them, or an object without members.
-fn pairs_of(alloc: Global, value: &Value) -> Result<&[Value], ReadError> {
-    match value.as_object() {
-        Some(members) if members.is_empty() => Ok(&[]),
+fn pairs_of<'v, 'a>(alloc: Global, value: &'v Value<'a>) -> Result<&'v [Value<'a>], ReadError> {
+    match value {
+        Value::Object(members) if members.is_empty() => Ok(&[]),
         _ => items_of(alloc, value),
     }
 }

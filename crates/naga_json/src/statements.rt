@@ -6,8 +6,8 @@ use crate::shape::{
     FromJson, Variants, expect_members, expect_members_beside, in_item, in_member, items_of,
     meaning, member, missing, mistyped, named_variant, read_variant, unit,
 };
+use json::Value;
 use naga_ir::{Block, Range, RayPipelineFunction, Statement, SwitchCase, SwitchValue};
-use serde_json::Value;
 use std::alloc::Global;
 
 /// The variants of [`SwitchValue`].

@@ -1,9 +1,13 @@
 //! Many modules: each line of the input is answered by a line of the output.
 
+ghost use Rattle.json.specs.Tree.{HasNumbers};
+ghost use Rattle.json.specs.Value.{value_view};
+
 use crate::failure::Failure;
 use crate::texts::{Style, write_in};
+use json::Scratch;
 use module_answers::{JsonPlace, Written};
-use naga_json::{Known, ReadError, known_of};
+use naga_json::{Known, ReadError, known_of, parse_bytes};
 use naga_wgsl_out::info::Unaccepted;
 use naga_wgsl_out::wgsl::Error;
 use serde_json::{Map, Value};
@@ -58,9 +62,10 @@ type Members = Map<String, Value>;
 /// The answer to a line.
 fn line_answer(alloc: Global, line: &[u8], style: Style) -> Result<String, AllocError> {
     let mut members = Map::new(alloc);
-    match Value::from_slice(alloc, line) {
-        Ok(mut request) => answer_request(alloc, &mut request, style, &mut members)?,
-        Err(error) => tell_unread(alloc, ReadError::from(error), &mut members)?,
+    let mut scratch = Scratch::new(alloc);
+    match parse_bytes(alloc, line, &mut scratch) {
+        Ok(request) => answer_request(alloc, &request, style, &mut members)?,
+        Err(error) => tell_unread(alloc, error, &mut members)?,
     }
     Value::Object(members).to_string(alloc)
 }
@@ -68,23 +73,37 @@ fn line_answer(alloc: Global, line: &[u8], style: Style) -> Result<String, Alloc
 /// Tells what becomes of the module that is asked for, under the id that came with it.
 fn answer_request(
     alloc: Global,
-    request: &mut Value,
+    request: &json::Value<'_>,
     style: Style,
     members: &mut Members,
-) -> Result<(), AllocError> {
+) -> Result<(), AllocError>
+    requires { HasNumbers (value_view request.now) }
+{
     match style_in(request, style) {
         Ok(style) => answer_module(alloc, request, style, members)?,
         Err(error) => tell(alloc, "error", error, members)?,
     }
-    if let Some(id) = request.get_mut("id") {
-        put(alloc, "id", id.take(), members)?;
+    if let Some(id) = request.get("id") {
+        put(alloc, "id", owned(alloc, id)?, members)?;
     }
     Ok(())
 }
 
+/// The same JSON as a value of its own, which can stand in an answer.
+fn owned(alloc: Global, value: &json::Value<'_>) -> Result<Value, AllocError>
+    requires { HasNumbers (value_view value.now) }
+{
+    let text = json::to_vec(alloc, value)?;
+    match Value::from_slice(alloc, text.as_slice()) {
+        Ok(value) => Ok(value),
+        // it is read back as it was written, so that memory was wanting
+        Err(_) => Err(AllocError),
+    }
+}
+
 /// The style that is asked for: what the request doesn't tell is as in this one. It is an error
 /// where what tells it is no truth value.
-fn style_in(request: &Value, style: Style) -> Result<Style, &'static str> {
+fn style_in(request: &json::Value<'_>, style: Style) -> Result<Style, &'static str> {
     let Some(explicit_types) = truth_in(request, "explicit_types", style.explicit_types) else {
         return Err("explicit_types: no truth value");
     };
@@ -98,7 +117,7 @@ fn style_in(request: &Value, style: Style) -> Result<Style, &'static str> {
 }
 
 /// The truth value that a member has, or this one where there is no such member.
-fn truth_in(request: &Value, name: &str, absent: bool) -> Option<bool> {
+fn truth_in(request: &json::Value<'_>, name: &str, absent: bool) -> Option<bool> {
     match request.get(name) {
         Some(told) => told.as_bool(),
         None => Some(absent),
@@ -107,7 +126,7 @@ fn truth_in(request: &Value, name: &str, absent: bool) -> Option<bool> {
 
 fn answer_module(
     alloc: Global,
-    request: &Value,
+    request: &json::Value<'_>,
     style: Style,
     members: &mut Members,
 ) -> Result<(), AllocError> {
