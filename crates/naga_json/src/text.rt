@@ -1,7 +1,6 @@
 //! JSON over the text that it is read from.
 
 ghost use Rattle.std.specs.Prelude.{◌≡◌, ◌⊎◌, Some, None, IfOk, IfErr, IsUtf8};
-ghost use Rattle.json.specs.Tree.{HasNumbers};
 ghost use Rattle.json.specs.Value.{value_view, items_view, members_view};
 ghost use Rattle.naga_json.specs.Text.{json_of, numbers_fit, items_fit, members_fit, numeral_fits, IsNoJson};
 
@@ -23,7 +22,6 @@ pub fn parse<'a>(
 ) -> Result<Value<'a>, ReadError>
     // What `Ok` holds.
     ensures value { IfOk result (λ v. json_of text.now ≡ Some (value_view v)) }
-    ensures writable { IfOk result (λ v. HasNumbers (value_view v)) }
 
     // When each error comes.
     ensures kind { IfErr result (λ e. (e ≡ ReadError.OutOfMemory) ⊎ IsNoJson e) }
@@ -56,7 +54,6 @@ pub fn parse_bytes<'a>(
 ) -> Result<Value<'a>, ReadError>
     ensures value { IfOk result
         (λ v. IsUtf8 bytes.now × (json_of bytes.now ≡ Some (value_view v))) }
-    ensures writable { IfOk result (λ v. HasNumbers (value_view v)) }
     ensures kind { IfErr result (λ e. (e ≡ ReadError.OutOfMemory) ⊎ IsNoJson e) }
     ensures refused { IfErr result
         (λ e. IsNoJson e → IsUtf8 bytes.now → json_of bytes.now ≡ None) }

@@ -1,8 +1,5 @@
 //! Many modules: each line of the input is answered by a line of the output.
 
-ghost use Rattle.json.specs.Tree.{HasNumbers};
-ghost use Rattle.json.specs.Value.{value_view};
-
 use crate::failure::Failure;
 use crate::texts::{Style, write_in};
 use json::Scratch;
@@ -64,7 +61,7 @@ fn line_answer(alloc: Global, line: &[u8], style: Style) -> Result<String, Alloc
     let mut members = Map::new(alloc);
     let mut scratch = Scratch::new(alloc);
     match parse_bytes(alloc, line, &mut scratch) {
-        Ok(request) => answer_request(alloc, &request, style, &mut members)?,
+        Ok(request) => answer_request(alloc, &request, style, line, &mut members)?,
         Err(error) => tell_unread(alloc, error, &mut members)?,
     }
     Value::Object(members).to_string(alloc)
@@ -75,28 +72,43 @@ fn answer_request(
     alloc: Global,
     request: &json::Value<'_>,
     style: Style,
+    line: &[u8],
     members: &mut Members,
-) -> Result<(), AllocError>
-    requires { HasNumbers (value_view request.now) }
-{
+) -> Result<(), AllocError> {
     match style_in(request, style) {
         Ok(style) => answer_module(alloc, request, style, members)?,
         Err(error) => tell(alloc, "error", error, members)?,
     }
     if let Some(id) = request.get("id") {
-        put(alloc, "id", owned(alloc, id)?, members)?;
+        put(alloc, "id", owned_id(alloc, id, line)?, members)?;
     }
     Ok(())
 }
 
-/// The same JSON as a value of its own, which can stand in an answer.
-fn owned(alloc: Global, value: &json::Value<'_>) -> Result<Value, AllocError>
-    requires { HasNumbers (value_view value.now) }
-{
-    let text = json::to_vec(alloc, value)?;
-    match Value::from_slice(alloc, text.as_slice()) {
+/// The id that came in this line, as a value that can stand in an answer.
+fn owned_id(alloc: Global, id: &json::Value<'_>, line: &[u8]) -> Result<Value, AllocError> {
+    match id {
+        json::Value::Null => Ok(Value::Null),
+        json::Value::Bool(truth) => Ok(Value::Bool(*truth)),
+        json::Value::String(text) => Value::try_from_str(alloc, text),
+        json::Value::Number(numeral) => reread(Value::from_str(alloc, numeral)),
+        json::Value::Array(_) | json::Value::Object(_) => id_in(alloc, line),
+    }
+}
+
+/// The id that comes in this line.
+fn id_in(alloc: Global, line: &[u8]) -> Result<Value, AllocError> {
+    let mut request = reread(Value::from_slice(alloc, line))?;
+    match request.get_mut("id") {
+        Some(id) => Ok(id.take()),
+        None => Ok(Value::Null),
+    }
+}
+
+/// What is read of a text that was read before, so that only memory may be wanting.
+fn reread(read: Result<Value, serde_json::Error>) -> Result<Value, AllocError> {
+    match read {
         Ok(value) => Ok(value),
-        // it is read back as it was written, so that memory was wanting
         Err(_) => Err(AllocError),
     }
 }
