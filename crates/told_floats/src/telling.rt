@@ -23,9 +23,9 @@ use std::alloc::{AllocError, Global};
 /// tell_floats(alloc, &mut shader.module)?;
 /// ```
 pub fn tell_floats(alloc: Global, module: &mut Module) -> Result<(), AllocError>
-    ensures told { IsToldModule module.old module.new }
-    ensures accepted { (info : ModuleInfo) → IsTrue (is_accepted module.old info) →
-        IsTrue (is_accepted module.new info) }
+    ensures told { IsToldModule «module».old «module».new }
+    ensures accepted { (info : ModuleInfo) → IsTrue (is_accepted «module».old info) →
+        IsTrue (is_accepted «module».new info) }
 {
     tell_expressions(alloc, &mut module.global_expressions)?;
     tell_functions(alloc, &mut module.functions)?;

@@ -1,8 +1,13 @@
-use Rattle.std.proofs.Common.{refl, rules}
-use Rattle.yorwethul_c.specs.Answers.{TellsOfChecking}
+use Rattle.std.proofs.Common.{IfErr, inr, refl, subst, rules}
+use Rattle.module_answers.specs.Within.{TellsDepth}
+use Rattle.yorwethul_c.specs.Answers.{TellsOfChecking, deepest_nesting}
 use Rattle.yorwethul_c.specs.declared.status.Status.TheVariants as status
-use Rattle.yorwethul_c.proofs.Told.{accepted_by, faulty, said}
+use Rattle.yorwethul_c.proofs.Told.{accepted_by, faulty, said, too_deep}
 use Rattle.yorwethul_c.proofs.answers.checked_known.Goals as goal
+
+pub returns-in-Err : goal.returns-in-Err
+returns-in-Err c =
+    λ json. too_deep (TellsOfChecking json) c.args.known.now.module _ _ _ inr refl (subst (λ r. IfErr r (TellsDepth deepest_nesting c.args.known.now.module)) c.in-Err.is c.look_into.ensures.deep) c.not_written.ensures
 
 pub returns-in-Some : goal.returns-in-Some
 returns-in-Some c =

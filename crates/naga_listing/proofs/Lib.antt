@@ -1,0 +1,4 @@
+pub mod Choosing
+pub mod Lines
+pub mod Seeking
+pub mod Types
