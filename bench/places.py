@@ -11,8 +11,8 @@ import re
 import sys
 
 ASIDE = {
-    "naga_ir", "naga_json", "naga_builder", "sample_modules", "wgsl_rows", "wgsl_tests", "wgsl_cases",
-    "example_tint",
+    "naga_ir", "naga_json", "naga_builder", "sample_modules", "wgsl_rows", "word_tests", "module_tests", "wgsl_tests",
+    "wgsl_cases", "example_tint",
 }
 TOP = os.path.join(os.path.dirname(os.path.abspath(__file__)), "..")
 CRATES = os.path.join(TOP, "crates")

@@ -1,8 +1,8 @@
 #!/usr/bin/env python3
-"""Tries the edits of bench/tested_edits: wrong bodies that the tests of `wgsl_tests` are to refuse. Those that find no
-memory where there is some are refused by nothing else, since no contract says when memory is there, nor are those of
-`naga_json`, which has no contracts of what is read. Each is made on a copy of the crates, whose tests are run without
-any proof; one of them must fail.
+"""Tries the edits of bench/tested_edits: wrong bodies that the tests of `wgsl_tests`, and those of `naga_json` in
+`module_tests`, are to refuse. Those that find no memory where there is some are refused by nothing else, since no contract
+says when memory is there, nor are those of `naga_json`, which has no contracts of what is read. Each is made on a copy of
+the crates, whose tests are run without any proof; one of them must fail.
 
 Run it at the top of the repository, with the names of edits for these alone. Each takes some minutes.
 """
@@ -15,6 +15,8 @@ import tempfile
 from pathlib import Path
 
 TOP = Path(__file__).resolve().parent.parent
+# The crate of tests that is to refuse the edits of a crate.
+TESTS = {"naga_json": "module_tests", "naga_wgsl_out": "wgsl_tests"}
 
 
 def main(names):
@@ -32,7 +34,7 @@ def is_refused(edit):
             shutil.copy(TOP / name, copy / name)
         make(edit, copy / "crates" / edit.parent.name)
         run = subprocess.run(
-            ["rt", "try", "--test", "--seconds", "600"], cwd=copy / "crates" / "wgsl_tests", text=True,
+            ["rt", "try", "--test", "--seconds", "600"], cwd=copy / "crates" / TESTS[edit.parent.name], text=True,
             stdin=subprocess.DEVNULL, stdout=subprocess.PIPE, stderr=subprocess.STDOUT)
     failed = re.findall(r"^test (\S+) .*FAILED", run.stdout, re.MULTILINE)
     print(f"{edit.stem}: {'refused by ' + ', '.join(failed) if failed else 'NOT REFUSED'}", flush=True)

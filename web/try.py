@@ -77,7 +77,7 @@ def questions():
 
 def shown_of(answer):
     """The status and the text by which the page shows what the program answers."""
-    return ("refused", answer["refused"]) if "refused" in answer else ("done", answer["text"])
+    return ("refused", "{refused}: {place}".format(**answer)) if "refused" in answer else ("done", answer["text"])
 
 
 def ask(browser, port, words, wanted):

@@ -33,10 +33,12 @@ LAYERS = [
         ("naga_names", "the namer"),
         ("naga_words", "sinks, spellings"),
         ("naga_back", "naga's helpers"),
+        ("naga_listing", "pictures of places"),
     ]),
     ("numbers", CODE, [
         ("wgsl_layout", "WGSL's rules, by numbers"),
         ("naga_layout", "layouts of a module's types"),
+        ("module_limits", "nesting, bounded texts"),
     ]),
     ("languages", LAWS, [
         ("wgsl_text", "the grammar of texts"),
@@ -51,6 +53,7 @@ LAYERS = [
     ("the form", LAWS, [("naga_form", "which syntax tree is written for a module, and the laws of the square")]),
     ("the writer", CODE, [
         ("naga_acceptance", "accepts, count"),
+        ("fault_details", "what was wanted"),
         ("naga_scope", "scope, plans"),
         ("naga_wgsl_fns", "texts of functions"),
         ("naga_wgsl_out", "texts of modules"),
@@ -59,7 +62,10 @@ LAYERS = [
     ("tests", CODE, [
         ("sample_modules", "modules by name"),
         ("wgsl_cases", "tests as data"),
-        ("wgsl_tests", "tests of calls"),
+        ("listing_cases", "listings as data"),
+        ("word_tests", "of names and words"),
+        ("module_tests", "of modules"),
+        ("wgsl_tests", "of texts"),
     ]),
     ("programs", CODE, [
         ("yorwethul", "reads JSON"),

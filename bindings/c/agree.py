@@ -107,6 +107,9 @@ def in_rust(calls):
 # ---- numbers
 
 
+LIMITS = ("LONGEST_TEXT", "DEEPEST_NESTING")
+
+
 def numbers_of_header(header):
     told = re.findall(r"YORWETHUL_(\w+) = (\d+)", header) + re.findall(r"#define YORWETHUL_(\w+) (\d+)u", header)
     return {name: int(number) for name, number in told}
@@ -118,7 +121,8 @@ def numbers_of_crate():
     answers = (CRATE / "answers.rt").read_text()
     version = re.search(r"fn yorwethul_version.*?\{\n    ([\d_]+)\n\}", (CRATE / "lib.rt").read_text(), re.DOTALL)
     numbers["VERSION"] = int(version[1])
-    numbers["LONGEST_TEXT"] = int(re.search(r"LONGEST_TEXT: usize = ([\d_]+);", answers)[1])
+    for name in LIMITS:
+        numbers[name] = int(re.search(rf"{name}: usize = ([\d_]+);", answers)[1])
     return {**numbers, **flags_of_calls()}
 
 
@@ -139,14 +143,14 @@ def unknown_flags_differ():
 def rust_numbers_differ(wanted):
     """Where a constant of the Rust crate has another number. An unknown flag can't come there."""
     told = re.findall(r"pub const (\w+): u32 = (\d+);", (RUST / "src/sys.rs").read_text())
-    left_out = {"UNKNOWN_FLAG", "VERSION", "LONGEST_TEXT"}
+    left_out = {"UNKNOWN_FLAG", "VERSION", *LIMITS}
     ours = {name: number for name, number in wanted.items() if name not in left_out}
     return differences("yorwethul.h", ours, "bindings/rust", {name: int(number) for name, number in told})
 
 
 def statuses_differ(wanted):
     """Where the page in web/ or the library's test names another status, by its place in a list."""
-    left_out = {"VERSION", "LONGEST_TEXT", *flags_of_calls()}
+    left_out = {"VERSION", *LIMITS, *flags_of_calls()}
     statuses = {name: number for name, number in wanted.items() if name not in left_out}
     return [
         *differences("yorwethul.h", statuses, "web/index.html", numbered(statuses_of_page())),

@@ -16,16 +16,18 @@ extern "C" {
 /* what a call gives */
 enum yorwethul_status {
     YORWETHUL_DONE = 0,          /* out has what was asked for: WGSL, layouts, or nothing of yorwethul_check */
-    YORWETHUL_REFUSED = 1,       /* the module is accepted, and refused: "float literal" */
+    YORWETHUL_REFUSED = 1,       /* it is accepted, and refused: "float literal: module.functions[0].expressions[3]" */
     YORWETHUL_NOT_ACCEPTED = 2,  /* it is not accepted: "module.functions[0].expressions[3]: .." */
     YORWETHUL_NO_MODULE = 3,     /* the bytes hold none; out tells where and why */
     YORWETHUL_UNKNOWN_FLAG = 4,  /* a bit is set that no flag has */
     YORWETHUL_OUT_OF_MEMORY = 5, /* memory was refused; *needed is 0 */
-    YORWETHUL_TOO_DEEP = 6,      /* lists and objects of the JSON nest more than 127 deep */
+    YORWETHUL_TOO_DEEP = 6,      /* lists and objects of the JSON nest more than 127 deep, or operands, types or
+                                    blocks of the module more than YORWETHUL_DEEPEST_NESTING */
     YORWETHUL_TOO_LONG = 7       /* the text would have more than YORWETHUL_LONGEST_TEXT bytes */
 };
 
 #define YORWETHUL_LONGEST_TEXT 67108864u
+#define YORWETHUL_DEEPEST_NESTING 4000u
 
 /* flags */
 #define YORWETHUL_EXPLICIT_TYPES 1u /* each `let` tells its type */

@@ -23,12 +23,18 @@ from pathlib import Path
 HERE = Path(__file__).resolve().parent
 BINDINGS = HERE.parent
 TOP = BINDINGS.parent
+sys.path.append(str(TOP / "bench/nested_modules"))
+from modules import KINDS, doubled, nested  # noqa: E402
+
 CRATES = TOP / "crates"
 EXAMPLES = sorted((TOP / "examples").glob("*.json"))
 WARNINGS = ["-Wall", "-Wextra", "-pedantic"]
 # as yorwethul.h numbers them; bindings/c/agree.py compares the two
 DONE, REFUSED, NOT_ACCEPTED, NO_MODULE, UNKNOWN_FLAG, OUT_OF_MEMORY, TOO_DEEP, TOO_LONG = range(8)
 EXPLICIT_TYPES, PORTABLE, TELL_FLOATS = 1, 2, 4
+# what a line of the program may have in place of the program's limits; a call from C has its own
+LIMITS_OF_LINES = (b'"nesting":', b'"text":')
+DEEPEST_NESTING = 4_000
 ALL_FLAGS = EXPLICIT_TYPES | PORTABLE | TELL_FLOATS
 
 # By which words the programs to copy ask for flags.
@@ -233,14 +239,15 @@ def test_lines(folder, _):
     library = Library(folder / "libyorwethul.so")
     lines = zip((CRATES / "yorwethul/stdin").read_bytes().splitlines(), (CRATES / "yorwethul/stdout").read_text().splitlines())
     for line, answer in ((line, json.loads(answer)) for line, answer in lines):
-        if answer.get("error", "").endswith(": no truth value"):
+        if answer.get("error", "").endswith((": no truth value", ": no number of 32 bits")) or any(name in line for name in LIMITS_OF_LINES):
             continue
         if "refused" in answer:
-            wanted = (REFUSED, answer["refused"])
+            wanted = (REFUSED, "{refused}: {place}".format(**answer))
         elif "text" in answer:
             wanted = (DONE, answer["text"])
         elif "not_accepted" in answer:
-            wanted = (NOT_ACCEPTED, "{place}: {fault}".format(**answer["not_accepted"]))
+            told = answer["not_accepted"]
+            wanted = (NOT_ACCEPTED, ": ".join(told[name] for name in ("place", "fault", "wanted") if name in told))
         else:
             wanted = (NO_MODULE, answer["error"])
         told = library.call("write", line, flags_of_line(line))
@@ -298,8 +305,11 @@ def wanted_of(answer, text):
     if last.startswith("not accepted: "):
         _, fault = last.removeprefix("not accepted: ").split(": ", 1)
         return NOT_ACCEPTED, (text if text and text.endswith(f": {fault}") else fault)
+    if last.startswith("at: "):
+        return REFUSED, f'{front.rpartition("refused: ")[2]}: {last.removeprefix("at: ")}'
     if last.startswith("refused: "):
-        return REFUSED, last.removeprefix("refused: ")
+        construct = last.removeprefix("refused: ")
+        return REFUSED, (text if text and text.startswith(f"{construct}: module") else construct)
     return DONE, answer
 
 
@@ -326,6 +336,14 @@ def test_depth(folder, _):
         for name, flags in (("write", [0]), ("check", []), ("layout", [])):
             told = library.call(name, data, *flags)
             must(told[0] == wanted, f"{name}: {told} of {data[:40]}")
+    for kind in KINDS:
+        for depth in (DEEPEST_NESTING + 1, 100_000):
+            data = json.dumps(nested(kind, depth)).encode()
+            for name, flags in (("write", [0]), ("check", []), ("layout", [])):
+                told = library.call(name, data, *flags)
+                must(told[0] == TOO_DEEP and told[1].startswith("nested too deep: "), f"{name}: {told} of {kind}, {depth} deep")
+    told = library.call("write", json.dumps(doubled(100)).encode(), 0)
+    must(told == (TOO_LONG, "text of more than 67108864 bytes"), f"{told} of a text that doubles")
 
 
 def test_hammer(folder, room, counts=None):

@@ -53,6 +53,14 @@ impl Error {
             Error::Untold(_) => None,
         }
     }
+
+    /// The place in the module, where one is told: `module.functions[0].expressions[3]`.
+    pub fn place(&self) -> Option<&str> {
+        match self {
+            Error::Yorwethul(error) => error.place(),
+            Error::Untold(_) => None,
+        }
+    }
 }
 
 impl fmt::Display for Error {

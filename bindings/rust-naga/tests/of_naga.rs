@@ -156,7 +156,7 @@ fn locals_are_stored_and_loaded() {
 }
 
 #[test]
-fn a_refusal_tells_the_construct() {
+fn a_refusal_tells_the_construct_and_its_place() {
     let mut module = Module::default();
     let ty = scalar(&mut module, Scalar::F32);
     let mut half = function("half", ty);
@@ -167,7 +167,9 @@ fn a_refusal_tells_the_construct() {
     module.functions.append(half, SPAN);
     let error = write(&module, &known(&module), Flags::empty()).unwrap_err();
     assert_eq!(error.construct(), Some("float literal"));
-    assert_eq!(error.to_string(), "refused: float literal");
+    let place = "module.functions[0].expressions[0]";
+    assert_eq!(error.place(), Some(place));
+    assert_eq!(error.to_string(), format!("refused: float literal: {place}"));
     let text = "fn half() -> f32 {\n    return 0.5f;\n}\n\n";
     let told = write(&module, &known(&module), Flags::TELL_FLOATS);
     assert_eq!(told.as_deref(), Ok(text));
@@ -227,7 +229,7 @@ fn deep_operands_take_a_thread() {
         .expressions
         .append(Expression::FunctionArgument(0), SPAN);
     let mut last = first;
-    let depth = 20_000;
+    let depth = 3_999;
     for _ in 0..depth {
         let negated = Expression::Unary {
             op: UnaryOperator::Negate,

@@ -10,13 +10,17 @@ pub enum Error {
     Refused {
         /// The construct: `float literal`.
         construct: String,
+        /// Where it stands: `module.functions[0].expressions[3]`. It is empty where memory was
+        /// refused to find it.
+        place: String,
     },
     /// The module is not accepted with what is known of it.
     #[non_exhaustive]
     NotAccepted {
         /// Where: `module.functions[0].expressions[3]`, or `module.functions[0], statement 3`.
         place: String,
-        /// What is wrong there.
+        /// What is wrong there, and what was wanted:
+        /// `the known type is another: wanted vec4<f32>, got f32`.
         fault: String,
     },
     /// The JSON holds no module.
@@ -30,8 +34,13 @@ pub enum Error {
     },
     /// Memory was refused.
     OutOfMemory,
-    /// Lists and objects of the JSON nest more than 127 deep.
-    TooDeep,
+    /// Lists and objects of the JSON nest more than 127 deep, or operands, types or blocks of the
+    /// module more than 4,000.
+    #[non_exhaustive]
+    TooDeep {
+        /// What does: `nested too deep: operands`.
+        what: String,
+    },
     /// The text would have more than 64 MiB.
     TooLong,
     /// No thread could be started.
@@ -46,7 +55,7 @@ impl Error {
     /// The construct for which the module is refused.
     pub fn construct(&self) -> Option<&str> {
         match self {
-            Error::Refused { construct } => Some(construct),
+            Error::Refused { construct, .. } => Some(construct),
             _ => None,
         }
     }
@@ -54,7 +63,9 @@ impl Error {
     /// The place in the JSON, where one is told.
     pub fn place(&self) -> Option<&str> {
         match self {
-            Error::NotAccepted { place, .. } | Error::NoModule { place, .. } => Some(place)
+            Error::Refused { place, .. }
+            | Error::NotAccepted { place, .. }
+            | Error::NoModule { place, .. } => Some(place)
                 .filter(|place| !place.is_empty())
                 .map(String::as_str),
             _ => None,
@@ -65,14 +76,17 @@ impl Error {
 impl fmt::Display for Error {
     fn fmt(&self, f: &mut fmt::Formatter<'_>) -> fmt::Result {
         match self {
-            Error::Refused { construct } => write!(f, "refused: {construct}"),
+            Error::Refused { construct, place } if place.is_empty() => {
+                write!(f, "refused: {construct}")
+            }
+            Error::Refused { construct, place } => write!(f, "refused: {construct}: {place}"),
             Error::NotAccepted { place, fault } => write!(f, "not accepted: {place}: {fault}"),
             Error::NoModule { place, problem } if place.is_empty() => {
                 write!(f, "no module: {problem}")
             }
             Error::NoModule { place, problem } => write!(f, "no module: {place}: {problem}"),
             Error::OutOfMemory => f.write_str("out of memory"),
-            Error::TooDeep => f.write_str("lists and objects nest more than 127 deep"),
+            Error::TooDeep { what } => f.write_str(what),
             Error::TooLong => f.write_str("text of more than 64 MiB"),
             #[cfg(feature = "std")]
             Error::Thread(kind) => write!(f, "no thread could be started: {kind}"),

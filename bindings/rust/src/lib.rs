@@ -39,9 +39,10 @@
 //!
 //! # The stack
 //!
-//! A call takes some 128 KiB of stack, and up to 8 bytes more for each byte of the JSON where
-//! operands stand deep in one another. For JSON of whatever origin call [`write_json_on_thread`],
-//! or call on a thread that has [`stack_size`] bytes.
+//! A call takes some 128 KiB of stack, up to 8 bytes more for each byte of the JSON where operands
+//! stand deep in one another, and never more than [`STACK`]: a module that is nested deeper than
+//! 4,000 levels is [`Error::TooDeep`]. For JSON of whatever origin call [`write_json_on_thread`], or
+//! call on a thread that has [`stack_size`] bytes.
 //!
 //! # Without std
 //!
@@ -162,9 +163,17 @@ pub fn write_json_on_thread(json: &str, flags: Flags) -> Result<String, Error> {
     })
 }
 
+/// How many bytes of stack are enough for a call with any JSON.
+pub const STACK: usize = 4 << 20;
+
 /// How many bytes of stack are enough for a call with this JSON.
 pub const fn stack_size(json: &str) -> usize {
-    json.len().saturating_mul(8).saturating_add(256 << 10)
+    let by_length = json.len().saturating_mul(8).saturating_add(256 << 10);
+    if by_length < STACK {
+        by_length
+    } else {
+        STACK
+    }
 }
 
 /// The version of the archive: a million times the first number, a thousand times the second, and
@@ -205,7 +214,10 @@ fn memory(length: usize) -> Result<Vec<u8>, Error> {
 fn answer(status: u32, text: String) -> Result<String, Error> {
     Err(match status {
         sys::DONE => return Ok(text),
-        sys::REFUSED => Error::Refused { construct: text },
+        sys::REFUSED => {
+            let (construct, place) = refused_at(&text);
+            Error::Refused { construct, place }
+        }
         sys::NOT_ACCEPTED => {
             let (place, fault) = placed(&text);
             Error::NotAccepted { place, fault }
@@ -215,11 +227,19 @@ fn answer(status: u32, text: String) -> Result<String, Error> {
             Error::NoModule { place, problem }
         }
         sys::OUT_OF_MEMORY => Error::OutOfMemory,
-        sys::TOO_DEEP => Error::TooDeep,
+        sys::TOO_DEEP => Error::TooDeep { what: text },
         sys::TOO_LONG => Error::TooLong,
         // an unknown flag too: the flags here are known
         unknown => Error::Unknown(unknown),
     })
+}
+
+/// The construct in front of its place, and the place, which is empty where none is told.
+fn refused_at(text: &str) -> (String, String) {
+    match text.find(": module") {
+        Some(at) => (text[..at].into(), text[at + 2..].into()),
+        None => (text.into(), String::new()),
+    }
 }
 
 /// The place in front of a reason, and the reason.

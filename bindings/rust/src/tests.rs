@@ -46,7 +46,10 @@ fn a_longer_error_takes_two() {
     let construct = "long ".repeat(100);
     assert_eq!(
         told(sys::REFUSED, &construct),
-        Err(Error::Refused { construct })
+        Err(Error::Refused {
+            construct,
+            place: String::new()
+        })
     );
 }
 
@@ -59,6 +62,7 @@ fn nothing_is_a_text() {
 fn each_status_is_told() {
     let statuses = [
         (1, "float literal", "refused: float literal"),
+        (1, "a: b: module.x[0]", "refused: a: b: module.x[0]"),
         (
             2,
             "module.types[3]: bad",
@@ -68,7 +72,7 @@ fn each_status_is_told() {
         (3, "not UTF-8", "no module: not UTF-8"),
         (4, "a bit", "unknown answer of libyorwethul.a, status 4"),
         (5, "", "out of memory"),
-        (6, "deep", "lists and objects nest more than 127 deep"),
+        (6, "nested too deep: types", "nested too deep: types"),
         (7, "long", "text of more than 64 MiB"),
         (8, "?", "unknown answer of libyorwethul.a, status 8"),
     ];
@@ -92,6 +96,13 @@ fn a_place_is_apart_from_its_reason() {
     let error = told(sys::REFUSED, "float literal").unwrap_err();
     assert_eq!(error.construct(), Some("float literal"));
     assert_eq!(error.place(), None);
+    let text = "Unsupported math function: Outer: module.functions[0].expressions[1]";
+    let error = told(sys::REFUSED, text).unwrap_err();
+    assert_eq!(
+        error.construct(),
+        Some("Unsupported math function: Outer")
+    );
+    assert_eq!(error.place(), Some("module.functions[0].expressions[1]"));
 }
 
 #[test]

@@ -2,7 +2,7 @@
 
 use std::thread;
 use yorwethul::{
-    check_json, layout_json, library_version, stack_size, write_json, write_json_on_thread,
+    check_json, layout_json, library_version, stack_size, write_json, write_json_on_thread, STACK,
 };
 use yorwethul::{Error, Flags};
 
@@ -83,7 +83,7 @@ fn an_empty_module_has_an_empty_text() {
 }
 
 #[test]
-fn a_refused_module_tells_the_construct() {
+fn a_refused_module_tells_the_construct_and_its_place() {
     let half = DOUBLE
         .replace("\"Sint\"", "\"Float\"")
         .replace(r#"{"FunctionArgument": 0}"#, r#"{"Literal": {"F32": 0.5}}"#);
@@ -91,7 +91,9 @@ fn a_refused_module_tells_the_construct() {
     assert!(told.contains("0.5f"), "{told}");
     let error = write_json(&half, Flags::empty()).unwrap_err();
     assert_eq!(error.construct(), Some("float literal"));
-    assert_eq!(error.to_string(), "refused: float literal");
+    let place = error.place().unwrap();
+    assert!(place.starts_with("module.functions[0].expressions["), "{place}");
+    assert_eq!(error.to_string(), format!("refused: float literal: {place}"));
     assert_eq!(check_json(&half), Ok(()));
 }
 
@@ -128,7 +130,16 @@ fn what_is_no_module_tells_why() {
 
 #[test]
 fn what_nests_too_deep_is_told() {
-    assert_eq!(check_json(&"[".repeat(1000)), Err(Error::TooDeep));
+    let what = |json: &str| match check_json(json) {
+        Err(Error::TooDeep { what, .. }) => what,
+        other => panic!("{other:?}"),
+    };
+    assert_eq!(
+        what(&"[".repeat(1000)),
+        "lists and objects nest more than 127 deep"
+    );
+    assert_eq!(what(&nested(4_000)), "nested too deep: operands");
+    assert_eq!(what(&nested(200_000)), "nested too deep: operands");
 }
 
 #[test]
@@ -146,10 +157,11 @@ fn threads_give_one_text() {
 
 #[test]
 fn deep_operands_take_a_stack() {
-    let json = nested(200_000);
+    // the argument makes a level too
+    let json = nested(3_999);
     let text = write_json_on_thread(&json, Flags::empty()).unwrap();
-    assert_eq!(text.matches("-(").count(), 200_000);
-    assert!(stack_size(&json) > 8 * json.len());
+    assert_eq!(text.matches("-(").count(), 3_999);
+    assert!(stack_size(&json) <= STACK);
 }
 
 #[test]

@@ -1,11 +1,17 @@
-//! What is told of a module by those that read it from JSON: its text, the place of a fault, and
-//! where the members of its structs stand. Programs and libraries can share it.
+//! What is told of a module by those that read it from JSON: its text, a fault or a refusal with its
+//! place, and where the members of its structs stand. Programs and libraries can share it.
 #![tactic(auto)]
 
+mod faults;
 mod layouts;
+mod listed_places;
 mod places;
+mod within;
 mod writing;
 
+pub use faults::{fault_line, fault_text};
 pub use layouts::layout_table;
-pub use places::JsonPlace;
+pub use listed_places::{listed_place, refused_place};
+pub use places::{JsonPlace, JsonRefusal, JsonRefusalPlace, label_at};
+pub use within::{Unwritten, look_into, write_told_within, write_within};
 pub use writing::{Written, flags_for, write, write_told};

@@ -12,6 +12,7 @@ use Rattle.std.proofs.lemmas.List.{length-map}
 use Rattle.std.proofs.lemmas.Option.{slice_get-map}
 use Rattle.naga_ir.specs.Operands.{expression_operands}
 use Rattle.naga_ir.specs.declared.expression.Expression.{Expression}
+use Rattle.naga_ir.specs.declared.expression.Expression.TheVariants as expression
 use Rattle.naga_ir.specs.declared.module.EntryPoint.{EntryPoint}
 use Rattle.naga_ir.specs.declared.module.Function.{Function}
 use Rattle.naga_ir.specs.declared.module.Module.{Module}
@@ -20,7 +21,7 @@ use Rattle.naga_info.specs.declared.info.ModuleInfo.{ModuleInfo}
 use Rattle.naga_info.specs.declared.info.TypeResolution.{TypeResolution}
 use Rattle.naga_acceptance.specs.Faults.{EntryPlaceFails, ExpressionFails, Fails}
 use Rattle.naga_acceptance.specs.Faults.{FunctionPlaceFails, Unfit}
-use Rattle.naga_acceptance.specs.Faults.{entry_names_fit, known_of}
+use Rattle.naga_acceptance.specs.Faults.{entry_names_fit, known_of, names_there, numeral_fits}
 use Rattle.naga_acceptance.specs.FirstFaults.{at, at_entry_point, at_expression, at_function}
 use Rattle.naga_acceptance.specs.FirstFaults.{declarations_range_fault, declarations_sound_fault}
 use Rattle.naga_acceptance.specs.FirstFaults.{entry_point_range_fault, entry_point_sizes_fault}
@@ -32,7 +33,8 @@ use Rattle.naga_acceptance.specs.FirstFaults.{function_sizes_fault, function_sou
 use Rattle.naga_acceptance.specs.FirstFaults.{functions_range_fault, functions_sound_fault}
 use Rattle.naga_acceptance.specs.FirstFaults.{global_expression_range_fault, info_fault}
 use Rattle.naga_acceptance.specs.FirstFaults.{initialisers_fault, items_range_fault, known_fault}
-use Rattle.naga_acceptance.specs.FirstFaults.{module_range_fault, ranges_fault, sizes_fault}
+use Rattle.naga_acceptance.specs.FirstFaults.{module_range_fault, names_fault, ranges_fault}
+use Rattle.naga_acceptance.specs.FirstFaults.{sizes_fault}
 use Rattle.naga_acceptance.specs.FirstFaults.{sound_fault, types_range_fault}
 use Rattle.naga_acceptance.specs.Searching.{first_faulty, first_unfit}
 use Rattle.naga_acceptance.specs.TextOrder.{is_in_range, is_sound, numbered, text_order}
@@ -95,11 +97,20 @@ all_both a b n (x ∷ xs) =
 -- ---- what is named: parts of functions
 
 expression_range : (m : Module) (arguments locals h : ℕ) (e : Expression) (P : Fault → Type 0) →
-    (all_below h (expression_operands e) ≡ false → P fault.Operands) → (names_in_range m arguments locals e ≡ false → P fault.Names) →
+    (all_below h (expression_operands e) ≡ false → P fault.Operands) → (names_in_range m arguments locals e ≡ false → P (names_fault e)) →
     Finds (expression_range_fault m arguments locals h e) (expression_in_range m arguments locals h e) P
 expression_range m arguments locals h e P operands names =
     finds_unless (all_below h (expression_operands e)) fault.Operands operands
-    (λ _. finds_test (names_in_range m arguments locals e) fault.Names names)
+    (λ _. finds_test (names_in_range m arguments locals e) (names_fault e) names)
+
+-- a literal fails by its numeral, and any other expression by what it names
+names_fail : (m : Module) (arguments locals h : ℕ) (es : List Expression) (e : Expression) (P : Fault → Type 0) →
+    (Unfit (names_there m arguments locals) es h → P fault.Names) → (Unfit numeral_fits es h → P fault.Numeral) →
+    slice_get es h ≡ Some e → names_in_range m arguments locals e ≡ false → P (names_fault e)
+names_fail m arguments locals h es (expression.Literal value) P names numeral here fails =
+    numeral (unfit_at numeral_fits es h (expression.Literal value) here fails)
+names_fail m arguments locals h es e P names numeral here fails =
+    names (unfit_at (names_there m arguments locals) es h e here fails)
 
 module _ (m : Module) (callees : ℕ) (f : Function) (known : List TypeResolution) where
   abbrev RangePlace : FunctionPlace × Fault → Type 0
@@ -121,7 +132,7 @@ module _ (m : Module) (callees : ℕ) (f : Function) (known : List TypeResolutio
       (expression_range_fault m (length f.arguments.items) (length f.local_variables)) f.expressions
       (λ h e here. expression_range m (length f.arguments.items) (length f.local_variables) h e (λ kind. ExpressionFails m f known h kind)
       (λ fails. unfit_at (λ x. all_below h (expression_operands x)) f.expressions h e here fails)
-      (λ fails. unfit_at (names_in_range m (length f.arguments.items) (length f.local_variables)) f.expressions h e here fails)))
+      (λ fails. names_fail m (length f.arguments.items) (length f.local_variables) h f.expressions e (λ kind. ExpressionFails m f known h kind) (λ unfit. unfit) (λ unfit. unfit) here fails)))
 
   statements_found : Finds (result_err (numbered (is_in_range callees (length f.expressions)) 0 (text_order f.body)))
       (block_in_range callees (length f.expressions) f.body)
@@ -198,7 +209,7 @@ module _ (m : Module) (info : ModuleInfo) where
       finds_or _ _
       (expression_range m 0 0 h e (λ kind. GlobalAt (h, kind))
       (λ fails. unfit_at (λ x. all_below h (expression_operands x)) m.global_expressions h e here fails)
-      (λ fails. unfit_at (names_in_range m 0 0) m.global_expressions h e here fails))
+      (λ fails. names_fail m 0 0 h m.global_expressions e (λ kind. GlobalAt (h, kind)) (λ unfit. unfit) (λ unfit. unfit) here fails))
       (λ _. finds_test (initialiser_before m h e) fault.LaterInitialiser
       (λ fails. unfit_at (initialiser_before m h) m.global_expressions h e here fails))
 

@@ -14,6 +14,7 @@ use Rattle.std.specs.Option.{option_map, option_or}
 use Rattle.std.specs.Result.{result_err}
 use Rattle.naga_ir.specs.Operands.{expression_operands}
 use Rattle.naga_ir.specs.declared.expression.Expression.{Expression}
+use Rattle.naga_ir.specs.declared.expression.Expression.TheVariants as expression
 use Rattle.naga_ir.specs.declared.module.EntryPoint.{EntryPoint}
 use Rattle.naga_ir.specs.declared.module.Function.{Function}
 use Rattle.naga_ir.specs.declared.module.Module.{Module}
@@ -57,11 +58,16 @@ at_expression found = (part.Expression found.0, found.1)
 
 -- ---- what is named
 
+-- the fault of an expression that names what is not there; a literal's numeral is out of range then
+abbrev pub names_fault : Expression → Fault
+names_fault (expression.Literal value) = fault.Numeral
+names_fault _ = fault.Names
+
 abbrev pub expression_range_fault :
     Module → (arguments locals : ℕ) → (h : ℕ) → Expression → Option Fault
 expression_range_fault m arguments locals h e =
     unless (all_below h (expression_operands e)) fault.Operands
-    (unless (names_in_range m arguments locals e) fault.Names None)
+    (unless (names_in_range m arguments locals e) (names_fault e) None)
 
 abbrev pub global_expression_range_fault : Module → (h : ℕ) → Expression → Option Fault
 global_expression_range_fault m h e =

@@ -668,11 +668,7 @@ fn is_inferred_handle(own: &TypeResolution, wanted: &InferredType) -> bool
 }
 
 /// Whether a known type is like a given one.
-pub(crate) fn is_like(
-    types: &UniqueArena<Type_>,
-    own: &TypeResolution,
-    wanted: &InferredType,
-) -> bool
+pub fn is_like(types: &UniqueArena<Type_>, own: &TypeResolution, wanted: &InferredType) -> bool
     ensures { result ≡ types_alike types.now own.now (inferred wanted.now) }
 {
     is_inferred_handle(own, wanted)

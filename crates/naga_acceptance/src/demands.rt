@@ -18,7 +18,7 @@ use naga_ir::{
 };
 
 /// Whether a type is an integer, of whatever width.
-fn is_integer(inner: &TypeInner) -> bool
+pub fn is_integer(inner: &TypeInner) -> bool
     ensures { result ≡ is_integer inner.now }
 {
     match inner {
@@ -27,20 +27,22 @@ fn is_integer(inner: &TypeInner) -> bool
     }
 }
 
-fn is_pointer(types: &UniqueArena<Type_>, inner: &TypeInner) -> bool
+/// Whether a type is a pointer, through which something is read.
+pub fn is_pointer(types: &UniqueArena<Type_>, inner: &TypeInner) -> bool
     ensures { result ≡ is_pointer types.now inner.now }
 {
     pointee_type(types, inner).is_some()
 }
 
-fn is_components(inner: &TypeInner) -> bool
+/// Whether a type is a scalar or a vector.
+pub fn is_components(inner: &TypeInner) -> bool
     ensures { result ≡ is_components inner.now }
 {
     matches!(inner, TypeInner::Scalar(_) | TypeInner::Vector { .. })
 }
 
 /// Whether a type is a pointer to a scalar or a vector.
-pub(crate) fn points_to_components(types: &UniqueArena<Type_>, inner: &TypeInner) -> bool
+pub fn points_to_components(types: &UniqueArena<Type_>, inner: &TypeInner) -> bool
     ensures { result ≡ points_to_components types.now inner.now }
 {
     match inner {

@@ -157,7 +157,7 @@ fn swizzle_type(size: VectorSize, vector: Option<&TypeInner>) -> Option<Inferred
 }
 
 /// Whether a type is `bool`.
-pub(crate) fn is_bool(inner: &TypeInner) -> bool
+pub fn is_bool(inner: &TypeInner) -> bool
     ensures { result ≡ is_bool inner.now }
 {
     match inner {
@@ -203,7 +203,7 @@ fn part_at(
 }
 
 /// What is read and written through the pointer with this handle, if it is a pointer.
-pub(crate) fn pointee_at(
+pub fn pointee_at(
     types: &UniqueArena<Type_>,
     known: Known<'_>,
     pointer: Handle<Expression>,

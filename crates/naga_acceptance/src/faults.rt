@@ -55,10 +55,11 @@ pub enum Fault {
     /// A type with a meaning of its own is not there.
     SpecialTypes,
     /// What is named is not there: the type or the initialiser of a constant, an override or a
-    /// variable, the variables of an entry point, what an expression names beside its operands, the
-    /// number of a literal whose numeral is out of range or denotes an infinity, or what a
-    /// statement names.
+    /// variable, the variables of an entry point, what an expression names beside its operands, or
+    /// what a statement names.
     Names,
+    /// The numeral of a literal is out of range, or denotes an infinity.
+    Numeral,
     /// The type of an argument or of the result is not there.
     Signature,
     /// A front end's name is given to an expression that is not there.
@@ -152,6 +153,7 @@ impl fmt::Display for Fault {
             Fault::TypeLength => "the override of the length is not there",
             Fault::SpecialTypes => "a special type is not there",
             Fault::Names => "what is named is not there",
+            Fault::Numeral => "the numeral is out of range",
             Fault::Signature => "a type of the signature is not there",
             Fault::NamedExpressions => "a named expression is not there",
             Fault::Operands => "an operand does not stand before the expression",

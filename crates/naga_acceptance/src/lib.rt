@@ -6,7 +6,7 @@
 
 pub mod acceptance;
 pub mod agreeing;
-mod alike;
+pub mod alike;
 pub mod counts;
 pub mod demands;
 pub mod expression_types;

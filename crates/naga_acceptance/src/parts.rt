@@ -70,10 +70,7 @@ pub enum Known<'a> {
 }
 
 /// What is known of the type of the expression with this handle, if something is.
-pub(crate) fn known_type<'a>(
-    known: Known<'a>,
-    handle: Handle<Expression>,
-) -> Option<&'a TypeResolution>
+pub fn known_type<'a>(known: Known<'a>, handle: Handle<Expression>) -> Option<&'a TypeResolution>
     ensures { option_copied result ≡ slice_get (known_types known.entry) handle }
 {
     match known {
@@ -86,7 +83,7 @@ pub(crate) fn known_type<'a>(
 }
 
 /// The type of the expression with this handle, by itself, if it is known.
-pub(crate) fn known_inner<'a>(
+pub fn known_inner<'a>(
     types: &'a UniqueArena<Type_>,
     known: Known<'a>,
     handle: Handle<Expression>,
@@ -197,14 +194,14 @@ pub(crate) fn part_type(
 }
 
 /// Whether it has parts at computed indexes.
-pub(crate) fn has_computed_parts(types: &UniqueArena<Type_>, inner: &TypeInner) -> bool
+pub fn has_computed_parts(types: &UniqueArena<Type_>, inner: &TypeInner) -> bool
     ensures { result ≡ has_computed_parts types.now inner.now }
 {
     part_type(types, inner, None).is_some()
 }
 
 /// How many components a vector has, or columns or rows a matrix.
-pub(crate) fn vector_number(size: VectorSize) -> usize
+pub fn vector_number(size: VectorSize) -> usize
     ensures { result ≡ vector_number size }
 {
     match size {
@@ -238,7 +235,8 @@ fn value_part_count(inner: &TypeInner) -> Option<usize>
     }
 }
 
-fn part_count(types: &UniqueArena<Type_>, inner: &TypeInner) -> Option<usize>
+/// How many parts a value has, or what a pointer points to, where the module says how many.
+pub fn part_count(types: &UniqueArena<Type_>, inner: &TypeInner) -> Option<usize>
     ensures { result ≡ part_count types.now inner.now }
 {
     match inner {
@@ -304,7 +302,7 @@ pub(crate) fn component_scalar(inner: &TypeInner) -> Option<Scalar>
 }
 
 /// The scalar of which a vector has several, if it is one.
-pub(crate) fn vector_scalar(inner: &TypeInner) -> Option<Scalar>
+pub fn vector_scalar(inner: &TypeInner) -> Option<Scalar>
     ensures { result ≡ vector_scalar inner.now }
 {
     match inner {

@@ -62,7 +62,8 @@ fn is_atomic(inner: &TypeInner) -> bool
     }
 }
 
-fn points_to_atomic(types: &UniqueArena<Type_>, inner: &TypeInner) -> bool
+/// Whether a type is a pointer to an atomic.
+pub fn points_to_atomic(types: &UniqueArena<Type_>, inner: &TypeInner) -> bool
     ensures { result ≡ points_to_atomic types.now inner.now }
 {
     match inner {
@@ -120,7 +121,8 @@ pub(crate) fn is_condition(
     }
 }
 
-fn selects(scalar: Scalar) -> bool
+/// Whether a scalar is `i32` or `u32`.
+pub fn selects(scalar: Scalar) -> bool
     ensures { result ≡ selects scalar }
 {
     match scalar.kind {
@@ -141,7 +143,8 @@ pub(crate) fn label_is_of(scalar: Scalar, label: SwitchValue) -> bool
     }
 }
 
-fn labels_are_of(scalar: Scalar, cases: &[SwitchCase]) -> bool
+/// Whether the labels are of the selector's type.
+pub fn labels_are_of(scalar: Scalar, cases: &[SwitchCase]) -> bool
     ensures { result ≡ labels_are_of scalar (cases_of cases.now) }
 {
     for case in cases {
@@ -164,7 +167,7 @@ fn is_same_label(a: SwitchValue, b: SwitchValue) -> bool
 }
 
 /// Whether one of the cases has the label.
-pub(crate) fn has_label(label: SwitchValue, cases: &[SwitchCase]) -> bool
+pub fn has_label(label: SwitchValue, cases: &[SwitchCase]) -> bool
     ensures { result ≡ has_label label (cases_of cases.now) }
 {
     for case in cases {
@@ -239,14 +242,14 @@ fn none_stands_twice(cases: &[SwitchCase]) -> bool
 
 /// Whether no two cases have one label. Where the labels ascend, it looks at each once, else it
 /// compares few in pairs and sorts more ([`none_is_repeated`]).
-fn labels_differ(cases: &[SwitchCase]) -> bool
+pub fn labels_differ(cases: &[SwitchCase]) -> bool
     ensures { result ≡ labels_differ (cases_of cases.now) }
 {
     labels_ascend(cases) || none_stands_twice(cases)
 }
 
 /// Whether the last case falls through.
-fn last_falls_through(cases: &[SwitchCase]) -> bool
+pub fn last_falls_through(cases: &[SwitchCase]) -> bool
     ensures { result ≡ last_falls_through false (cases_of cases.now) }
 {
     let mut falls = false;
@@ -364,7 +367,7 @@ fn expression_at(function: &Function, handle: Handle<Expression>) -> Option<&Exp
 }
 
 /// Whether the expression is what a call of the callee gave.
-fn is_call_result(
+pub fn is_call_result(
     callee: Handle<Function>,
     function: &Function,
     outcome: Handle<Expression>,
@@ -377,7 +380,8 @@ fn is_call_result(
     }
 }
 
-fn is_atomic_result(function: &Function, outcome: Handle<Expression>) -> bool
+/// Whether the expression is what an atomic statement gave.
+pub fn is_atomic_result(function: &Function, outcome: Handle<Expression>) -> bool
     ensures { result ≡ is_result is_atomic_result function.now outcome }
 {
     match expression_at(function, outcome) {
@@ -386,7 +390,8 @@ fn is_atomic_result(function: &Function, outcome: Handle<Expression>) -> bool
     }
 }
 
-fn is_uniform_load_result(function: &Function, outcome: Handle<Expression>) -> bool
+/// Whether the expression is what a uniform load gave.
+pub fn is_uniform_load_result(function: &Function, outcome: Handle<Expression>) -> bool
     ensures { result ≡ is_result is_uniform_load_result function.now outcome }
 {
     match expression_at(function, outcome) {
@@ -395,7 +400,8 @@ fn is_uniform_load_result(function: &Function, outcome: Handle<Expression>) -> b
     }
 }
 
-fn is_ballot_result(function: &Function, outcome: Handle<Expression>) -> bool
+/// Whether the expression is what a ballot gave.
+pub fn is_ballot_result(function: &Function, outcome: Handle<Expression>) -> bool
     ensures { result ≡ is_result is_ballot_result function.now outcome }
 {
     match expression_at(function, outcome) {
@@ -404,7 +410,8 @@ fn is_ballot_result(function: &Function, outcome: Handle<Expression>) -> bool
     }
 }
 
-fn is_subgroup_result(function: &Function, outcome: Handle<Expression>) -> bool
+/// Whether the expression is what an operation of a subgroup gave.
+pub fn is_subgroup_result(function: &Function, outcome: Handle<Expression>) -> bool
     ensures { result ≡ is_result is_subgroup_result function.now outcome }
 {
     match expression_at(function, outcome) {

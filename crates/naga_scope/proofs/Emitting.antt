@@ -2,7 +2,8 @@
 use Rattle.std.proofs.Common.{◌≡◌, ℕ, zero, suc, ◌+◌, ◌-◌, ◌<◌, ◌≤◌, ◌&&◌, ◌||◌, Bool, true, false}
 use Rattle.std.proofs.Common.{nat_eq, List, [], ◌∷◌, length, get_or, refl, sym, ap, ap₂, ◌∙◌, arith}
 use Rattle.std.proofs.Common.{slice_set, eqb-true, add-one}
-use Rattle.std.specs.Prelude.{cond, not}
+use Rattle.std.specs.Prelude.{cond, Err}
+use Rattle.std.specs.Result.{result_and}
 use Rattle.std.specs.Option.{is_some}
 use Rattle.std.proofs.lemmas.Bool.{cases_lt, eqb-false}
 use mathlib.Core.Logic.{inl, inr}
@@ -24,7 +25,6 @@ use Rattle.shader_runs.specs.Program.{is_pure, is_emittable}
 use Rattle.shader_runs.specs.Scope as runs
 use Rattle.shader_runs.specs.Scope.{Naming, Handles, is_new, usable_all}
 use Rattle.shader_runs.specs.Scope.{with_emitted_handle, after_one}
-use Rattle.shader_runs.specs.Scope.{may_emit}
 use Rattle.module_meaning.specs.ExpressionLabels.{label_of}
 use Rattle.module_meaning.specs.Names.{numbered_name}
 use Rattle.naga_form.proofs.Fits.{named_is}
@@ -37,7 +37,9 @@ use Rattle.naga_scope.specs.Availabilities.{availability_of, handles_of, kind_at
 use Rattle.naga_scope.specs.Availabilities.{unbound_availability}
 use Rattle.naga_scope.specs.Availabilities.{emitted_availability, is_emittable_kind, name_of_bound}
 use Rattle.naga_scope.specs.Availabilities.{next_name, operands_at}
-use Rattle.naga_scope.proofs.Offsets.{usable_operands}
+use Rattle.naga_scope.specs.ScopeChecks.{Checked, check_bound, check_emitted, check_operands, unless}
+use Rattle.naga_scope.specs.declared.scope_faults.ScopeFault.TheVariants.{GivenBefore, NeedsNoEmit}
+use Rattle.naga_scope.proofs.Offsets.{checked_operands}
 use Rattle.naga_scope.proofs.Shaped.{emittable_at}
 use Rattle.naga_scope.specs.Availabilities.{KeepsStart}
 use Rattle.module_meaning.specs.Premises.{OperandsStandBefore}
@@ -94,32 +96,36 @@ range_more i e lt =
     ap (from i) more ∙ ap (λ j. i ∷ from j (e - (i + 1))) (sym (add-one i))
 
 -- ---- what may be emitted
-pub no_and : (a b : Bool) → false ≡ (a && (false && b))
-no_and true b = refl
-no_and false b = refl
-
 module _ (m : Module) (info : ModuleInfo) (f : ir_function.Function) (es : List ExpressionInfo) where
   abbrev of : Function
   of = function_shape m info f es
 
-  -- it isn't, where it isn't new
-  pub refused_old : (h : ℕ) (s : Handles) → is_new (s h) ≡ false → false ≡ may_emit of h s
-  refused_old h s old = sym (ap (λ a. a && (is_emittable (expression_of of h) && (not (binds of h) || usable_all of s (operands_of (expression_of of h))))) old)
+  module _ (n h : ℕ) (s : Handles) where
+    abbrev operands : Checked
+    operands = check_operands of s n h (operands_of (expression_of of h))
 
-  -- nor where it is none that is emitted
-  pub refused_kind : (h : ℕ) (s : Handles) → is_emittable_kind (kind_at f.expressions h) ≡ false → false ≡ may_emit of h s
-  refused_kind h s kind =
-      let b = not (binds of h) || usable_all of s (operands_of (expression_of of h)) in
-      no_and (is_new (s h)) b
-      ∙ ap (λ m. is_new (s h) && (m && b)) (sym (emittable_at m info f es h ∙ kind))
+    abbrev emittable : Bool → Checked
+    emittable b = result_and (unless b (NeedsNoEmit n h)) (check_bound (binds of h) operands)
 
-  -- else it is where no name binds it, or its operands are in scope
-  pub allowed_by : OperandsStandBefore f.expressions → (h : ℕ) (s : Handles) → KeepsStart of s →
-      (b u : Bool) → is_new (s h) ≡ true → is_emittable_kind (kind_at f.expressions h) ≡ true →
-      b ≡ binds of h → u ≡ usable_all of s (operands_at f.expressions h) →
-      (not b || u) ≡ may_emit of h s
-  allowed_by ordered h s held b u new kind bound operands =
-      λ i. sym new i && (sym (emittable_at m info f es h ∙ kind) i && (not (bound i) || (operands ∙ sym (usable_operands m info f es ordered s held h)) i))
+    -- it isn't, where it isn't new
+    pub stopped_old : is_new (s h) ≡ false → Err (GivenBefore n h) ≡ check_emitted of s n h
+    stopped_old old =
+        sym (ap (λ b. result_and (unless b (GivenBefore n h)) (emittable (is_emittable (expression_of of h)))) old)
+
+    -- nor where it is none that is emitted
+    pub stopped_kind : is_new (s h) ≡ true → is_emittable_kind (kind_at f.expressions h) ≡ false →
+        Err (NeedsNoEmit n h) ≡ check_emitted of s n h
+    stopped_kind new kind =
+        λ i. result_and (unless (sym new i) (GivenBefore n h)) (emittable (sym (emittable_at m info f es h ∙ kind) i))
+
+    -- else it is where no name binds it, or its operands are in scope
+    pub checked_by : OperandsStandBefore f.expressions → KeepsStart of s → (b : Bool) (own : Checked) →
+        is_new (s h) ≡ true → is_emittable_kind (kind_at f.expressions h) ≡ true → b ≡ binds of h →
+        own ≡ check_operands of s n h (operands_at f.expressions h) → check_bound b own ≡ check_emitted of s n h
+    checked_by ordered held b own new kind bound is =
+        let all = is ∙ sym (checked_operands m info f es ordered s n h held h) in
+        λ i. result_and (unless (sym new i) (GivenBefore n h))
+        (result_and (unless (sym (emittable_at m info f es h ∙ kind) i) (NeedsNoEmit n h)) (check_bound (bound i) (all i)))
 
 module _ (names : NameMap) (m : Module) (info : ModuleInfo) (named : ℕ → List ℕ) (g : ℕ) (f : ir_function.Function) (es : List ExpressionInfo) where
   abbrev own : Naming

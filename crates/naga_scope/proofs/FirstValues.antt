@@ -1,7 +1,8 @@
 -- The first values of locals, each in scope behind the locals before it.
 use Rattle.std.proofs.Common.{◌≡◌, ℕ, ◌+◌, min, Bool, true, false, ◌&&◌, nat_lt, List, [], ◌∷◌, map}
 use Rattle.std.proofs.Common.{Option, Some, None, refl, sym, ap, ap₂, ◌∙◌, add-one, ◌<◌, arith}
-use Rattle.std.specs.Prelude.{slice_get, if◌then◌else◌}
+use Rattle.std.specs.Prelude.{slice_get, if◌then◌else◌, Ok}
+use Rattle.std.specs.Result.{result_and}
 use Rattle.std.specs.List.{enumerate_from}
 use Rattle.std.proofs.Math.Nat.{min-le_left, min-le_right, le-min}
 use Rattle.std.proofs.lemmas.Bool.{ltb-true, lt-ltb, ltb_from_iff}
@@ -28,16 +29,27 @@ use Rattle.naga_form.proofs.WellFormed.{applied_any}
 use Rattle.naga_info.specs.declared.info.ModuleInfo.{ModuleInfo}
 use Rattle.shader_runs.specs.Value.{Selector}
 use Rattle.naga_scope.specs.Availabilities.{names_earlier, is_earlier}
+use Rattle.naga_scope.specs.ScopeChecks.{Checked, check_first, check_first_values, unless}
+use Rattle.naga_scope.specs.declared.scope_faults.ScopeFault.TheVariants.{FirstValue}
 
--- each local with its index: its first value is in scope where it stands
-abbrev pub all_fit : Function → List (ℕ × LocalVariable) → Bool
-all_fit f [] = true
-all_fit f (p ∷ ps) = usable_if (before_local f p.0) (at_start f) p.1.init && all_fit f ps
+-- each local with its index: the first fault of their first values
+abbrev pub all_checked : Function → List (ℕ × LocalVariable) → Checked
+all_checked f [] = Ok tt
+all_checked f (p ∷ ps) = result_and (check_first f p.0 p.1.init) (all_checked f ps)
 
-pub all_listed : (f : Function) (i : ℕ) (ls : List LocalVariable) → all_fit f (enumerate_from i ls) ≡ first_values_fit f i (map (λ l. l.init) ls)
+pub all_listed : (f : Function) (i : ℕ) (ls : List LocalVariable) →
+    all_checked f (enumerate_from i ls) ≡ check_first_values f i (map (λ l. l.init) ls)
 all_listed f i [] = refl
 all_listed f i (l ∷ ls) =
-    ap (λ b. usable_if (before_local f i) (at_start f) l.init && b) (all_listed f (i + 1) ls ∙ ap (λ k. first_values_fit f k (map (λ l. l.init) ls)) (add-one i))
+    ap (result_and (check_first f i l.init))
+    (all_listed f (i + 1) ls ∙ ap (λ k. check_first_values f k (map (λ l. l.init) ls)) (add-one i))
+
+-- the first value of a local is checked by whether it is in scope in front of the local
+pub first_checked : (f : Function) (i h : ℕ) (s : Handles) (o : Option ℕ) (b : Bool) → o ≡ Some h → s ≡ at_start f →
+    b ≡ usable_if (before_local f i) s o → unless b (FirstValue i h) ≡ check_first f i o
+first_checked f i h s o b is start holds =
+    ap (λ b. unless b (FirstValue i h)) (holds ∙ (λ k. usable_if (before_local f i) (start k) (is k)))
+    ∙ sym (ap (check_first f i) is)
 
 below_both : (j i n : ℕ) → (nat_lt j n && nat_lt j i) ≡ nat_lt j (min i n)
 below_both j i n =

@@ -36,13 +36,15 @@ use Rattle.naga_layout.proofs.Concerned.{concerned_laid, laid_concerned, none_st
 use Rattle.naga_layout.proofs.Left.{all_aligned}
 use Rattle.naga_layout.specs.Types.{arrays_are_kept, kept_struct, placed_members}
 use Rattle.naga_names.specs.Reset.{members_of}
+use Rattle.naga_scope.specs.declared.declarations.DeclarationPlace.{DeclarationPlace}
+use Rattle.naga_scope.specs.declared.declarations.DeclarationPlace.TheVariants as place
 use Rattle.naga_scope.specs.declared.declarations.FormlessDeclaration.{FormlessDeclaration}
 use Rattle.naga_scope.specs.declared.declarations.FormlessDeclaration.TheVariants as declaration
 use Rattle.naga_scope.specs.declared.declarations.FormlessHead.{FormlessHead}
 use Rattle.naga_scope.specs.declared.declarations.FormlessHead.TheVariants as head
-use Rattle.naga_scope.specs.Declarations.{BindingHasForm, ConstantHasForm, EntryPointHasForm, Finds, IsFormlessBinding}
+use Rattle.naga_scope.specs.Declarations.{BindingHasForm, ConstantHasForm, ConstantsHaveForms, Each, EntryPointHasForm, Finds, FindsFirst, FunctionsHaveForms, HaveFormsBefore, IsFormlessBinding}
 use Rattle.naga_scope.specs.Declarations.{IsFormlessConstant, IsFormlessDeclaration, IsFormlessEntryPoint, IsFormlessHead}
-use Rattle.naga_scope.specs.Declarations.{IsFormlessPassed, IsFormlessType, IsFormlessValue, PassedHasForm, TypeHasForm}
+use Rattle.naga_scope.specs.Declarations.{IsFormlessFunction, IsFormlessIn, IsFormlessPassed, IsFormlessType, IsFormlessValue, OverridesHaveForms, PassedHasForm, TypeHasForm, TypesHaveForms, VariablesHaveForms}
 use Rattle.naga_scope.specs.Declarations.{FindsMember, IsFormlessStruct, IsOtherStride, StructHasForm, ValueHasForm, concerned_among}
 use Rattle.wgsl_layout.proofs.FirstFaults.{fault_stands, none_kept}
 use Rattle.wgsl_layout.specs.Faults.{StandsAmong, first_fault}
@@ -144,71 +146,122 @@ module _ (m : Module) where
       other = other.1;
     }
 
-  pub of_types : (it : FormlessDeclaration) → Finds m.types (TypeHasForm m) (IsFormlessType m) (Some it) →
+  pub types_lack : (it : FormlessDeclaration) → Finds m.types (TypeHasForm m) (IsFormlessType m) (Some it) →
       IsFormlessDeclaration m it
-  of_types (declaration.Type_ ty) (h, t, at, (declared, (i, s, there, (same, lacks)))) =
+  types_lack (declaration.Type_ ty) (h, t, at, (declared, (i, s, there, (same, lacks)))) =
       (subst (IsDeclaredType m) (sym same) (MemberType h i t s at declared there), lacks)
-  of_types (declaration.Initialiser handle) (h, t, at, (declared, (i, s, there, lacks))) = absurd lacks
-  of_types (declaration.BuiltIn v) (h, t, at, (declared, (i, s, there, (bound, lacks)))) =
+  types_lack (declaration.Initialiser handle) (h, t, at, (declared, (i, s, there, lacks))) = absurd lacks
+  types_lack (declaration.BuiltIn v) (h, t, at, (declared, (i, s, there, (bound, lacks)))) =
       (MemberBinding h i t s (binding.BuiltIn v) at declared there bound, lacks)
-  of_types (declaration.Head it) (h, t, at, (declared, (i, s, there, lacks))) = absurd lacks
-  of_types (declaration.Misplaced fault) (h, t, at, (declared, (ks, concerned, stands))) =
+  types_lack (declaration.Head it) (h, t, at, (declared, (i, s, there, lacks))) = absurd lacks
+  types_lack (declaration.Misplaced fault) (h, t, at, (declared, (ks, concerned, stands))) =
       (h, misplaced_in h t at declared fault ks concerned stands)
-  of_types (declaration.Stride ty) (h, t, at, (declared, (ks, concerned, (i, s, there, other)))) =
+  types_lack (declaration.Stride ty) (h, t, at, (declared, (ks, concerned, (i, s, there, other)))) =
       (h, stride_in h t at declared ty ks concerned i s there other)
 
-  pub of_constants : (it : FormlessDeclaration) → Finds m.constants (λ i. ConstantHasForm m) (λ i. IsFormlessConstant m) (Some it) →
+  pub constants_lack : (it : FormlessDeclaration) → Finds m.constants (λ i. ConstantHasForm m) (λ i. IsFormlessConstant m) (Some it) →
       IsFormlessDeclaration m it
-  of_constants (declaration.Type_ ty) (i, k, at, (is_named, (same, lacks))) =
+  constants_lack (declaration.Type_ ty) (i, k, at, (is_named, (same, lacks))) =
       (subst (IsDeclaredType m) (sym same) (ConstantType i k at is_named), lacks)
-  of_constants (declaration.Initialiser h) (i, k, at, (is_named, (same, lacks))) =
+  constants_lack (declaration.Initialiser h) (i, k, at, (is_named, (same, lacks))) =
       let handle : k.init ≡ h = cc in
       (subst (IsInitialiser m) handle (ConstantInitialiser i k at is_named), lacks)
-  of_constants (declaration.BuiltIn v) (i, k, at, (is_named, lacks)) = absurd lacks
-  of_constants (declaration.Head it) (i, k, at, (is_named, lacks)) = absurd lacks
-  of_constants (declaration.Misplaced fault) (i, k, at, (is_named, lacks)) = absurd lacks
-  of_constants (declaration.Stride ty) (i, k, at, (is_named, lacks)) = absurd lacks
+  constants_lack (declaration.BuiltIn v) (i, k, at, (is_named, lacks)) = absurd lacks
+  constants_lack (declaration.Head it) (i, k, at, (is_named, lacks)) = absurd lacks
+  constants_lack (declaration.Misplaced fault) (i, k, at, (is_named, lacks)) = absurd lacks
+  constants_lack (declaration.Stride ty) (i, k, at, (is_named, lacks)) = absurd lacks
 
-  pub of_overrides : (it : FormlessDeclaration) →
+  pub overrides_lack : (it : FormlessDeclaration) →
       Finds m.overrides (λ i o. ValueHasForm m o.ty o.init) (λ i o. IsFormlessValue m o.ty o.init) (Some it) →
       IsFormlessDeclaration m it
-  of_overrides (declaration.Type_ ty) (i, o, at, (same, lacks)) =
+  overrides_lack (declaration.Type_ ty) (i, o, at, (same, lacks)) =
       (subst (IsDeclaredType m) (sym same) (OverrideType i o at), lacks)
-  of_overrides (declaration.Initialiser h) (i, o, at, (same, lacks)) =
+  overrides_lack (declaration.Initialiser h) (i, o, at, (same, lacks)) =
       (OverrideInitialiser i o h at same, lacks)
-  of_overrides (declaration.BuiltIn v) (i, o, at, lacks) = absurd lacks
-  of_overrides (declaration.Head it) (i, o, at, lacks) = absurd lacks
-  of_overrides (declaration.Misplaced fault) (i, o, at, lacks) = absurd lacks
-  of_overrides (declaration.Stride ty) (i, o, at, lacks) = absurd lacks
+  overrides_lack (declaration.BuiltIn v) (i, o, at, lacks) = absurd lacks
+  overrides_lack (declaration.Head it) (i, o, at, lacks) = absurd lacks
+  overrides_lack (declaration.Misplaced fault) (i, o, at, lacks) = absurd lacks
+  overrides_lack (declaration.Stride ty) (i, o, at, lacks) = absurd lacks
 
-  pub of_variables : (it : FormlessDeclaration) →
+  pub variables_lack : (it : FormlessDeclaration) →
       Finds m.global_variables (λ i g. ValueHasForm m g.ty g.init) (λ i g. IsFormlessValue m g.ty g.init) (Some it) →
       IsFormlessDeclaration m it
-  of_variables (declaration.Type_ ty) (i, g, at, (same, lacks)) =
+  variables_lack (declaration.Type_ ty) (i, g, at, (same, lacks)) =
       (subst (IsDeclaredType m) (sym same) (VariableType i g at), lacks)
-  of_variables (declaration.Initialiser h) (i, g, at, (same, lacks)) =
+  variables_lack (declaration.Initialiser h) (i, g, at, (same, lacks)) =
       (VariableInitialiser i g h at same, lacks)
-  of_variables (declaration.BuiltIn v) (i, g, at, lacks) = absurd lacks
-  of_variables (declaration.Head it) (i, g, at, lacks) = absurd lacks
-  of_variables (declaration.Misplaced fault) (i, g, at, lacks) = absurd lacks
-  of_variables (declaration.Stride ty) (i, g, at, lacks) = absurd lacks
+  variables_lack (declaration.BuiltIn v) (i, g, at, lacks) = absurd lacks
+  variables_lack (declaration.Head it) (i, g, at, lacks) = absurd lacks
+  variables_lack (declaration.Misplaced fault) (i, g, at, lacks) = absurd lacks
+  variables_lack (declaration.Stride ty) (i, g, at, lacks) = absurd lacks
 
-  pub of_functions : (v : BuiltIn) → Finds m.functions (λ i. PassedHasForm) (λ i. IsFormlessPassed) (Some v) →
-      IsFormlessDeclaration m (declaration.Head (head.BuiltIn v))
-  of_functions v (h, f, there, lacks) = (h, function_lacks h f there v lacks)
+  functions_lack : (h : ℕ) (f : Function) → slice_get m.functions h ≡ Some f → (it : FormlessDeclaration) →
+      IsFormlessFunction f it → IsFormlessDeclaration m it
+  functions_lack h f there (declaration.Type_ ty) lacks = absurd lacks
+  functions_lack h f there (declaration.Initialiser handle) lacks = absurd lacks
+  functions_lack h f there (declaration.BuiltIn v) lacks = absurd lacks
+  functions_lack h f there (declaration.Head (head.BuiltIn v)) lacks = (h, function_lacks h f there v lacks)
+  functions_lack h f there (declaration.Head head.Stage) lacks = absurd lacks
+  functions_lack h f there (declaration.Misplaced fault) lacks = absurd lacks
+  functions_lack h f there (declaration.Stride ty) lacks = absurd lacks
 
-  pub of_entry_points : (it : FormlessHead) →
-      Finds m.entry_points.items (λ i. EntryPointHasForm) (λ i. IsFormlessEntryPoint) (Some it) →
-      IsFormlessDeclaration m (declaration.Head it)
-  of_entry_points it (j, p, there, lacks) = (length m.functions + j, entry_point_lacks j p there it lacks)
+  -- what is found, where it stands, and that it is the first
+  pub record IsFound (found : DeclarationPlace × FormlessDeclaration) : Type 0 where
+    pub some : IsFormlessDeclaration m found.1
+    pub place : IsFormlessIn m found.0 found.1
+    pub first : HaveFormsBefore m found.0
+
+  -- what is said of a place is said of one that is the same
+  at_place : (at here : DeclarationPlace) (it : FormlessDeclaration) → at ≡ here → IsFormlessDeclaration m it →
+      IsFormlessIn m here it → HaveFormsBefore m here → IsFound (at, it)
+  at_place at here it same some stands first = record {
+    some = some;
+    place = subst (λ at. IsFormlessIn m at it) (sym same) stands;
+    first = subst (HaveFormsBefore m) (sym same) first;
+  }
+
+  pub of_types : (found : DeclarationPlace × FormlessDeclaration) →
+      FindsFirst m.types (TypeHasForm m) (λ h. place.Struct h) (IsFormlessType m) (Some found) → IsFound found
+  of_types (at, it) (h, t, there, same, earlier, lacks) =
+      at_place at (place.Struct h) it same (types_lack it (h, t, there, lacks)) (t, there, lacks) earlier
+
+  module _ (types : TypesHaveForms m) where
+    pub of_constants : (found : DeclarationPlace × FormlessDeclaration) →
+        FindsFirst m.constants (λ i. ConstantHasForm m) (λ h. place.Constant h) (λ i. IsFormlessConstant m) (Some found) → IsFound found
+    of_constants (at, it) (h, c, there, same, earlier, lacks) =
+        at_place at (place.Constant h) it same (constants_lack it (h, c, there, lacks)) (c, there, lacks) (types, earlier)
+
+    module _ (constants : ConstantsHaveForms m) where
+      pub of_overrides : (found : DeclarationPlace × FormlessDeclaration) →
+          FindsFirst m.overrides (λ i o. ValueHasForm m o.ty o.init) (λ h. place.Override h) (λ i o. IsFormlessValue m o.ty o.init) (Some found) → IsFound found
+      of_overrides (at, it) (h, o, there, same, earlier, lacks) =
+          at_place at (place.Override h) it same (overrides_lack it (h, o, there, lacks)) (o, there, lacks) (types, constants, earlier)
+
+      module _ (overrides : OverridesHaveForms m) where
+        pub of_variables : (found : DeclarationPlace × FormlessDeclaration) →
+            FindsFirst m.global_variables (λ i g. ValueHasForm m g.ty g.init) (λ h. place.GlobalVariable h) (λ i g. IsFormlessValue m g.ty g.init) (Some found) → IsFound found
+        of_variables (at, it) (h, g, there, same, earlier, lacks) =
+            at_place at (place.GlobalVariable h) it same (variables_lack it (h, g, there, lacks)) (g, there, lacks) (types, constants, overrides, earlier)
+
+        module _ (variables : VariablesHaveForms m) where
+          pub of_functions : (found : DeclarationPlace × FormlessDeclaration) →
+              FindsFirst m.functions (λ i. PassedHasForm) (λ h. place.Function h) (λ i. IsFormlessFunction) (Some found) → IsFound found
+          of_functions (at, it) (h, f, there, same, earlier, lacks) =
+              at_place at (place.Function h) it same (functions_lack h f there it lacks) (f, there, lacks)
+              (types, constants, overrides, variables, earlier)
+
+          pub of_entry_points : FunctionsHaveForms m → (found : ℕ × FormlessHead) →
+              FindsFirst m.entry_points.items (λ i. EntryPointHasForm) (λ i. i) (λ i. IsFormlessEntryPoint) (Some found) →
+              IsFound (place.EntryPoint found.0, declaration.Head found.1)
+          of_entry_points functions (at, it) (j, p, there, same, earlier, lacks) =
+              at_place (place.EntryPoint at) (place.EntryPoint j) (declaration.Head it) (ap (λ j. place.EntryPoint j) same)
+              (length m.functions + j, entry_point_lacks j p there it lacks) (p, there, lacks)
+              (types, constants, overrides, variables, functions, earlier)
 
   -- where nothing is found, all has a form
-  module _ (in_types : Finds m.types (TypeHasForm m) (IsFormlessType m) None)
-      (in_constants : Finds m.constants (λ i. ConstantHasForm m) (λ i. IsFormlessConstant m) None)
-      (in_overrides : Finds m.overrides (λ i o. ValueHasForm m o.ty o.init) (λ i o. IsFormlessValue m o.ty o.init) None)
-      (in_variables : Finds m.global_variables (λ i g. ValueHasForm m g.ty g.init) (λ i g. IsFormlessValue m g.ty g.init) None)
-      (in_functions : Finds m.functions (λ i. PassedHasForm) (λ i. IsFormlessPassed) None)
-      (in_entry_points : Finds m.entry_points.items (λ i. EntryPointHasForm) (λ i. IsFormlessEntryPoint) None) where
+  module _ (in_types : TypesHaveForms m) (in_constants : ConstantsHaveForms m) (in_overrides : OverridesHaveForms m)
+      (in_variables : VariablesHaveForms m) (in_functions : FunctionsHaveForms m)
+      (in_entry_points : Each m.entry_points.items (λ i. EntryPointHasForm)) where
     types_formed : (ty : ℕ) → IsDeclaredType m ty → IsTrue (is_spellable m (Handle ty))
     types_formed _ (MemberType h i t s at declared there) = ((in_types h t at declared).each i s there).type
     types_formed _ (ConstantType i k at is_named) = (in_constants i k at is_named).type

@@ -1,5 +1,7 @@
 -- The check over the locals, and over statements without blocks.
-use Rattle.std.proofs.Common.{◌≡◌, ℕ, ◌+◌, ◌&&◌, Bool, true, false, None, Some, List, [], ◌∷◌, map, length, refl, sym, ap}
+use Rattle.std.proofs.Common.{◌≡◌, ℕ, ◌+◌, Bool, true, false, Option, None, Some, List, [], ◌∷◌, map, length, refl, sym, ap}
+use Rattle.std.specs.Prelude.{Result, Ok, Err}
+use Rattle.std.specs.Result.{result_and}
 use Rattle.std.specs.List.{enumerate_from}
 use Rattle.std.specs.Option.{option_to_list}
 use Rattle.module_meaning.specs.ExpressionLabels.{labels_in}
@@ -8,7 +10,7 @@ use Rattle.module_meaning.specs.FunctionShapes.{statement_shape}
 use Rattle.module_meaning.specs.StatementShapes.{simple_shape, store_shape}
 use Rattle.module_meaning.specs.Written.{simple_lets, simple_roots}
 use Rattle.naga_ir.specs.Operands.{simple_operands, simple_result}
-use Rattle.naga_ir.specs.StatementTree.{SimpleStatement, emit, return, simple, store}
+use Rattle.naga_ir.specs.StatementTree.{SimpleStatement, break, continue, control_barrier, emit, kill, memory_barrier, return, simple, store}
 use Rattle.naga_ir.specs.StatementViews.{tree_of}
 use Rattle.naga_ir.specs.declared.module.Function as ir_function
 use Rattle.naga_ir.specs.declared.module.LocalVariable.{LocalVariable}
@@ -16,7 +18,9 @@ use Rattle.naga_ir.specs.declared.statement.Range.{Range}
 use Rattle.naga_ir.specs.declared.statement.Statement.{Statement}
 use Rattle.naga_ir.specs.declared.statement.Statement.TheVariants as statement_variant
 use Rattle.naga_scope.specs.Changes.{simple_changes}
-use Rattle.shader_runs.specs.Scope.{Naming, Handles, after, after_result, fits, may_give, named_by, usable, usable_all}
+use Rattle.naga_scope.specs.ScopeChecks.{Checked, check_result, check_statement, check_use, check_uses, next_number}
+use Rattle.naga_scope.specs.declared.scope_faults.ScopeFault.{ScopeFault}
+use Rattle.shader_runs.specs.Scope.{Naming, Handles, after, after_result, named_by}
 
 -- ---- first values
 pub first_values_listed : (n : ℕ) (ls : List LocalVariable) → map (λ p. p.1.init) (enumerate_from n ls) ≡ map (λ l. l.init) ls
@@ -30,20 +34,40 @@ is_emit st = false
 
 -- ---- statements without blocks
 module _ (n : Naming) (a : ExpressionContext) where
-  both_true : (x y : Bool) → ((x && (y && true)) && true) ≡ (x && y)
-  both_true true true = refl
-  both_true true false = refl
-  both_true false y = refl
+  -- one check and then others
+  and_assoc : {X Y Z : Type 0} (r : Result X ScopeFault) (q : Result Y ScopeFault) (p : Result Z ScopeFault) →
+      result_and r (result_and q p) ≡ result_and (result_and r q) p
+  and_assoc (Ok x) q p = refl
+  and_assoc (Err e) q p = refl
 
-  one_true : (x : Bool) → x ≡ ((x && true) && true)
-  one_true true = refl
-  one_true false = refl
+  abbrev fine : Checked
+  fine = Ok tt
 
-  -- a store is allowed where its pointer and its value are in scope, and changes nothing, whether an
-  -- atomic is stored to or not
-  stored_fits : (atomic : Bool) (p v k : ℕ) (s : Handles) → fits n k (store_shape atomic p v) s ≡ ((usable n.function s p && (usable n.function s v && true)) && true)
-  stored_fits true p v k s = refl
-  stored_fits false p v k s = sym (both_true (usable n.function s p) (usable n.function s v))
+  both_checked : (r q : Checked) (j : ℕ) → result_and r (result_and q (Ok j)) ≡
+      result_and (result_and (result_and r (result_and q fine)) fine) (Ok j)
+  both_checked (Ok x) (Ok y) j = refl
+  both_checked (Ok x) (Err e) j = refl
+  both_checked (Err e) q j = refl
+
+  one_checked : (r : Checked) (j : ℕ) → result_and r (Ok j) ≡
+      result_and (result_and (result_and r fine) fine) (Ok j)
+  one_checked (Ok x) j = refl
+  one_checked (Err e) j = refl
+
+  -- what is asked of its operands and its result, and then the number of the next one
+  abbrev checked_act : (number : ℕ) → (operands : List ℕ) → (outcome : Option ℕ) → Handles → Result ℕ ScopeFault
+  checked_act number operands outcome s =
+      result_and (result_and (check_uses n.function s number operands) (check_result number outcome s))
+      (Ok (next_number number))
+
+  -- a store is asked for its pointer and its value, and changes nothing, whether an atomic is stored
+  -- to or not
+  stored_checks : (atomic : Bool) (p v k number : ℕ) (s : Handles) →
+      check_statement n k number (store_shape atomic p v) s ≡ checked_act number (p ∷ v ∷ []) None s
+  stored_checks true p v k number s =
+      and_assoc (check_uses n.function s number (p ∷ v ∷ [])) (check_result number None s) (Ok (next_number number))
+  stored_checks false p v k number s =
+      both_checked (check_use n.function s number p) (check_use n.function s number v) (next_number number)
 
   stored_after : (atomic : Bool) (p v k : ℕ) (s : Handles) → s ≡ after n k (store_shape atomic p v) s
   stored_after true p v k s = refl
@@ -56,14 +80,21 @@ module _ (n : Naming) (a : ExpressionContext) where
   pub store_after : (p v k : ℕ) (s : Handles) → s ≡ after n k (statement_shape a (simple (store p v))) s
   store_after p v k s = stored_after (is_atomic_pointer a p) p v k s
 
-  -- so is any other that is no `Emit`, where its operands are in scope and its result may be given
-  pub act_fits : (st : SimpleStatement) → is_emit st ≡ false → (k : ℕ) (s : Handles) →
-      fits n k (simple_shape a st) s ≡ (usable_all n.function s (simple_operands st) && may_give (simple_result st) s)
-  act_fits (emit first end) other k s = absurd cc
-  act_fits (store p v) other k s = stored_fits (is_atomic_pointer a p) p v k s
-  act_fits (return None) other k s = refl
-  act_fits (return (Some v)) other k s = one_true (usable n.function s v)
-  act_fits _ other k s = refl
+  -- so is any other that is no `Emit` for its operands and its result
+  pub act_checks : (st : SimpleStatement) → is_emit st ≡ false → (k number : ℕ) (s : Handles) →
+      check_statement n k number (simple_shape a st) s ≡ checked_act number (simple_operands st) (simple_result st) s
+  act_checks (emit first end) other k number s = absurd cc
+  act_checks (store p v) other k number s = stored_checks (is_atomic_pointer a p) p v k number s
+  act_checks (return None) other k number s = refl
+  act_checks (return (Some v)) other k number s = one_checked (check_use n.function s number v) (next_number number)
+  act_checks break other k number s = refl
+  act_checks continue other k number s = refl
+  act_checks kill other k number s = refl
+  act_checks (control_barrier flags) other k number s = refl
+  act_checks (memory_barrier flags) other k number s = refl
+  act_checks st other k number s =
+      and_assoc (check_uses n.function s number (simple_operands st)) (check_result number (simple_result st) s)
+      (Ok (next_number number))
 
   pub act_after : (st : SimpleStatement) → is_emit st ≡ false → (k : ℕ) (s : Handles) → after n k (simple_shape a st) s ≡ after_result n.names (simple_result st) s
   act_after (emit first end) other k s = absurd cc

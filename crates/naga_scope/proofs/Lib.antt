@@ -1,3 +1,4 @@
+pub mod ScopeChecks
 pub mod Shaped
 pub mod Constants
 pub mod Emitting

@@ -5,6 +5,7 @@ use Rattle.std.proofs.Common.{◌++◌, length, Option, Some, None, refl, sym, a
 use Rattle.std.proofs.Common.{arith, subst, slice_get}
 use Rattle.std.specs.Option.{is_some, option_and_then, option_map_or, option_to_list}
 use Rattle.std.specs.Prelude.{if◌then◌else◌}
+use Rattle.std.specs.Result.{result_and}
 use Rattle.std.proofs.lemmas.Option.{slice_get_within}
 use Rattle.module_meaning.proofs.ExpressionShapes.{shape_operands}
 use Rattle.module_meaning.specs.ExpressionOperators.{constructor}
@@ -29,12 +30,14 @@ use Rattle.naga_scope.proofs.Constants.{any_bound, constant_to, counted, one_mor
 use Rattle.naga_scope.proofs.Shaped.{pure_at, usable_is}
 use Rattle.naga_scope.specs.Availabilities.{KeepsStart, is_constant_kind, is_pure_kind, operands_at}
 use Rattle.naga_scope.specs.Availabilities.{usable_by}
+use Rattle.naga_scope.specs.ScopeChecks.{Checked, check_operands, unless}
+use Rattle.naga_scope.specs.declared.scope_faults.ScopeFault.TheVariants.{EmittedOperand}
 use Rattle.shader_runs.specs.Program.{ConstantTree, Function, expression_of, operands_of}
 use Rattle.shader_runs.specs.Scope.{Handles}
 use Rattle.shader_runs.specs.Scope.{all_constant}
 use Rattle.shader_runs.specs.Scope.{is_present}
 use Rattle.shader_runs.specs.Scope.{start_availability}
-use Rattle.shader_runs.specs.Scope.{usable, usable_all}
+use Rattle.shader_runs.specs.Scope.{usable}
 
 -- ---- a function of a module
 module _ (m : Module) (info : ModuleInfo) (f : ir_function.Function) (es : List ExpressionInfo)
@@ -138,52 +141,54 @@ module _ (m : Module) (info : ModuleInfo) (f : ir_function.Function) (es : List 
       by (Some _) here is = absurd cc
       by None here is = absurd cc
 
-  same_behind : (s : Handles) (xs ys zs : List ℕ) → usable_all shape s ys ≡ usable_all shape s zs →
-      usable_all shape s (xs ++ ys) ≡ usable_all shape s (xs ++ zs)
-  same_behind s [] ys zs same = same
-  same_behind s (x ∷ xs) ys zs same =
-      ap (λ b. usable shape s x && b) (same_behind s xs ys zs same)
+  module _ (s : Handles) (n handle : ℕ) where
+    abbrev checked : List ℕ → Checked
+    checked xs = check_operands shape s n handle xs
 
-  -- the operands of what an expression evaluates are in scope where its own are
-  pub usable_operands : (s : Handles) → KeepsStart shape s → (h : ℕ) →
-      usable_all shape s (operands_of (expression_of shape h)) ≡
-      usable_all shape s (operands_at f.expressions h)
-  usable_operands s held h = by (slice_get f.expressions h) refl
-    where
-      own : (e : ir.Expression) →
-          usable_all shape s (operands_of (Some (shape_of d f.expressions h e))) ≡
-          usable_all shape s (expression_operands e)
-      own
-          (expression.ImageSample
-          image sampler gather coordinate array_index None level depth_ref clamp) =
-          refl
-      own
-          (expression.ImageSample
-          image sampler gather coordinate array_index (Some x) level depth_ref clamp) =
-          left (constant_tree d f.expressions x) refl
-        where
-          left : (o : Option ConstantTree) → constant_tree d f.expressions x ≡ o →
-              usable_all shape s
-              (image ∷ sampler ∷ coordinate ∷ option_to_list array_index ++
-              option_to_list depth_ref ++ level_operands level ++
-              (if is_some o then [] else x ∷ [])) ≡
-              usable_all shape s
-              (image ∷ sampler ∷ coordinate ∷ option_to_list array_index ++
-              option_to_list depth_ref ++ level_operands level ++ x ∷ [])
-          left None at = refl
-          left (Some c) at =
-              same_behind s
-              (image ∷ sampler ∷ coordinate ∷ option_to_list array_index ++
-              option_to_list depth_ref ++ level_operands level)
-              [] (x ∷ []) (ap (λ b. b && true) (sym (out_usable s held x c at)))
-      own e = ap (usable_all shape s) (shape_operands d f.expressions h e refl)
+    same_after : (xs ys zs : List ℕ) → checked ys ≡ checked zs → checked (xs ++ ys) ≡ checked (xs ++ zs)
+    same_after [] ys zs same = same
+    same_after (x ∷ xs) ys zs same =
+        ap (result_and (unless (usable shape s x) (EmittedOperand n handle x))) (same_after xs ys zs same)
 
-      by : (o : Option ir.Expression) → slice_get f.expressions h ≡ o →
-          usable_all shape s (operands_of (expression_of shape h)) ≡
-          usable_all shape s (operands_at f.expressions h)
-      by None at =
-          ap (λ e. usable_all shape s (operands_of e)) (no_expression_at m info f es h at)
-          ∙ sym (ap (λ o. usable_all shape s (option_map_or expression_operands o [])) at)
-      by (Some e) at =
-          ap (λ e. usable_all shape s (operands_of e)) (expression_at m info f es h e at)
-          ∙ (own e ∙ sym (ap (λ o. usable_all shape s (option_map_or expression_operands o [])) at))
+    -- the operands of what an expression evaluates are checked as its own are
+    pub checked_operands : KeepsStart shape s → (h : ℕ) →
+        checked (operands_of (expression_of shape h)) ≡ checked (operands_at f.expressions h)
+    checked_operands held h = by (slice_get f.expressions h) refl
+      where
+        own : (e : ir.Expression) →
+            checked (operands_of (Some (shape_of d f.expressions h e))) ≡ checked (expression_operands e)
+        own
+            (expression.ImageSample
+            image sampler gather coordinate array_index None level depth_ref clamp) =
+            refl
+        own
+            (expression.ImageSample
+            image sampler gather coordinate array_index (Some x) level depth_ref clamp) =
+            left (constant_tree d f.expressions x) refl
+          where
+            left : (o : Option ConstantTree) → constant_tree d f.expressions x ≡ o →
+                checked
+                (image ∷ sampler ∷ coordinate ∷ option_to_list array_index ++
+                option_to_list depth_ref ++ level_operands level ++
+                (if is_some o then [] else x ∷ [])) ≡
+                checked
+                (image ∷ sampler ∷ coordinate ∷ option_to_list array_index ++
+                option_to_list depth_ref ++ level_operands level ++ x ∷ [])
+            left None at = refl
+            left (Some c) at =
+                same_after
+                (image ∷ sampler ∷ coordinate ∷ option_to_list array_index ++
+                option_to_list depth_ref ++ level_operands level)
+                [] (x ∷ [])
+                (ap (λ b. result_and (unless b (EmittedOperand n handle x)) (checked []))
+                (sym (out_usable s held x c at)))
+        own e = ap checked (shape_operands d f.expressions h e refl)
+
+        by : (o : Option ir.Expression) → slice_get f.expressions h ≡ o →
+            checked (operands_of (expression_of shape h)) ≡ checked (operands_at f.expressions h)
+        by None at =
+            ap (λ e. checked (operands_of e)) (no_expression_at m info f es h at)
+            ∙ sym (ap (λ o. checked (option_map_or expression_operands o [])) at)
+        by (Some e) at =
+            ap (λ e. checked (operands_of e)) (expression_at m info f es h e at)
+            ∙ (own e ∙ sym (ap (λ o. checked (option_map_or expression_operands o [])) at))

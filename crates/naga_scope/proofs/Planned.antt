@@ -1,17 +1,16 @@
 -- What a plan of a function says of its module.
-use Rattle.std.proofs.Common.{◌≡◌, ℕ, Bool, zero, suc, List, [], ◌∷◌, None, Some, subst, sym, ◌∙◌, true≢false}
+use Rattle.std.proofs.Common.{◌≡◌, ℕ, Bool, zero, suc, List, [], ◌∷◌, None, Some, ap, subst, sym, ◌∙◌}
 use Rattle.std.proofs.lemmas.Option.{same_Some}
-use Rattle.std.specs.Prelude.{Err, IfErr, IfOk, IsFalse, IsTrue, Ok, Result, ◌↔◌, slice_get}
+use Rattle.std.specs.Prelude.{Err, IfErr, IfOk, Ok, Result, slice_get}
+use Rattle.std.specs.Result.{is_ok}
 use Rattle.naga_ir.specs.declared.module.Function as ir_function
 use Rattle.naga_ir.specs.declared.module.Module.{Module}
 use Rattle.naga_info.specs.declared.info.ExpressionInfo.{ExpressionInfo}
 use Rattle.naga_info.specs.declared.info.ModuleInfo.{ModuleInfo}
 use Rattle.shader_runs.specs.Program.{expression_of, operands_of}
 use Rattle.shader_runs.specs.Premises.{AllBelow}
-use Rattle.shader_runs.specs.Scope.{fits_function}
+use Rattle.shader_runs.specs.Scope.{Naming}
 use Rattle.shader_runs.specs.ScopeRules.{ScopeHolds}
-use Rattle.shader_runs.specs.ScopeFaults.{HasScopeFault}
-use Rattle.shader_runs.proofs.ScopeFaults.{scope_faults_are_found}
 use Rattle.shader_runs.proofs.ScopeRules.{scope_check_is_the_rules}
 use Rattle.module_meaning.specs.FunctionNumbers.{all_functions, all_infos}
 use Rattle.module_meaning.specs.FunctionShapes.{function_shape, function_shapes}
@@ -21,28 +20,31 @@ use Rattle.module_meaning.specs.ExpressionContexts.{declared, types_known}
 use Rattle.naga_form.proofs.Ordered.{shape_ordered}
 use Rattle.naga_form.proofs.WellFormed.{any_shape}
 use Rattle.naga_scope.specs.Plans.{IsPlan, IsPlanOf, Planned}
+use Rattle.naga_scope.specs.ScopeChecks.{check_function}
+use Rattle.naga_scope.specs.ScopeFaults.{IsScopeFault}
+use Rattle.naga_scope.specs.declared.scope_faults.ScopeFault.{ScopeFault}
+use Rattle.naga_scope.proofs.ScopeChecks.{check_finds, function_ok}
 use Rattle.module_meaning.specs.Written.{OfFunctionAt}
 
 module _ (m : Module) (info : ModuleInfo) (f : ir_function.Function) (es : List ExpressionInfo)
     (ordered : OperandsStandBefore f.expressions) where
-  abbrev Checked : Bool
-  Checked = fits_function (function_naming (λ key. None) (λ number. []) m info 0 f es)
+  -- the function, under names that tell nothing
+  abbrev unnamed : Naming
+  unnamed = function_naming (λ key. None) (λ number. []) m info 0 f es
 
   operands_before : (h : ℕ) → AllBelow h (operands_of (expression_of (function_shape m info f es) h))
   operands_before h =
       any_shape m info f es h (λ o. AllBelow h (operands_of o)) tt
       (λ e at. shape_ordered (declared m info (types_known es)) f.expressions h e (ordered h e at))
 
-  -- the check of a function decides whether the rules of scope hold in it
-  pub check_is_the_rules : IsTrue Checked ↔ ScopeHolds (function_shape m info f es)
-  check_is_the_rules =
-      scope_check_is_the_rules (function_naming (λ key. None) (λ number. []) m info 0 f es) operands_before
+  -- where the check of a function finds no fault, the rules of scope hold in it
+  pub checked_holds : {n : ℕ} → check_function unnamed ≡ Ok n → ScopeHolds (function_shape m info f es)
+  checked_holds is =
+      (scope_check_is_the_rules unnamed operands_before).0 (sym (function_ok unnamed) ∙ ap is_ok is)
 
-  -- and where it fails, the function breaks one at some place
-  pub failure_is_a_fault : IsFalse Checked → HasScopeFault (function_shape m info f es)
-  failure_is_a_fault fails =
-      (scope_faults_are_found (function_shape m info f es) operands_before).0
-      (λ rules. true≢false (sym (check_is_the_rules.1 rules) ∙ fails))
+  -- and what it finds is a fault
+  pub checked_fault : (fault : ScopeFault) → check_function unnamed ≡ Err fault → IsScopeFault (function_shape m info f es) fault
+  checked_fault fault is = check_finds unnamed operands_before fault is
 
 -- a function that there is, with what is known of it, has a shape
 pub shape_found : (m : Module) (info : ModuleInfo) (fs : List ir_function.Function)

@@ -82,6 +82,14 @@ module _ {X : Type 0} (HasForm : (i : ℕ) → X → Type 0) (xs : List X) where
   pub here_left : (old rest : List (ℕ × X)) (h : ℕ) (x : X) → old ≡ (h, x) ∷ rest → Left old → slice_get xs h ≡ Some x
   here_left old rest h x is left = (turn_of old rest h x is left).here
 
+  -- and those before it have forms
+  pub before_left : (old rest : List (ℕ × X)) (h : ℕ) (x : X) → old ≡ (h, x) ∷ rest → Left old →
+      (i : ℕ) (y : X) → i < h → slice_get xs i ≡ Some y → HasForm i y
+  before_left old rest h x is left =
+      let t = turn_of old rest h x is left in
+      let before = subst Passed (sym t.at) left.passed in
+      before.formed
+
   pub next_left : (old rest : List (ℕ × X)) (h : ℕ) (x : X) → old ≡ (h, x) ∷ rest → HasForm h x → Left old → Left rest
   next_left old rest h x is has left =
       let t = turn_of old rest h x is left in

@@ -98,6 +98,28 @@ module _ (expression_has_form : Expression → Bool) (es : List Expression) (roo
     ended marks swept h e at is =
         swept.formed h e (omega arith) (all_marked marks swept h (slice_get_within es h e at) is) at
 
+  -- from the handle on to which the sweep came, each that is written is marked, and has a form
+  module _ (just : MarksJust roots first) (size : length first ≡ length es)
+      (ordered : (h : ℕ) (e : Expression) → slice_get es h ≡ Some e → AllBelow h (expression_operands e))
+      (marks : List Bool) (end : ℕ) (swept : Swept marks end) where
+    later_marked : (h : ℕ) → end ≤ h → h < length es → IsWritten es roots h → is_marked marks h ≡ true
+    later_marked h le lt (Root _ among) =
+        swept.kept h
+        (just h
+        ∙ ap₂ (λ a b. a && b) (among_one roots h among)
+        (lt-ltb h (length first) (subst (λ n. h < n) (sym size) lt)))
+    later_marked x le lt (OperandOf h _ e is at among) =
+        let one = among_one (expression_operands e) x among in
+        let below = below_one h (expression_operands e) x (ordered h e at) one in
+        let after : end ≤ h = omega (arith, le, below) in
+        swept.closed h e x after (later_marked h after (slice_get_within es h e at) is) at one lt
+
+    pub later_formed : (h : ℕ) → end ≤ suc h → (x : ℕ) (e : Expression) → h < x → slice_get es x ≡ Some e →
+        IsWritten es roots x → IsTrue (expression_has_form e)
+    later_formed h le x e lt at is =
+        let after : end ≤ x = omega (arith, le, lt) in
+        swept.formed x e after (later_marked x after (slice_get_within es x e at) is) at
+
   -- what has no mark is passed
   pub passed : (marks : List Bool) (h : ℕ) → is_marked marks h ≡ false → Swept marks (suc h) →
       Swept marks h

@@ -1,6 +1,6 @@
 -- A loop's body, cut at its first statement that holds a `continue`.
 use Rattle.std.proofs.Common.{◌≡◌, ℕ, suc, ◌+◌, ◌≤◌, Bool, true, false, ◌&&◌, ◌||◌, List, [], ◌∷◌, length, take, drop, Option, Some, None, nat_eq, eqb-true, refl, sym, ap, ◌∙◌, arith, add-one, subst}
-use Rattle.std.specs.Prelude.{IsTrue, cond}
+use Rattle.std.specs.Prelude.{cond, Result, Ok, Err}
 use Rattle.module_meaning.specs.ExpressionOperators.{ExpressionContext, is_atomic_pointer}
 use Rattle.module_meaning.specs.FunctionShapes.{cases_shape, statement_shape, statements_shape}
 use Rattle.module_meaning.specs.StatementShapes.{store_shape}
@@ -10,12 +10,14 @@ use Rattle.naga_ir.specs.StatementViews.{block_of, tree_of}
 use Rattle.naga_ir.specs.declared.statement.Statement.{Statement}
 use Rattle.naga_scope.specs.Changes.{block_changes, statement_changes}
 use Rattle.naga_scope.specs.Continues.{any_continue, before_continue, count_before, from_continue, holds_continue, some_case_continues}
+use Rattle.naga_scope.specs.ScopeChecks.{check_all, check_statement, onward}
 use Rattle.naga_scope.specs.Walks.{after_each}
+use Rattle.naga_scope.specs.declared.scope_faults.ScopeFault.{ScopeFault}
 use Rattle.shader_runs.specs.Program as shapes
 use Rattle.shader_runs.specs.Program.{Statements, binds, expression_of, from, operands_of}
 use Rattle.shader_runs.specs.Program.{is_pure}
 use Rattle.shader_runs.specs.Scope.{Absent, Availability, Barred, Bound, Everywhere, Handles, Inline, Names, Naming, after, after_all, after_emit, after_one, after_result}
-use Rattle.shader_runs.specs.Scope.{availability_without_name, bound_name, fits, fits_all, forgotten_handles, forgotten_if, forgotten_one, is_new, named_after, named_by, named_by_all}
+use Rattle.shader_runs.specs.Scope.{availability_without_name, bound_name, forgotten_handles, forgotten_if, forgotten_one, is_new, named_after, named_by, named_by_all}
 use Rattle.shader_runs.specs.Scope.{usable_all, with_emitted_handle}
 use Rattle.shader_runs.specs.World.{update}
 
@@ -70,10 +72,6 @@ changes_by false st b front back rest = omega (arith, rest)
 pub changes_split : (b : BlockTree) → block_changes (before_continue b) + block_changes (from_continue b) ≡ block_changes b
 changes_split no_statements = omega arith
 changes_split (statement st b) = changes_by (holds_continue st) st b (before_continue b) (from_continue b) (changes_split b)
-
-and_assoc : (x y z : Bool) → (x && (y && z)) ≡ ((x && y) && z)
-and_assoc true y z = refl
-and_assoc false y z = refl
 
 -- ---- what a walk leaves
 -- what was introduced stays so, and what was emitted is no longer absent
@@ -203,21 +201,34 @@ module _ (n : Naming) (a : ExpressionContext) where
   named_split no_statements k = refl
   named_split (statement st b) k = named_part (holds_continue st) st b (before_continue b) (from_continue b) k (named_split b (named_by n.function (line st) k))
 
-  -- all is in scope in both parts
-  fits_part : (c : Bool) (st : StatementTree) (b front back : BlockTree) (k : ℕ) (s : Handles) →
-      (let k1 = named_by n.function (line st) k in let s1 = after n k (line st) s in
-      fits_all n k1 (lines b) s1 ≡ (fits_all n k1 (lines front) s1 && fits_all n (named_by_all n.function (lines front) k1) (lines back) (after_each n k1 (lines front) s1)) →
-      fits_all n k (lines (statement st b)) s ≡ (fits_all n k (lines (cond c no_statements (statement st front))) s &&
-      fits_all n (named_by_all n.function (lines (cond c no_statements (statement st front))) k) (lines (cond c (statement st b) back)) (after_each n k (lines (cond c no_statements
-      (statement st front))) s)))
-  fits_part true st b front back k s rest = refl
-  fits_part false st b front back k s rest = ap (λ r. fits n k (line st) s && r) rest
-      ∙ and_assoc (fits n k (line st) s) (fits_all n (named_by n.function (line st) k) (lines front) (after n k (line st) s)) _
+  -- one part is checked after the other
+  onward_then : (f g h : ℕ → Result ℕ ScopeFault) (r : Result ℕ ScopeFault) → ((j : ℕ) → f j ≡ onward h (g j)) →
+      onward f r ≡ onward h (onward g r)
+  onward_then f g h (Ok j) each = each j
+  onward_then f g h (Err e) each = refl
 
-  fits_split : (b : BlockTree) (k : ℕ) (s : Handles) → fits_all n k (lines b) s ≡
-      (fits_all n k (lines (before_continue b)) s && fits_all n (named_by_all n.function (lines (before_continue b)) k) (lines (from_continue b)) (after_each n k (lines (before_continue b)) s))
-  fits_split no_statements k s = refl
-  fits_split (statement st b) k s = fits_part (holds_continue st) st b (before_continue b) (from_continue b) k s (fits_split b (named_by n.function (line st) k) (after n k (line st) s))
+  check_part : (c : Bool) (st : StatementTree) (b front back : BlockTree) (k j : ℕ) (s : Handles) →
+      (let k1 = named_by n.function (line st) k in let s1 = after n k (line st) s in
+      ((j : ℕ) → check_all n k1 j (lines b) s1 ≡
+      onward (λ j. check_all n (named_by_all n.function (lines front) k1) j (lines back) (after_each n k1 (lines front) s1)) (check_all n k1 j (lines front) s1)) →
+      check_all n k j (lines (statement st b)) s ≡
+      onward (λ j. check_all n (named_by_all n.function (lines (cond c no_statements (statement st front))) k) j (lines (cond c (statement st b) back)) (after_each n k (lines (cond c no_statements
+      (statement st front))) s)) (check_all n k j (lines (cond c no_statements (statement st front))) s))
+  check_part true st b front back k j s rest = refl
+  check_part false st b front back k j s rest =
+      let k1 = named_by n.function (line st) k in
+      let s1 = after n k (line st) s in
+      onward_then (λ j. check_all n k1 j (lines b) s1) (λ j. check_all n k1 j (lines front) s1)
+      (λ j. check_all n (named_by_all n.function (lines front) k1) j (lines back) (after_each n k1 (lines front) s1))
+      (check_statement n k j (line st) s) rest
+
+  check_split : (b : BlockTree) (k j : ℕ) (s : Handles) → check_all n k j (lines b) s ≡
+      onward (λ j. check_all n (named_by_all n.function (lines (before_continue b)) k) j (lines (from_continue b)) (after_each n k (lines (before_continue b)) s))
+      (check_all n k j (lines (before_continue b)) s)
+  check_split no_statements k j s = refl
+  check_split (statement st b) k j s =
+      check_part (holds_continue st) st b (before_continue b) (from_continue b) k j s
+      (λ j. check_split b (named_by n.function (line st) k) j (after n k (line st) s))
 
   -- the walk through both parts
   walk_part : (c : Bool) (st : StatementTree) (b front back : BlockTree) (k : ℕ) (s : Handles) →
@@ -266,18 +277,25 @@ module _ (n : Naming) (a : ExpressionContext) where
   body_named b front back k k1 k2 f g first second =
       second ∙ (λ i. named_by_all n.function (lines (g i)) (first i)) ∙ (λ i. named_by_all n.function (lines (from_continue b)) (named_by_all n.function (lines (f i)) k)) ∙ sym (named_split b k)
 
-  pub body_fits : (b front back : BlockTree) (k k1 : ℕ) (s s1 : Handles) (first second : Bool) → front ≡ before_continue b → back ≡ from_continue b →
-      first ≡ fits_all n k (lines front) s → IsTrue first → k1 ≡ named_by_all n.function (lines front) k → s1 ≡ after_each n k (lines front) s → second ≡ fits_all n k1 (lines back) s1 →
-      second ≡ fits_all n k (lines b) s
-  body_fits b front back k k1 s s1 first second f g fit held given behind is =
-      is ∙ (λ i. fits_all n (given i) (lines (g i)) (behind i)) ∙ (λ i. fits_all n (named_by_all n.function (lines (f i)) k) (lines (from_continue b)) (after_each n k (lines (f i)) s))
-      ∙ (λ i. (sym held ∙ fit ∙ ap (λ x. fits_all n k (lines x) s) f) i &&
-      fits_all n (named_by_all n.function (lines (before_continue b)) k) (lines (from_continue b)) (after_each n k (lines (before_continue b)) s)) ∙ sym (fits_split b k s)
+  pub body_checks : (b front back : BlockTree) (k k1 j middle : ℕ) (s s1 : Handles) (next : Result ℕ ScopeFault) →
+      front ≡ before_continue b → back ≡ from_continue b → Ok middle ≡ check_all n k j (lines front) s →
+      k1 ≡ named_by_all n.function (lines front) k → s1 ≡ after_each n k (lines front) s →
+      next ≡ check_all n k1 middle (lines back) s1 → next ≡ check_all n k j (lines b) s
+  body_checks b front back k k1 j middle s s1 next f g first given behind is =
+      let k2 = named_by_all n.function (lines (before_continue b)) k in
+      let s2 = after_each n k (lines (before_continue b)) s in
+      is ∙ (λ i. check_all n (given i) middle (lines (g i)) (behind i))
+      ∙ (λ i. check_all n (named_by_all n.function (lines (f i)) k) middle (lines (from_continue b)) (after_each n k (lines (f i)) s))
+      ∙ ap (onward (λ j. check_all n k2 j (lines (from_continue b)) s2)) (first ∙ ap (λ x. check_all n k j (lines x) s) f)
+      ∙ sym (check_split b k j s)
 
-  pub body_refused : (b front : BlockTree) (k : ℕ) (s : Handles) (first : Bool) → front ≡ before_continue b → first ≡ fits_all n k (lines front) s → first ≡ false → false ≡ fits_all n k (lines b) s
-  body_refused b front k s first f fit refused =
-      ap (λ r. r && fits_all n (named_by_all n.function (lines (before_continue b)) k) (lines (from_continue b)) (after_each n k (lines (before_continue b)) s)) (sym refused ∙ fit
-      ∙ ap (λ x. fits_all n k (lines x) s) f) ∙ sym (fits_split b k s)
+  pub body_stops : (b front : BlockTree) (k j : ℕ) (s : Handles) (fault : ScopeFault) → front ≡ before_continue b →
+      Err fault ≡ check_all n k j (lines front) s → Err fault ≡ check_all n k j (lines b) s
+  body_stops b front k j s fault f first =
+      let k2 = named_by_all n.function (lines (before_continue b)) k in
+      let s2 = after_each n k (lines (before_continue b)) s in
+      ap (onward (λ j. check_all n k2 j (lines (from_continue b)) s2)) (first ∙ ap (λ x. check_all n k j (lines x) s) f)
+      ∙ sym (check_split b k j s)
 
   pub body_leaves : (b front back : BlockTree) (k k1 : ℕ) (s s1 s2 s3 : Handles) → front ≡ before_continue b → back ≡ from_continue b →
       k1 ≡ named_by_all n.function (lines front) k → s1 ≡ after_each n k (lines front) s → s2 ≡ after_each n k1 (lines back) s1 → s3 ≡ forgotten_handles s1 s2 → s3 ≡ after_all n k (lines b) s
@@ -287,4 +305,4 @@ module _ (n : Naming) (a : ExpressionContext) where
       second ∙ (λ i. after_each n ((given ∙ ap (λ y. named_by_all n.function (lines y) k) f) i) (lines (g i)) (u i)) in
       forgets ∙ (λ i. forgotten_handles (u i) (t i)) ∙ sym (turn b k s)
 
-pub ruleset bodies = (body_fits, body_named, body_refused)
+pub ruleset bodies = (body_checks, body_named, body_stops)

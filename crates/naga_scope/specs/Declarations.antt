@@ -6,7 +6,7 @@
 -- expression, s a member, c a constant, o an override, g a variable, a an argument, i is the place
 -- of an item in its list, fault is why members can't stay where they are, ks are the members of a
 -- struct as the module places them, and it is what is found.
-use Rattle.std.specs.Prelude.{◌≡◌, ℕ, Option, Some, None, IsFalse, IsTrue, List, slice_get}
+use Rattle.std.specs.Prelude.{◌≡◌, ◌<◌, ℕ, Option, Some, None, IsFalse, IsTrue, List, slice_get}
 use Rattle.std.specs.Option.{is_some, option_and_then}
 use Rattle.module_meaning.specs.DeclarationForms.{IsDeclaredType, IsInitialiser, IsMemberBinding}
 use Rattle.module_meaning.specs.DeclarationForms.{IsPassed, binding_has_form, entry_point_numbered}
@@ -23,11 +23,15 @@ use Rattle.naga_ir.specs.declared.binding.BuiltIn.{BuiltIn}
 use Rattle.naga_ir.specs.declared.module.Constant.{Constant}
 use Rattle.naga_ir.specs.declared.module.EntryPoint.{EntryPoint}
 use Rattle.naga_ir.specs.declared.module.Function.{Function}
+use Rattle.naga_ir.specs.declared.module.GlobalVariable.{GlobalVariable}
 use Rattle.naga_ir.specs.declared.module.Module.{Module}
+use Rattle.naga_ir.specs.declared.module.Override.{Override}
 use Rattle.naga_ir.specs.declared.types.StructMember.{StructMember}
 use Rattle.naga_ir.specs.declared.types.Type_.{Type_}
 use Rattle.naga_layout.specs.Types.{arrays_are_kept, placed_members}
 use Rattle.naga_names.specs.Reset.{members_of}
+use Rattle.naga_scope.specs.declared.declarations.DeclarationPlace.{DeclarationPlace}
+use Rattle.naga_scope.specs.declared.declarations.DeclarationPlace.TheVariants as place
 use Rattle.naga_scope.specs.declared.declarations.FormlessDeclaration.{FormlessDeclaration}
 use Rattle.naga_scope.specs.declared.declarations.FormlessDeclaration.TheVariants as declaration
 use Rattle.naga_scope.specs.declared.declarations.FormlessHead.{FormlessHead}
@@ -58,12 +62,28 @@ IsFormlessDeclaration m (declaration.Misplaced fault) = (ty : ℕ) × IsMisplace
 IsFormlessDeclaration m (declaration.Stride found) = (ty : ℕ) × HasOtherStride m ty found
 
 -- ---- searches
+-- each item of a list has a form
+abbrev pub Each : {X : Type 0} → List X → (HasForm : (i : ℕ) → X → Type 0) → Type 0
+Each {X} xs HasForm = (i : ℕ) (x : X) → slice_get xs i ≡ Some x → HasForm i x
+
 -- Each item of a list has a form, or this one has none, as is told of each item by its place.
 abbrev pub Finds : {X F : Type 0} → List X → (HasForm : (i : ℕ) → X → Type 0) →
     (IsFormless : (i : ℕ) → X → F → Type 0) → Option F → Type 0
-Finds {X} xs HasForm IsFormless None = (i : ℕ) (x : X) → slice_get xs i ≡ Some x → HasForm i x
+Finds {X} xs HasForm IsFormless None = Each xs HasForm
 Finds {X} xs HasForm IsFormless (Some it) =
     (i : ℕ) × (x : X) × (slice_get xs i ≡ Some x) × IsFormless i x it
+
+-- each in front of this place has one
+abbrev pub EachBefore : {X : Type 0} → List X → (n : ℕ) → (HasForm : (i : ℕ) → X → Type 0) → Type 0
+EachBefore {X} xs n HasForm = (i : ℕ) (x : X) → i < n → slice_get xs i ≡ Some x → HasForm i x
+
+-- Each item of a list has a form, or this one is the first that has none, at which it is told so.
+abbrev pub FindsFirst : {X P F : Type 0} → List X → (HasForm : (i : ℕ) → X → Type 0) →
+    (at : ℕ → P) → (IsFormless : (i : ℕ) → X → F → Type 0) → Option (P × F) → Type 0
+FindsFirst xs HasForm at IsFormless None = Each xs HasForm
+FindsFirst {X} xs HasForm at IsFormless (Some found) =
+    (i : ℕ) × (x : X) × (slice_get xs i ≡ Some x) × (found.0 ≡ at i) × EachBefore xs i HasForm
+    × IsFormless i x found.1
 
 -- ---- types and initialisers
 -- the type that is told, and the initialiser if there is one, have forms
@@ -170,3 +190,64 @@ pub record EntryPointHasForm (p : EntryPoint) : Type 0 where
 abbrev pub IsFormlessEntryPoint : EntryPoint → FormlessHead → Type 0
 IsFormlessEntryPoint p (head.BuiltIn v) = IsFormlessPassed p.function v
 IsFormlessEntryPoint p head.Stage = IsFalse (stage_has_form p p.stage)
+
+-- ---- where it stands
+abbrev pub IsFormlessFunction : Function → FormlessDeclaration → Type 0
+IsFormlessFunction f (declaration.Head (head.BuiltIn v)) = IsFormlessPassed f v
+IsFormlessFunction f it = ⊥
+
+abbrev pub IsFormlessHeadOf : EntryPoint → FormlessDeclaration → Type 0
+IsFormlessHeadOf p (declaration.Head it) = IsFormlessEntryPoint p it
+IsFormlessHeadOf p it = ⊥
+
+-- it has no form in this declaration of the module
+abbrev pub IsFormlessIn : Module → DeclarationPlace → FormlessDeclaration → Type 0
+IsFormlessIn m (place.Struct h) it =
+    (t : Type_) × (slice_get m.types h ≡ Some t) × IsFormlessType m h t it
+IsFormlessIn m (place.Constant h) it =
+    (c : Constant) × (slice_get m.constants h ≡ Some c) × IsFormlessConstant m c it
+IsFormlessIn m (place.Override h) it =
+    (o : Override) × (slice_get m.overrides h ≡ Some o) × IsFormlessValue m o.ty o.init it
+IsFormlessIn m (place.GlobalVariable h) it =
+    (g : GlobalVariable) × (slice_get m.global_variables h ≡ Some g)
+    × IsFormlessValue m g.ty g.init it
+IsFormlessIn m (place.Function h) it =
+    (f : Function) × (slice_get m.functions h ≡ Some f) × IsFormlessFunction f it
+IsFormlessIn m (place.EntryPoint i) it =
+    (p : EntryPoint) × (slice_get m.entry_points.items i ≡ Some p) × IsFormlessHeadOf p it
+
+-- ---- which is the first
+-- all declarations of one kind have forms
+abbrev pub TypesHaveForms : Module → Type 0
+TypesHaveForms m = Each m.types (TypeHasForm m)
+
+abbrev pub ConstantsHaveForms : Module → Type 0
+ConstantsHaveForms m = Each m.constants (λ i. ConstantHasForm m)
+
+abbrev pub OverridesHaveForms : Module → Type 0
+OverridesHaveForms m = Each m.overrides (λ i o. ValueHasForm m o.ty o.init)
+
+abbrev pub VariablesHaveForms : Module → Type 0
+VariablesHaveForms m = Each m.global_variables (λ i g. ValueHasForm m g.ty g.init)
+
+abbrev pub FunctionsHaveForms : Module → Type 0
+FunctionsHaveForms m = Each m.functions (λ i. PassedHasForm)
+
+-- In the order of a text, which has structs, constants, overrides, variables, functions and entry
+-- points, each declaration in front of this one has a form.
+abbrev pub HaveFormsBefore : Module → DeclarationPlace → Type 0
+HaveFormsBefore m (place.Struct h) = EachBefore m.types h (TypeHasForm m)
+HaveFormsBefore m (place.Constant h) =
+    TypesHaveForms m × EachBefore m.constants h (λ i. ConstantHasForm m)
+HaveFormsBefore m (place.Override h) =
+    TypesHaveForms m × ConstantsHaveForms m
+    × EachBefore m.overrides h (λ i o. ValueHasForm m o.ty o.init)
+HaveFormsBefore m (place.GlobalVariable h) =
+    TypesHaveForms m × ConstantsHaveForms m × OverridesHaveForms m
+    × EachBefore m.global_variables h (λ i g. ValueHasForm m g.ty g.init)
+HaveFormsBefore m (place.Function h) =
+    TypesHaveForms m × ConstantsHaveForms m × OverridesHaveForms m × VariablesHaveForms m
+    × EachBefore m.functions h (λ i. PassedHasForm)
+HaveFormsBefore m (place.EntryPoint i) =
+    TypesHaveForms m × ConstantsHaveForms m × OverridesHaveForms m × VariablesHaveForms m
+    × FunctionsHaveForms m × EachBefore m.entry_points.items i (λ i. EntryPointHasForm)

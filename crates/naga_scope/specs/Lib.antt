@@ -10,6 +10,8 @@ pub mod Log
 pub mod Marks
 pub mod Plans
 pub mod Results
+pub mod ScopeChecks
+pub mod ScopeFaults
 pub mod SpelledTypes
 pub mod Tables
 pub mod Walks

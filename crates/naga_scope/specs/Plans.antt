@@ -2,17 +2,20 @@
 --
 -- Throughout, m is the module, info is what is known of its expressions, f is the shape of a
 -- function, and explicit says whether `let`s tell types.
-use Rattle.std.specs.Prelude.{◌≡◌, ◌<◌, ◌^◌, ℕ, Bool, List, [], Some, IsSomeAnd}
+use Rattle.std.specs.Prelude.{◌≡◌, ◌<◌, ◌^◌, ⊤, ℕ, Bool, List, [], Some, None, Err, IsSomeAnd}
 use Rattle.std.specs.Prelude.{IsFalse, IsTrue, get_or, length, nat_le, slice_get}
+use Rattle.naga_ir.specs.declared.expression.Expression.{Expression}
 use Rattle.naga_ir.specs.declared.module.Function as ir
 use Rattle.naga_info.specs.declared.info.ExpressionInfo.{ExpressionInfo}
 use Rattle.module_meaning.specs.ExpressionForms.{expression_has_form}
+use Rattle.module_meaning.specs.Namings.{function_naming}
+use Rattle.module_meaning.specs.StatementForms.{block_has_forms}
 use Rattle.module_meaning.specs.Undeclared.{is_spellable}
 use Rattle.module_meaning.specs.Written.{IsSpelledIn, IsWrittenIn, OfFunctionAt, WrittenHaveForms}
 use Rattle.naga_ir.specs.declared.module.Module.{Module}
 use Rattle.naga_info.specs.declared.info.ModuleInfo.{ModuleInfo}
 use Rattle.naga_info.specs.declared.info.TypeResolution.TheVariants.{Handle}
-use Rattle.shader_runs.specs.Program.{Function}
+use Rattle.shader_runs.specs.Program.{Function, binds}
 use Rattle.shader_runs.specs.Scope.{at_start}
 use Rattle.shader_runs.specs.ScopeRules.{ScopeHolds}
 use Rattle.shader_runs.specs.ScopeFaults.{HasScopeFault}
@@ -24,7 +27,10 @@ use Rattle.naga_names.specs.Naming.{HasNamed, Names}
 use Rattle.naga_scope.specs.ExpressionNames.{IsRefusalOfLabels}
 use Rattle.naga_scope.specs.Availabilities.{TextPoint, handles_of}
 use Rattle.naga_scope.specs.Changes.{block_changes}
-use Rattle.naga_scope.specs.FormlessStatements.{formless_statement}
+use Rattle.naga_scope.specs.FormlessStatements.{IsFormlessAt, formless_statement, number_block}
+use Rattle.naga_scope.specs.ScopeChecks.{check_function}
+use Rattle.naga_scope.specs.ScopeFaults.{IsScopeFault}
+use Rattle.naga_scope.specs.SpelledTypes.{annotated_formless, declared_formless}
 use Rattle.naga_scope.specs.declared.known_function.KnownFunction.{KnownFunction}
 use Rattle.naga_scope.specs.Log.{HasRoom}
 use Rattle.naga_scope.specs.declared.plan.PlanError.{PlanError}
@@ -59,14 +65,15 @@ pub record IsPlan (explicit : Bool) (m : Module) (info : ModuleInfo) (f : ir.Fun
   pub changes : HasRoom plan.scope (block_changes f.body)
   pub formed : WrittenHaveForms explicit m info f es
 
--- why there is no plan of it, where the namer was this: it breaks a rule of scope at some place,
+-- why there is no plan of it, where the namer was this: it breaks a rule of scope with this fault,
 -- this statement is the first without a form, a written handle has none, a type that is spelled has
 -- none, a label gets no name, or memory ran out
 abbrev pub IsRefusalToPlan : (explicit : Bool) → Module → ModuleInfo → ir.Function →
     List ExpressionInfo → Names → PlanError → Type 0
-IsRefusalToPlan explicit m info f es namer OutOfScope = HasScopeFault (function_shape m info f es)
-IsRefusalToPlan explicit m info f es namer (StatementWithoutForm it) =
-    formless_statement f.body ≡ Some it
+IsRefusalToPlan explicit m info f es namer (OutOfScope fault) =
+    IsScopeFault (function_shape m info f es) fault
+IsRefusalToPlan explicit m info f es namer (StatementWithoutForm n it) =
+    (formless_statement f.body ≡ Some it) × IsFormlessAt f.body n it
 IsRefusalToPlan explicit m info f es namer (WithoutForm h) =
     IsWrittenIn m info f es h
     × IsSomeAnd (slice_get f.expressions h)
@@ -80,6 +87,42 @@ IsRefusalToPlan explicit m info f es namer (Unnamed error) =
     (earlier : List (List ℕ)) → HasNamed namer earlier →
     IsRefusalOfLabels namer earlier (expression_labels f) error
 IsRefusalToPlan explicit m info f es namer (Memory e) = Unit {0}
+
+-- the rules of scope hold in it, and its statements and all that is written of it have forms
+abbrev pub IsFormedBefore : Module → ModuleInfo → ir.Function → List ExpressionInfo → Type 0
+IsFormedBefore m info f es =
+    ScopeHolds (function_shape m info f es) × IsTrue (block_has_forms f.body)
+    × ((x : ℕ) (e : Expression) → slice_get f.expressions x ≡ Some e → IsWrittenIn m info f es x →
+    IsTrue (expression_has_form m es f.expressions e))
+
+-- A function is looked at by the labels that front ends gave in it, the rules of scope, its
+-- statements, what is written of it, the types that it declares and those that its `let`s tell. All
+-- that is looked at before this error is found is without one.
+abbrev pub IsFirstToPlan : (explicit : Bool) → Module → ModuleInfo → ir.Function →
+    List ExpressionInfo → PlanError → Type 0
+IsFirstToPlan explicit m info f es (OutOfScope fault) =
+    check_function (function_naming (λ key. None) (λ number. []) m info 0 f es) ≡ Err fault
+IsFirstToPlan explicit m info f es (StatementWithoutForm n it) =
+    ScopeHolds (function_shape m info f es) × (number_block 0 f.body ≡ Err (n, it))
+IsFirstToPlan explicit m info f es (WithoutForm h) =
+    ScopeHolds (function_shape m info f es) × IsTrue (block_has_forms f.body)
+    × ((x : ℕ) (e : Expression) → h < x → slice_get f.expressions x ≡ Some e →
+    IsWrittenIn m info f es x → IsTrue (expression_has_form m es f.expressions e))
+IsFirstToPlan explicit m info f es (TypeWithoutForm ty) =
+    IsFormedBefore m info f es × (declared_formless m f ≡ Some ty)
+IsFirstToPlan explicit m info f es (LetWithoutForm h) =
+    IsFormedBefore m info f es × (declared_formless m f ≡ None)
+    × (annotated_formless explicit m es (binds (function_shape m info f es)) f ≡ Some h)
+IsFirstToPlan explicit m info f es _ = ⊤
+
+abbrev pub IsFirstToPlanFor : (explicit : Bool) → KnownFunction → PlanError → Type 0
+IsFirstToPlanFor explicit k error =
+    IsFirstToPlan explicit k.shader.now k.module_info.now k.function.now k.info.now error
+
+abbrev pub IsFirstToPlanOf : (explicit : Bool) → Module → ModuleInfo → (number : ℕ) → PlanError →
+    Type 0
+IsFirstToPlanOf explicit m info number error =
+    OfFunctionAt m info number (λ f es. IsFirstToPlan explicit m info f es error)
 
 -- a plan of a function with what is known of it, and why there is none
 abbrev pub IsPlanFor : (explicit : Bool) → KnownFunction → Planned → Type 0

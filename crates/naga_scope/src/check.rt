@@ -1,36 +1,39 @@
-//! The check that each expression is in scope where it is used.
+//! The check that each expression is in scope where it is used, which tells the first fault.
 
 ghost use Rattle.std.specs.Prelude.{◌≡◌, ◌-◌, ◌&&◌, ℕ, List, [], IsTrue, length};
 ghost use Rattle.std.specs.Option.{option_to_list};
+ghost use Rattle.std.specs.Result.{is_ok, result_and};
 ghost use Rattle.module_meaning.specs.FunctionShapes.{function_shape};
 ghost use Rattle.module_meaning.specs.Namings.{inner_names};
 ghost use Rattle.module_meaning.specs.Ranges.{is_below};
 ghost use Rattle.naga_info.specs.declared.info.ExpressionInfo.{ExpressionInfo};
 ghost use Rattle.naga_info.specs.declared.info.ModuleInfo.{ModuleInfo};
-ghost use Rattle.naga_ir.specs.Operands.{own_operands, own_result};
+ghost use Rattle.naga_ir.specs.Operands.{expression_operands, own_operands, own_result};
 ghost use Rattle.naga_ir.specs.StatementTree.{branch, loop, switch};
 ghost use Rattle.naga_ir.specs.StatementViews.{block_of, cases_of, tree_of};
 ghost use Rattle.naga_ir.specs.declared.module.Module.{Module};
 ghost use Rattle.naga_names.specs.Keys.{NameMap};
 ghost use Rattle.shader_runs.specs.Program.{from};
 ghost use Rattle.shader_runs.specs.Scope.{after, after_all, after_emit, after_one, after_result};
-ghost use Rattle.shader_runs.specs.Scope.{at_start, before_local, first_values_fit, fits};
-ghost use Rattle.shader_runs.specs.Scope.{fits_all, fits_cases, fits_function, may_emit};
-ghost use Rattle.shader_runs.specs.Scope.{may_emit_all, may_give, named_after, named_after_all};
-ghost use Rattle.shader_runs.specs.Scope.{named_by, named_by_all, named_by_cases, usable};
-ghost use Rattle.shader_runs.specs.Scope.{usable_all, usable_if};
-ghost use Rattle.naga_scope.specs.Availabilities.{handles_of, is_earlier};
+ghost use Rattle.shader_runs.specs.Scope.{at_start, before_local, named_after, named_after_all};
+ghost use Rattle.shader_runs.specs.Scope.{named_by, named_by_all, named_by_cases, usable, usable_if};
+ghost use Rattle.naga_scope.specs.Availabilities.{handles_of, is_earlier, operands_at};
 ghost use Rattle.naga_scope.specs.Changes.{block_changes, cases_changes, statement_changes};
 ghost use Rattle.naga_scope.specs.KnownFunctions.{IsPointOf, cases_in, expressions_of, handles_at};
 ghost use Rattle.naga_scope.specs.KnownFunctions.{naming_of, shape_of, statement_in, statements_in};
 ghost use Rattle.naga_scope.specs.Log.{Counted, Extends, HasRoom, Reverts, Same};
 ghost use Rattle.naga_scope.specs.Results.{CaseResultsFit, ResultsFit, StatementResultsFit};
+ghost use Rattle.naga_scope.specs.ScopeChecks.{check_all, check_cases, check_emit, check_emitted};
+ghost use Rattle.naga_scope.specs.ScopeChecks.{check_first, check_first_values, check_function};
+ghost use Rattle.naga_scope.specs.ScopeChecks.{check_operands, check_result, check_statement};
+ghost use Rattle.naga_scope.specs.ScopeChecks.{check_use, check_use_if, check_uses};
 ghost use Rattle.naga_scope.specs.Walks.{after_each};
 
-use crate::binding::expression_at;
+use crate::binding::{expression_at, is_emittable, kind_at};
 use crate::continues::split_at_continue;
 use crate::known_function::KnownFunction;
 use crate::points::Scope;
+use crate::scope_faults::ScopeFault;
 use naga_ir::{
     Block, Expression, Function, Handle, LocalVariable, Place, Range, Statement, SwitchCase,
 };
@@ -79,19 +82,45 @@ fn first_value_holds(
     is_usable_if(scope, function, local.init) && is_earlier(function, local.init, handle)
 }
 
-/// Whether the first value of each local is in scope where it stands, at the start of the function.
-fn first_values_hold(scope: &Scope, function: &Function) -> bool
+/// The fault of the first value of this local, if it has one, behind the locals before it.
+fn check_first_value(
+    scope: &Scope,
+    function: &Function,
+    handle: Handle<LocalVariable>,
+    local: &LocalVariable,
+) -> Result<(), ScopeFault>
     ensures { (named : ℕ → List ℕ) (m : Module) (known : ModuleInfo) (es : List ExpressionInfo) →
         let shape = function_shape m known function.now es in
         handles_of named scope.now.table ≡ at_start shape →
-        result ≡ first_values_fit shape 0 shape.first_values }
+        result ≡ check_first shape handle local.now.init }
+{
+    match local.init {
+        Some(value) => {
+            if first_value_holds(scope, function, handle, local) {
+                Ok(())
+            } else {
+                Err(ScopeFault::FirstValue {
+                    local: handle,
+                    value,
+                })
+            }
+        }
+        None => Ok(()),
+    }
+}
+
+/// The fault of the first value that is out of scope where its local is declared, at the start of
+/// the function.
+fn check_first_values(scope: &Scope, function: &Function) -> Result<(), ScopeFault>
+    ensures { (named : ℕ → List ℕ) (m : Module) (known : ModuleInfo) (es : List ExpressionInfo) →
+        let shape = function_shape m known function.now es in
+        handles_of named scope.now.table ≡ at_start shape →
+        result ≡ check_first_values shape 0 shape.first_values }
 {
     for (handle, local) in function.local_variables.iter() {
-        if !first_value_holds(scope, function, handle, local) {
-            return false;
-        }
+        check_first_value(scope, function, handle, local)?;
     }
-    true
+    Ok(())
 }
 
 /// Whether the expression may be written at this point.
@@ -101,80 +130,184 @@ fn is_usable(scope: &Scope, known: &KnownFunction<'_>, handle: Handle<Expression
     scope.is_usable(known.function, handle)
 }
 
-/// Whether the operands of the statement itself may be written at this point.
-fn are_usable(scope: &Scope, known: &KnownFunction<'_>, statement: &Statement) -> bool
-    ensures { result ≡ usable_all (shape_of known.now) (handles_at scope.now)
+/// The fault of the statement with this number where the expression may not be written here.
+fn check_use(
+    scope: &Scope,
+    known: &KnownFunction<'_>,
+    number: usize,
+    operand: Handle<Expression>,
+) -> Result<(), ScopeFault>
+    ensures { result ≡ check_use (shape_of known.now) (handles_at scope.now) number operand }
+{
+    if is_usable(scope, known, operand) {
+        Ok(())
+    } else {
+        Err(ScopeFault::Operand {
+            statement: number,
+            operand,
+        })
+    }
+}
+
+/// The same of the operands of the statement itself.
+fn check_uses(
+    scope: &Scope,
+    known: &KnownFunction<'_>,
+    number: usize,
+    statement: &Statement,
+) -> Result<(), ScopeFault>
+    ensures { result ≡ check_uses (shape_of known.now) (handles_at scope.now) number
         (own_operands (tree_of statement.now)) }
 {
     for operand in statement.operands() {
-        if !is_usable(scope, known, operand) {
-            return false;
-        }
+        check_use(scope, known, number, operand)?;
     }
-    true
+    Ok(())
 }
 
-/// Whether what a `break if` asks, if there is one, may be written at this point.
-fn break_holds(
+/// The same of what a `break if` asks, if there is one.
+fn check_break(
     scope: &Scope,
     known: &KnownFunction<'_>,
+    number: usize,
     break_if: Option<Handle<Expression>>,
-) -> bool
-    ensures { result ≡ usable_if (shape_of known.now) (handles_at scope.now) break_if }
+) -> Result<(), ScopeFault>
+    ensures { result ≡ check_use_if (shape_of known.now) (handles_at scope.now) number break_if }
 {
     match break_if {
-        Some(handle) => is_usable(scope, known, handle),
-        None => true,
+        Some(handle) => check_use(scope, known, number, handle),
+        None => Ok(()),
     }
 }
 
-/// Whether an `Emit` of this handle is allowed. Where it is, the scope is then behind it.
-fn one_holds(scope: &mut Scope, known: &KnownFunction<'_>, handle: Handle<Expression>) -> bool
+/// The fault of an `Emit` that binds the expression with this handle, where an operand of it may not
+/// be written here.
+fn check_operands(
+    scope: &Scope,
+    known: &KnownFunction<'_>,
+    number: usize,
+    handle: Handle<Expression>,
+    expression: &Expression,
+) -> Result<(), ScopeFault>
+    ensures { result ≡ check_operands (shape_of known.now) (handles_at scope.now) number handle
+        (expression_operands expression.now) }
+{
+    for operand in expression.operands() {
+        if !is_usable(scope, known, operand) {
+            return Err(ScopeFault::EmittedOperand {
+                statement: number,
+                expression: handle,
+                operand,
+            });
+        }
+    }
+    Ok(())
+}
+
+/// The same by the handle alone.
+fn check_bound(
+    scope: &Scope,
+    known: &KnownFunction<'_>,
+    number: usize,
+    handle: Handle<Expression>,
+) -> Result<(), ScopeFault>
+    ensures { result ≡ check_operands (shape_of known.now) (handles_at scope.now) number handle
+        (operands_at (expressions_of known.now) handle) }
+{
+    match expression_at(known.function, handle) {
+        Some(expression) => check_operands(scope, known, number, handle, expression),
+        None => Ok(()),
+    }
+}
+
+/// The fault of an `Emit` of this handle, if it is not allowed here: one gave it before, it is none
+/// that is emitted, or a `let` binds it and an operand of it is out of scope. An offset that is
+/// written out as a constant is in scope from the start.
+fn check_emitted(
+    scope: &Scope,
+    known: &KnownFunction<'_>,
+    number: usize,
+    handle: Handle<Expression>,
+) -> Result<(), ScopeFault>
+    requires { IsPointOf known.now scope.now }
+    ensures { result ≡ check_emitted (shape_of known.now) (handles_at scope.now) number handle }
+{
+    if !scope.availability(handle).is_new() {
+        return Err(ScopeFault::GivenBefore {
+            statement: number,
+            expression: handle,
+        });
+    }
+    if !is_emittable(kind_at(known.function, handle)) {
+        return Err(ScopeFault::NeedsNoEmit {
+            statement: number,
+            expression: handle,
+        });
+    }
+    if known.binds(handle) {
+        check_bound(scope, known, number, handle)
+    } else {
+        Ok(())
+    }
+}
+
+/// The fault of an `Emit` of this handle. Where there is none, the scope is then after it.
+fn check_one(
+    scope: &mut Scope,
+    known: &KnownFunction<'_>,
+    number: usize,
+    handle: Handle<Expression>,
+) -> Result<(), ScopeFault>
     requires at { IsPointOf known.now scope.old }
     requires room { HasRoom scope.old 1 }
-    ensures fits { result ≡ may_emit (shape_of known.now) handle (handles_at scope.old) }
-    ensures after { IsTrue result → handles_at scope.new
+    ensures check { result ≡ check_emitted (shape_of known.now) (handles_at scope.old) number handle }
+    ensures after { IsTrue (is_ok result) → handles_at scope.new
         ≡ after_one (naming_of known.now) scope.old.named handle (handles_at scope.old) }
     ensures kept { Extends scope.old scope.new }
-    ensures named { IsTrue result →
+    ensures named { IsTrue (is_ok result) →
         scope.new.named ≡ named_after (shape_of known.now) handle scope.old.named }
     ensures counted { Counted scope.old scope.new 1 }
 {
-    if !scope.may_emit(known, handle) {
-        return false;
-    }
+    check_emitted(scope, known, number, handle)?;
     scope.emit(&known.shader.types, known.function, known.info, handle);
-    true
+    Ok(())
 }
 
-/// Whether an `Emit` of these handles is allowed. Where it is, the scope is then behind it.
-fn emit_holds(scope: &mut Scope, known: &KnownFunction<'_>, range: Range) -> bool
+/// The fault of an `Emit` of these handles. Where there is none, the scope is then after it.
+fn check_emit(
+    scope: &mut Scope,
+    known: &KnownFunction<'_>,
+    number: usize,
+    range: Range,
+) -> Result<(), ScopeFault>
     requires at { IsPointOf known.now scope.old }
     requires room { HasRoom scope.old (range.end - range.first) }
-    ensures fits { result ≡ may_emit_all (naming_of known.now) scope.old.named
+    ensures check { result ≡ check_emit (naming_of known.now) scope.old.named number
         (from range.first (range.end - range.first)) (handles_at scope.old) }
-    ensures after { IsTrue result → handles_at scope.new
+    ensures after { IsTrue (is_ok result) → handles_at scope.new
         ≡ after_emit (naming_of known.now) scope.old.named
         (from range.first (range.end - range.first)) (handles_at scope.old) }
     ensures kept { Extends scope.old scope.new }
-    ensures named { IsTrue result → scope.new.named ≡ named_after_all (shape_of known.now)
+    ensures named { IsTrue (is_ok result) → scope.new.named ≡ named_after_all (shape_of known.now)
         (from range.first (range.end - range.first)) scope.old.named }
     ensures counted { Counted scope.old scope.new (range.end - range.first) }
 {
     for index in range.first..range.end {
-        if !one_holds(scope, known, Place::from_index(index)) {
-            return false;
-        }
+        check_one(scope, known, number, Place::from_index(index))?;
     }
-    true
+    Ok(())
 }
 
-/// Whether the result, if there is one, may be given here. The scope is then behind the statement
-/// that gives it.
-fn result_holds(scope: &mut Scope, outcome: Option<Handle<Expression>>) -> bool
+/// The fault of a result, if there is one that was given before. The scope is then after the
+/// statement that gives it.
+fn check_result(
+    scope: &mut Scope,
+    number: usize,
+    outcome: Option<Handle<Expression>>,
+) -> Result<(), ScopeFault>
     requires fit { IsTrue (is_below (length scope.old.table) outcome) }
     requires room { HasRoom scope.old (length (option_to_list outcome)) }
-    ensures fits { result ≡ may_give outcome (handles_at scope.old) }
+    ensures check { result ≡ check_result number outcome (handles_at scope.old) }
     ensures after { (names : NameMap) (m : Module) (g : ℕ) → handles_at scope.new
         ≡ after_result (inner_names names m (λ number. []) g) outcome (handles_at scope.old) }
     ensures kept { Extends scope.old scope.new }
@@ -183,24 +316,36 @@ fn result_holds(scope: &mut Scope, outcome: Option<Handle<Expression>>) -> bool
 {
     match outcome {
         Some(handle) => {
-            let holds = scope.availability(handle).is_new();
+            let is_new = scope.availability(handle).is_new();
             scope.give(handle);
-            holds
+            if is_new {
+                Ok(())
+            } else {
+                Err(ScopeFault::GivenBefore {
+                    statement: number,
+                    expression: handle,
+                })
+            }
         }
-        None => true,
+        None => Ok(()),
     }
 }
 
-/// Whether all is in scope in a statement that holds no block and is no `Emit`, and its result may
-/// be given. Where it is so, the scope is then behind it.
-fn act_holds(scope: &mut Scope, known: &KnownFunction<'_>, statement: &Statement) -> bool
+/// The fault of a statement that holds no block and is no `Emit`. Where there is none, the scope is
+/// then after it.
+fn check_act(
+    scope: &mut Scope,
+    known: &KnownFunction<'_>,
+    number: usize,
+    statement: &Statement,
+) -> Result<(), ScopeFault>
     requires fit { IsTrue (is_below (length scope.old.table) (own_result (tree_of statement.now))) }
     requires room { HasRoom scope.old
         (length (option_to_list (own_result (tree_of statement.now)))) }
-    ensures fits { result ≡ (usable_all (shape_of known.now) (handles_at scope.old)
-        (own_operands (tree_of statement.now))
-        && may_give (own_result (tree_of statement.now)) (handles_at scope.old)) }
-    ensures after { IsTrue result → handles_at scope.new
+    ensures check { result ≡ result_and (check_uses (shape_of known.now) (handles_at scope.old) number
+        (own_operands (tree_of statement.now)))
+        (check_result number (own_result (tree_of statement.now)) (handles_at scope.old)) }
+    ensures after { IsTrue (is_ok result) → handles_at scope.new
         ≡ after_result (naming_of known.now).names (own_result (tree_of statement.now))
         (handles_at scope.old) }
     ensures kept { Extends scope.old scope.new }
@@ -208,257 +353,306 @@ fn act_holds(scope: &mut Scope, known: &KnownFunction<'_>, statement: &Statement
     ensures counted { Counted scope.old scope.new
         (length (option_to_list (own_result (tree_of statement.now)))) }
 {
-    are_usable(scope, known, statement) && result_holds(scope, statement.result())
+    check_uses(scope, known, number, statement)?;
+    check_result(scope, number, statement.result())
 }
 
-/// Whether all is in scope in these statements. Where it is, the scope is then behind them.
+/// The first fault of these statements, the first of which has this number, or the number of the
+/// statement after them. Where there is none, the scope is then after them.
 #[cycle(check)]
-#[tactic(auto, using(crate::proofs::Logs::extends_refl, crate::proofs::Logs::extends_then, crate::proofs::KeptPoints::point_kept, crate::proofs::Listed::first_of, crate::proofs::Listed::none_of))]
-fn lines_hold(scope: &mut Scope, known: &KnownFunction<'_>, statements: &[Statement]) -> bool
+#[tactic(auto, using(crate::proofs::Logs::extends_refl, crate::proofs::Logs::extends_then, crate::proofs::KeptPoints::point_kept, crate::proofs::Listed::first_of, crate::proofs::Listed::none_of, crate::proofs::ScopeChecks::given_back))]
+fn check_lines(
+    scope: &mut Scope,
+    known: &KnownFunction<'_>,
+    first: usize,
+    statements: &[Statement],
+) -> Result<usize, ScopeFault>
     requires at { IsPointOf known.now scope.old }
     requires results { ResultsFit (length (expressions_of known.now)) (block_of statements.now) }
     requires room { HasRoom scope.old (block_changes (block_of statements.now)) }
-    ensures fits { result ≡ fits_all (naming_of known.now) scope.old.named
+    ensures check { result ≡ check_all (naming_of known.now) scope.old.named first
         (statements_in known.now (block_of statements.now)) (handles_at scope.old) }
-    ensures after { IsTrue result → handles_at scope.new
+    ensures after { IsTrue (is_ok result) → handles_at scope.new
         ≡ after_each (naming_of known.now) scope.old.named
         (statements_in known.now (block_of statements.now)) (handles_at scope.old) }
     ensures kept { Extends scope.old scope.new }
-    ensures named { IsTrue result → scope.new.named ≡ named_by_all (shape_of known.now)
+    ensures named { IsTrue (is_ok result) → scope.new.named ≡ named_by_all (shape_of known.now)
         (statements_in known.now (block_of statements.now)) scope.old.named }
     ensures counted { Counted scope.old scope.new (block_changes (block_of statements.now)) }
 {
+    let mut number = first;
     for statement in statements {
-        if !statement_holds(scope, known, statement) {
-            return false;
-        }
+        number = check_statement(scope, known, number, statement)?;
     }
-    true
+    Ok(number)
 }
 
-/// Whether all is in scope in a block. The scope stays.
+/// The first fault of a block, the first statement of which has this number, or the number of the
+/// statement after it. The scope stays.
 #[cycle(check)]
 #[tactic(auto, using(crate::proofs::Logs::reverts, crate::proofs::Logs::counted_back))]
-fn block_holds(scope: &mut Scope, known: &KnownFunction<'_>, block: &Block) -> bool
+fn check_block(
+    scope: &mut Scope,
+    known: &KnownFunction<'_>,
+    first: usize,
+    block: &Block,
+) -> Result<usize, ScopeFault>
     requires at { IsPointOf known.now scope.old }
     requires results { ResultsFit (length (expressions_of known.now)) block.now }
     requires room { HasRoom scope.old (block_changes block.now) }
-    ensures fits { result ≡ fits_all (naming_of known.now) scope.old.named
+    ensures check { result ≡ check_all (naming_of known.now) scope.old.named first
         (statements_in known.now block.now) (handles_at scope.old) }
     ensures same { Same scope.old scope.new }
-    ensures named { IsTrue result → scope.new.named ≡ named_by_all (shape_of known.now)
+    ensures named { IsTrue (is_ok result) → scope.new.named ≡ named_by_all (shape_of known.now)
         (statements_in known.now block.now) scope.old.named }
     ensures counted { Counted scope.old scope.new (block_changes block.now) }
 {
     let mark = scope.mark();
-    let holds = lines_hold(scope, known, block.as_slice());
+    let next = check_lines(scope, known, first, block.as_slice());
     scope.back_to(mark);
-    holds
+    next
 }
 
-/// Whether all is in scope in a statement. Where it is, the scope is then behind it.
+/// The first fault of the statement with this number and those in its blocks, or the number of the
+/// statement after it. Where there is none, the scope is then after it.
 #[cycle(check)]
-#[tactic(auto, using(crate::proofs::Logs::extends_refl, crate::proofs::Logs::extends_same))]
-fn statement_holds(scope: &mut Scope, known: &KnownFunction<'_>, statement: &Statement) -> bool
+#[tactic(auto, using(crate::proofs::Logs::extends_refl, crate::proofs::Logs::extends_same, crate::proofs::ScopeChecks::given_back))]
+fn check_statement(
+    scope: &mut Scope,
+    known: &KnownFunction<'_>,
+    number: usize,
+    statement: &Statement,
+) -> Result<usize, ScopeFault>
     requires at { IsPointOf known.now scope.old }
     requires results { StatementResultsFit (length (expressions_of known.now))
         (tree_of statement.now) }
     requires room { HasRoom scope.old (statement_changes (tree_of statement.now)) }
-    ensures fits { result ≡ fits (naming_of known.now) scope.old.named
+    ensures check { result ≡ check_statement (naming_of known.now) scope.old.named number
         (statement_in known.now (tree_of statement.now)) (handles_at scope.old) }
-    ensures after { IsTrue result → handles_at scope.new
+    ensures after { IsTrue (is_ok result) → handles_at scope.new
         ≡ after (naming_of known.now) scope.old.named
         (statement_in known.now (tree_of statement.now)) (handles_at scope.old) }
     ensures kept { Extends scope.old scope.new }
-    ensures named { IsTrue result → scope.new.named ≡ named_by (shape_of known.now)
+    ensures named { IsTrue (is_ok result) → scope.new.named ≡ named_by (shape_of known.now)
         (statement_in known.now (tree_of statement.now)) scope.old.named }
     ensures counted { Counted scope.old scope.new (statement_changes (tree_of statement.now)) }
 {
+    let next = number.wrapping_add(1);
     match statement {
-        Statement::Emit(range) => emit_holds(scope, known, *range),
-        Statement::Block(block) => block_holds(scope, known, block),
+        Statement::Emit(range) => {
+            check_emit(scope, known, number, *range)?;
+            Ok(next)
+        }
+        Statement::Block(block) => check_block(scope, known, next, block),
         Statement::If {
             condition,
             accept,
             reject,
-        } => if_holds(scope, known, *condition, accept, reject),
-        Statement::Switch { selector, cases } => switch_holds(scope, known, *selector, cases),
+        } => check_if(scope, known, number, *condition, accept, reject),
+        Statement::Switch { selector, cases } => {
+            check_switch(scope, known, number, *selector, cases)
+        }
         Statement::Loop {
             body,
             continuing,
             break_if,
-        } => loop_holds(scope, known, body, continuing, *break_if),
-        _ => act_holds(scope, known, statement),
+        } => check_loop(scope, known, number, body, continuing, *break_if),
+        _ => {
+            check_act(scope, known, number, statement)?;
+            Ok(next)
+        }
     }
 }
 
-/// Whether all is in scope in an `if`. The scope stays.
+/// The same of an `if`. The scope stays.
 #[cycle(check)]
-fn if_holds(
+#[tactic(auto, using(crate::proofs::ScopeChecks::given_back))]
+fn check_if(
     scope: &mut Scope,
     known: &KnownFunction<'_>,
+    number: usize,
     condition: Handle<Expression>,
     accept: &Block,
     reject: &Block,
-) -> bool
+) -> Result<usize, ScopeFault>
     requires at { IsPointOf known.now scope.old }
     requires results { StatementResultsFit (length (expressions_of known.now))
         (branch condition accept.now reject.now) }
     requires room { HasRoom scope.old
         (statement_changes (branch condition accept.now reject.now)) }
-    ensures fits { result ≡ fits (naming_of known.now) scope.old.named
+    ensures check { result ≡ check_statement (naming_of known.now) scope.old.named number
         (statement_in known.now (branch condition accept.now reject.now)) (handles_at scope.old) }
     ensures same { Same scope.old scope.new }
-    ensures named { IsTrue result → scope.new.named ≡ named_by (shape_of known.now)
+    ensures named { IsTrue (is_ok result) → scope.new.named ≡ named_by (shape_of known.now)
         (statement_in known.now (branch condition accept.now reject.now)) scope.old.named }
     ensures counted { Counted scope.old scope.new
         (statement_changes (branch condition accept.now reject.now)) }
 {
-    is_usable(scope, known, condition)
-        && block_holds(scope, known, accept)
-        && block_holds(scope, known, reject)
+    check_use(scope, known, number, condition)?;
+    let next = check_block(scope, known, number.wrapping_add(1), accept)?;
+    check_block(scope, known, next, reject)
 }
 
-/// Whether all is in scope in a `switch`. The scope stays.
+/// The same of a `switch`. The scope stays.
 #[cycle(check)]
-fn switch_holds(
+#[tactic(auto, using(crate::proofs::ScopeChecks::given_back))]
+fn check_switch(
     scope: &mut Scope,
     known: &KnownFunction<'_>,
+    number: usize,
     selector: Handle<Expression>,
     cases: &[SwitchCase],
-) -> bool
+) -> Result<usize, ScopeFault>
     requires at { IsPointOf known.now scope.old }
     requires results { CaseResultsFit (length (expressions_of known.now)) (cases_of cases.now) }
     requires room { HasRoom scope.old (cases_changes (cases_of cases.now)) }
-    ensures fits { result ≡ fits (naming_of known.now) scope.old.named
+    ensures check { result ≡ check_statement (naming_of known.now) scope.old.named number
         (statement_in known.now (switch selector (cases_of cases.now))) (handles_at scope.old) }
     ensures same { Same scope.old scope.new }
-    ensures named { IsTrue result → scope.new.named ≡ named_by_cases (shape_of known.now)
+    ensures named { IsTrue (is_ok result) → scope.new.named ≡ named_by_cases (shape_of known.now)
         (cases_in known.now (cases_of cases.now)) scope.old.named }
     ensures counted { Counted scope.old scope.new (cases_changes (cases_of cases.now)) }
 {
-    is_usable(scope, known, selector) && cases_hold(scope, known, cases)
+    check_use(scope, known, number, selector)?;
+    check_cases(scope, known, number.wrapping_add(1), cases)
 }
 
-/// Whether all is in scope in these cases. The scope stays.
+/// The first fault of these cases, the first statement of which has this number, or the number of
+/// the statement after them. The scope stays.
 #[cycle(check)]
-fn cases_hold(scope: &mut Scope, known: &KnownFunction<'_>, cases: &[SwitchCase]) -> bool
+#[tactic(auto, using(crate::proofs::ScopeChecks::given_back))]
+fn check_cases(
+    scope: &mut Scope,
+    known: &KnownFunction<'_>,
+    first: usize,
+    cases: &[SwitchCase],
+) -> Result<usize, ScopeFault>
     requires at { IsPointOf known.now scope.old }
     requires results { CaseResultsFit (length (expressions_of known.now)) (cases_of cases.now) }
     requires room { HasRoom scope.old (cases_changes (cases_of cases.now)) }
-    ensures fits { result ≡ fits_cases (naming_of known.now) scope.old.named
+    ensures check { result ≡ check_cases (naming_of known.now) scope.old.named first
         (cases_in known.now (cases_of cases.now)) (handles_at scope.old) }
     ensures same { Same scope.old scope.new }
-    ensures named { IsTrue result → scope.new.named ≡ named_by_cases (shape_of known.now)
+    ensures named { IsTrue (is_ok result) → scope.new.named ≡ named_by_cases (shape_of known.now)
         (cases_in known.now (cases_of cases.now)) scope.old.named }
     ensures counted { Counted scope.old scope.new (cases_changes (cases_of cases.now)) }
 {
+    let mut number = first;
     for case in cases {
-        if !block_holds(scope, known, &case.body) {
-            return false;
-        }
+        number = check_block(scope, known, number, &case.body)?;
     }
-    true
+    Ok(number)
 }
 
-/// Whether all is in scope in a loop. The scope stays.
+/// The first fault of the loop with this number and the statements in it, or the number of the
+/// statement after it. The scope stays.
 #[cycle(check)]
-fn loop_holds(
+fn check_loop(
     scope: &mut Scope,
     known: &KnownFunction<'_>,
+    number: usize,
     body: &Block,
     continuing: &Block,
     break_if: Option<Handle<Expression>>,
-) -> bool
+) -> Result<usize, ScopeFault>
     requires at { IsPointOf known.now scope.old }
     requires results { StatementResultsFit (length (expressions_of known.now))
         (loop body.now continuing.now break_if) }
     requires room { HasRoom scope.old
         (statement_changes (loop body.now continuing.now break_if)) }
-    ensures fits { result ≡ fits (naming_of known.now) scope.old.named
+    ensures check { result ≡ check_statement (naming_of known.now) scope.old.named number
         (statement_in known.now (loop body.now continuing.now break_if)) (handles_at scope.old) }
     ensures same { Same scope.old scope.new }
-    ensures named { IsTrue result → scope.new.named ≡ named_by (shape_of known.now)
+    ensures named { IsTrue (is_ok result) → scope.new.named ≡ named_by (shape_of known.now)
         (statement_in known.now (loop body.now continuing.now break_if)) scope.old.named }
     ensures counted { Counted scope.old scope.new
         (statement_changes (loop body.now continuing.now break_if)) }
 {
     let mark = scope.mark();
-    let holds = turn_holds(scope, known, body, continuing, break_if);
+    let next = check_turn(scope, known, number, body, continuing, break_if);
     scope.back_to(mark);
-    holds
+    next
 }
 
-/// Whether all is in scope in a turn of a loop.
+/// The same of a turn of the loop, of which the scope is left inside.
 #[cycle(check)]
-#[tactic(auto, using(crate::proofs::Logs::reverts_then))]
-fn turn_holds(
+#[tactic(auto, using(crate::proofs::Logs::reverts_then, crate::proofs::ScopeChecks::given_back))]
+fn check_turn(
     scope: &mut Scope,
     known: &KnownFunction<'_>,
+    number: usize,
     body: &Block,
     continuing: &Block,
     break_if: Option<Handle<Expression>>,
-) -> bool
+) -> Result<usize, ScopeFault>
     requires at { IsPointOf known.now scope.old }
     requires results { StatementResultsFit (length (expressions_of known.now))
         (loop body.now continuing.now break_if) }
     requires room { HasRoom scope.old
         (statement_changes (loop body.now continuing.now break_if)) }
-    ensures fits { result ≡ fits (naming_of known.now) scope.old.named
+    ensures check { result ≡ check_statement (naming_of known.now) scope.old.named number
         (statement_in known.now (loop body.now continuing.now break_if)) (handles_at scope.old) }
     ensures kept { Reverts scope.old scope.new }
-    ensures named { IsTrue result → scope.new.named ≡ named_by (shape_of known.now)
+    ensures named { IsTrue (is_ok result) → scope.new.named ≡ named_by (shape_of known.now)
         (statement_in known.now (loop body.now continuing.now break_if)) scope.old.named }
     ensures counted { Counted scope.old scope.new
         (statement_changes (loop body.now continuing.now break_if)) }
 {
-    body_holds(scope, known, body)
-        && body_holds(scope, known, continuing)
-        && break_holds(scope, known, break_if)
+    let first = check_body(scope, known, number.wrapping_add(1), body)?;
+    let next = check_body(scope, known, first, continuing)?;
+    check_break(scope, known, number, break_if)?;
+    Ok(next)
 }
 
-/// Whether all is in scope in a loop's body, or in its `continuing`. Where it is, the scope is then
-/// what that leaves to `continuing`, or to `break if`.
+/// The first fault of a loop's body or its `continuing`, the first statement of which has this
+/// number, or the number of the statement after it. Where there is none, the scope is then what that
+/// leaves to `continuing`, or to `break if`.
 #[cycle(check)]
-#[tactic(auto, using(crate::proofs::Turns::bodies, crate::proofs::Logs::reverts, crate::proofs::Logs::reverts_then, crate::proofs::KeptPoints::point_kept, crate::proofs::Results::halves))]
-fn body_holds(scope: &mut Scope, known: &KnownFunction<'_>, body: &Block) -> bool
+#[tactic(auto, using(crate::proofs::Turns::bodies, crate::proofs::Logs::reverts, crate::proofs::Logs::reverts_then, crate::proofs::KeptPoints::point_kept, crate::proofs::Results::halves, crate::proofs::ScopeChecks::given_back))]
+fn check_body(
+    scope: &mut Scope,
+    known: &KnownFunction<'_>,
+    first: usize,
+    body: &Block,
+) -> Result<usize, ScopeFault>
     requires at { IsPointOf known.now scope.old }
     requires results { ResultsFit (length (expressions_of known.now)) body.now }
     requires room { HasRoom scope.old (block_changes body.now) }
-    ensures fits { result ≡ fits_all (naming_of known.now) scope.old.named
+    ensures check { result ≡ check_all (naming_of known.now) scope.old.named first
         (statements_in known.now body.now) (handles_at scope.old) }
-    ensures after { IsTrue result → handles_at scope.new
+    ensures after { IsTrue (is_ok result) → handles_at scope.new
         ≡ after_all (naming_of known.now) scope.old.named (statements_in known.now body.now)
         (handles_at scope.old) }
     ensures at { IsPointOf known.now scope.new }
     ensures kept { Reverts scope.old scope.new }
-    ensures named { IsTrue result → scope.new.named ≡ named_by_all (shape_of known.now)
+    ensures named { IsTrue (is_ok result) → scope.new.named ≡ named_by_all (shape_of known.now)
         (statements_in known.now body.now) scope.old.named }
     ensures counted { Counted scope.old scope.new (block_changes body.now) }
 {
     let (before, from) = split_at_continue(body);
-    if !lines_hold(scope, known, before) {
-        return false;
-    }
+    let middle = check_lines(scope, known, first, before)?;
     let mark = scope.mark();
-    let holds = lines_hold(scope, known, from);
+    let next = check_lines(scope, known, middle, from);
     scope.forget_from(mark);
-    holds
+    next
 }
 
-/// Whether each expression of the function is in scope where it is used, and each `Emit` and each
-/// result is allowed. The scope is that of the function's start, and then that of some point
-/// inside.
-#[tactic(auto, using(crate::proofs::Logs::extends_refl))]
-pub(crate) fn function_holds(scope: &mut Scope, known: &KnownFunction<'_>) -> bool
+/// The first fault of the function where an expression is out of scope where it is used, or an
+/// `Emit` or a result is not allowed. The scope is that of the function's start, and then that of
+/// some point inside.
+#[tactic(auto, using(crate::proofs::Logs::extends_refl, crate::proofs::ScopeChecks::given_back))]
+pub(crate) fn check_function(
+    scope: &mut Scope,
+    known: &KnownFunction<'_>,
+) -> Result<usize, ScopeFault>
     requires at { IsPointOf known.now scope.old }
     requires start { handles_at scope.old ≡ at_start (shape_of known.now) }
     requires named { scope.old.named ≡ 0 }
     requires results { ResultsFit (length (expressions_of known.now)) known.now.function.now.body }
     requires room { HasRoom scope.old (block_changes known.now.function.now.body) }
-    ensures scope { result ≡ fits_function (naming_of known.now) }
+    ensures check { result ≡ check_function (naming_of known.now) }
     ensures kept { Extends scope.old scope.new }
 {
-    first_values_hold(scope, known.function)
-        && lines_hold(scope, known, known.function.body.as_slice())
+    check_first_values(scope, known.function)?;
+    check_lines(scope, known, 0, known.function.body.as_slice())
 }

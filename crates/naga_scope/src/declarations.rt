@@ -7,10 +7,13 @@ ghost use Rattle.module_meaning.specs.FunctionNumbers.{IsFunctionOf, function_nu
 ghost use Rattle.module_meaning.specs.Layouts.{module_rule};
 ghost use Rattle.naga_layout.specs.Types.{arrays_are_kept};
 ghost use Rattle.naga_scope.specs.Declarations.{BindingHasForm, ConstantHasForm};
-ghost use Rattle.naga_scope.specs.Declarations.{EntryPointHasForm, Finds, FindsMember};
+ghost use Rattle.naga_scope.specs.Declarations.{EntryPointHasForm, Finds, FindsFirst, FindsMember};
+ghost use Rattle.naga_scope.specs.Declarations.{HaveFormsBefore};
 ghost use Rattle.naga_scope.specs.Declarations.{IsFormlessBinding, IsFormlessConstant};
 ghost use Rattle.naga_scope.specs.Declarations.{IsFormlessDeclaration, IsFormlessEntryPoint};
-ghost use Rattle.naga_scope.specs.Declarations.{IsFormlessHead, IsFormlessMember, IsFormlessStruct};
+ghost use Rattle.naga_scope.specs.Declarations.{IsFormlessFunction, IsFormlessHead, IsFormlessIn};
+ghost use Rattle.naga_scope.specs.Declarations.{IsFormlessMember};
+ghost use Rattle.naga_scope.specs.Declarations.{IsFormlessStruct};
 ghost use Rattle.naga_scope.specs.Declarations.{IsFormlessPassed, IsFormlessType, IsFormlessValue};
 ghost use Rattle.naga_scope.specs.Declarations.{IsOtherStride, MemberHasForm, PassedHasForm};
 ghost use Rattle.naga_scope.specs.Declarations.{StructHasForm, TypeHasForm, ValueHasForm};
@@ -19,8 +22,8 @@ ghost use Rattle.naga_scope.specs.Tables.{AreTablesOf};
 use crate::tables::ModuleTables;
 use naga_back::FunctionType;
 use naga_ir::{
-    Arena, Binding, BuiltIn, Constant, EntryPoint, Expression, Function, FunctionArgument, Handle,
-    Module, ShaderStage, StructMember, Type_, TypeInner,
+    Binding, BuiltIn, Constant, EntryPoint, Expression, Function, FunctionArgument, GlobalVariable,
+    Handle, Module, Override, ShaderStage, StructMember, Type_, TypeInner,
 };
 use wgsl_layout::Misplaced;
 use wgsl_words::TryToWgsl;
@@ -54,6 +57,20 @@ pub enum FormlessDeclaration {
     Stride(Handle<Type_>),
 }
 
+/// A declaration of a module.
+#[derive(Clone, Copy, Debug, PartialEq, Eq)]
+pub enum DeclarationPlace {
+    /// The struct with this handle.
+    Struct(Handle<Type_>),
+    Constant(Handle<Constant>),
+    Override(Handle<Override>),
+    GlobalVariable(Handle<GlobalVariable>),
+    /// What the function with this handle takes and gives.
+    Function(Handle<Function>),
+    /// What the entry point with this index takes and gives, and its stage.
+    EntryPoint(usize),
+}
+
 /// What no text has a form for of what this function takes or gives, or of its stage, if it is that
 /// of an entry point. The function is one of the module's.
 pub fn formless_head(module: &Module, ty: FunctionType) -> Option<FormlessHead>
@@ -72,13 +89,18 @@ pub fn formless_head(module: &Module, ty: FunctionType) -> Option<FormlessHead>
     }
 }
 
-/// The first of the module's declarations that has no form, if there is one, or what has none in it:
+/// The first of the module's declarations that has no form, if there is one, and what has none in it:
 /// of its structs, constants, overrides, variables, functions and entry points, in this order. It
 /// takes no memory.
-pub fn formless_declaration(module: &Module, tables: &ModuleTables) -> Option<FormlessDeclaration>
+pub fn formless_declaration(
+    module: &Module,
+    tables: &ModuleTables,
+) -> Option<(DeclarationPlace, FormlessDeclaration)>
     requires tables { AreTablesOf «module».now tables.now }
     ensures none { IfNone result (DeclarationsHaveForms «module».now) }
-    ensures some { IfSome result (IsFormlessDeclaration «module».now) }
+    ensures some { IfSome result (λ found. IsFormlessDeclaration «module».now found.1) }
+    ensures place { IfSome result (λ found. IsFormlessIn «module».now found.0 found.1) }
+    ensures first { IfSome result (λ found. HaveFormsBefore «module».now found.0) }
 {
     if let Some(formless) = formless_in_structs(module, tables) {
         return Some(formless);
@@ -92,24 +114,32 @@ pub fn formless_declaration(module: &Module, tables: &ModuleTables) -> Option<Fo
     if let Some(formless) = formless_in_variables(module, tables) {
         return Some(formless);
     }
-    if let Some(value) = formless_in_functions(&module.functions) {
-        return Some(FormlessDeclaration::Head(FormlessHead::BuiltIn(value)));
+    if let Some(formless) = formless_in_functions(module) {
+        return Some(formless);
     }
     match formless_in_entry_points(&module.entry_points) {
-        Some(head) => Some(FormlessDeclaration::Head(head)),
+        Some((index, head)) => {
+            Some((
+                DeclarationPlace::EntryPoint(index),
+                FormlessDeclaration::Head(head),
+            ))
+        }
         None => None,
     }
 }
 
 /// What has no form of the first struct that has none, of those that a text declares.
-fn formless_in_structs(module: &Module, tables: &ModuleTables) -> Option<FormlessDeclaration>
+fn formless_in_structs(
+    module: &Module,
+    tables: &ModuleTables,
+) -> Option<(DeclarationPlace, FormlessDeclaration)>
     requires tables { AreTablesOf «module».now tables.now }
-    ensures { Finds «module».now.types (TypeHasForm «module».now) (IsFormlessType «module».now)
-        result }
+    ensures { FindsFirst «module».now.types (TypeHasForm «module».now)
+        (λ h. DeclarationPlace.Struct h) (IsFormlessType «module».now) result }
 {
     for (handle, ty) in module.types.iter() {
         if let Some(formless) = formless_in_type(module, tables, handle, ty) {
-            return Some(formless);
+            return Some((DeclarationPlace::Struct(handle), formless));
         }
     }
     None
@@ -239,14 +269,17 @@ fn formless_binding(binding: Option<Binding>) -> Option<BuiltIn>
 }
 
 /// The first type or initialiser without a form of a constant that has a name.
-fn formless_in_constants(module: &Module, tables: &ModuleTables) -> Option<FormlessDeclaration>
+fn formless_in_constants(
+    module: &Module,
+    tables: &ModuleTables,
+) -> Option<(DeclarationPlace, FormlessDeclaration)>
     requires tables { AreTablesOf «module».now tables.now }
-    ensures { Finds «module».now.constants (λ i. ConstantHasForm «module».now)
-        (λ i. IsFormlessConstant «module».now) result }
+    ensures { FindsFirst «module».now.constants (λ i. ConstantHasForm «module».now)
+        (λ h. DeclarationPlace.Constant h) (λ i. IsFormlessConstant «module».now) result }
 {
-    for (_, constant) in module.constants.iter() {
+    for (handle, constant) in module.constants.iter() {
         if let Some(formless) = formless_constant(module, tables, constant) {
-            return Some(formless);
+            return Some((DeclarationPlace::Constant(handle), formless));
         }
     }
     None
@@ -269,28 +302,36 @@ fn formless_constant(
 }
 
 /// The first type or initialiser without a form of an override.
-fn formless_in_overrides(module: &Module, tables: &ModuleTables) -> Option<FormlessDeclaration>
+fn formless_in_overrides(
+    module: &Module,
+    tables: &ModuleTables,
+) -> Option<(DeclarationPlace, FormlessDeclaration)>
     requires tables { AreTablesOf «module».now tables.now }
-    ensures { Finds «module».now.overrides (λ i o. ValueHasForm «module».now o.ty o.init)
+    ensures { FindsFirst «module».now.overrides (λ i o. ValueHasForm «module».now o.ty o.init)
+        (λ h. DeclarationPlace.Override h)
         (λ i o. IsFormlessValue «module».now o.ty o.init) result }
 {
-    for (_, item) in module.overrides.iter() {
+    for (handle, item) in module.overrides.iter() {
         if let Some(formless) = formless_value(module, tables, item.ty, item.init) {
-            return Some(formless);
+            return Some((DeclarationPlace::Override(handle), formless));
         }
     }
     None
 }
 
 /// The first type or initialiser without a form of a variable of the module.
-fn formless_in_variables(module: &Module, tables: &ModuleTables) -> Option<FormlessDeclaration>
+fn formless_in_variables(
+    module: &Module,
+    tables: &ModuleTables,
+) -> Option<(DeclarationPlace, FormlessDeclaration)>
     requires tables { AreTablesOf «module».now tables.now }
-    ensures { Finds «module».now.global_variables (λ i g. ValueHasForm «module».now g.ty g.init)
+    ensures { FindsFirst «module».now.global_variables
+        (λ i g. ValueHasForm «module».now g.ty g.init) (λ h. DeclarationPlace.GlobalVariable h)
         (λ i g. IsFormlessValue «module».now g.ty g.init) result }
 {
-    for (_, variable) in module.global_variables.iter() {
+    for (handle, variable) in module.global_variables.iter() {
         if let Some(formless) = formless_value(module, tables, variable.ty, variable.init) {
-            return Some(formless);
+            return Some((DeclarationPlace::GlobalVariable(handle), formless));
         }
     }
     None
@@ -323,12 +364,16 @@ fn formless_value(
 }
 
 /// The first value without a word that a function takes or gives.
-fn formless_in_functions(functions: &Arena<Function>) -> Option<BuiltIn>
-    ensures { Finds functions.now (λ i. PassedHasForm) (λ i. IsFormlessPassed) result }
+fn formless_in_functions(module: &Module) -> Option<(DeclarationPlace, FormlessDeclaration)>
+    ensures { FindsFirst «module».now.functions (λ i. PassedHasForm)
+        (λ h. DeclarationPlace.Function h) (λ i. IsFormlessFunction) result }
 {
-    for (_, function) in functions.iter() {
+    for (handle, function) in module.functions.iter() {
         if let Some(value) = formless_passed(function) {
-            return Some(value);
+            return Some((
+                DeclarationPlace::Function(handle),
+                FormlessDeclaration::Head(FormlessHead::BuiltIn(value)),
+            ));
         }
     }
     None
@@ -359,13 +404,15 @@ fn formless_in_arguments(arguments: &[FunctionArgument]) -> Option<BuiltIn>
     None
 }
 
-/// The first value without a word that an entry point takes or gives, or its stage without a form.
-fn formless_in_entry_points(entry_points: &[EntryPoint]) -> Option<FormlessHead>
-    ensures { Finds entry_points.now (λ i. EntryPointHasForm) (λ i. IsFormlessEntryPoint) result }
+/// The first value without a word that an entry point takes or gives, or its stage without a form,
+/// and the index of the entry point.
+fn formless_in_entry_points(entry_points: &[EntryPoint]) -> Option<(usize, FormlessHead)>
+    ensures { FindsFirst entry_points.now (λ i. EntryPointHasForm) (λ i. i)
+        (λ i. IsFormlessEntryPoint) result }
 {
-    for entry_point in entry_points {
-        if let Some(formless) = formless_entry_point(entry_point) {
-            return Some(formless);
+    for index in 0..entry_points.len() {
+        if let Some(formless) = formless_entry_point(&entry_points[index]) {
+            return Some((index, formless));
         }
     }
     None

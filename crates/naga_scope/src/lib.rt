@@ -15,6 +15,7 @@ mod known_function;
 mod named;
 pub mod plan;
 pub mod points;
+mod scope_faults;
 pub mod single_types;
 mod spelled;
 pub mod statements;
@@ -24,10 +25,13 @@ mod written;
 pub use binding::binds;
 pub use called::{called_str, derivative_str, image_query_str};
 pub use continues::split_at_continue;
-pub use declarations::{FormlessDeclaration, FormlessHead, formless_declaration, formless_head};
+pub use declarations::{
+    DeclarationPlace, FormlessDeclaration, FormlessHead, formless_declaration, formless_head,
+};
 pub use forms::{sampling_has_form, scalar_behind, whole_known};
 pub use functions::function_of;
 pub use plan::{Plan, PlanError};
 pub use points::{Availability, BoundName, Scope};
+pub use scope_faults::ScopeFault;
 pub use statements::FormlessStatement;
 pub use tables::ModuleTables;

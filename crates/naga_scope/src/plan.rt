@@ -11,17 +11,18 @@ ghost use Rattle.naga_names.specs.Keys.{names_in};
 ghost use Rattle.naga_scope.specs.ExpressionNames.{HasBegunLabels, NamesLabels};
 ghost use Rattle.naga_scope.specs.Forms.{AreKnownIn};
 ghost use Rattle.naga_scope.specs.KnownFunctions.{expressions_of};
-ghost use Rattle.naga_scope.specs.Plans.{IsPlanFor, IsPlanOf, IsRefusalToPlanFor};
-ghost use Rattle.naga_scope.specs.Plans.{IsRefusalToPlanOf};
+ghost use Rattle.naga_scope.specs.Plans.{IsFirstToPlanFor, IsFirstToPlanOf, IsPlanFor, IsPlanOf};
+ghost use Rattle.naga_scope.specs.Plans.{IsRefusalToPlanFor, IsRefusalToPlanOf};
 ghost use Rattle.naga_scope.specs.Results.{ResultsFit};
 ghost use Rattle.naga_scope.specs.Tables.{AreTablesOf};
-ghost use Rattle.naga_scope.specs.declared.plan.PlanError.TheVariants.{Memory, Unnamed};
+ghost use Rattle.naga_scope.specs.declared.plan.PlanError.TheVariants.{Memory, OutOfScope, Unnamed};
 
-use crate::check::function_holds;
+use crate::check::check_function;
 use crate::functions::function_of;
 use crate::known_function::KnownFunction;
 use crate::named::expression_names;
 use crate::points::Scope;
+use crate::scope_faults::ScopeFault;
 use crate::spelled::{annotated_without_form, declared_without_form};
 use crate::statements::{FormlessStatement, formless_statement};
 use crate::tables::ModuleTables;
@@ -38,11 +39,12 @@ use std::marker::Model;
 /// Why there is no plan of a function.
 #[derive(Debug, Drop, PartialEq, Eq)]
 pub enum PlanError {
-    /// The rules of scope don't hold in the function: an expression is used where it is out of
-    /// scope, or an `Emit` is not allowed where it stands.
-    OutOfScope,
-    /// A statement, or a case of a `switch`, is the first in the order of the text without a form.
-    StatementWithoutForm(FormlessStatement),
+    /// The rules of scope don't hold in the function: this is the first fault.
+    OutOfScope(ScopeFault),
+    /// A statement, or a case of a `switch`, is the first in the order of the text without a form:
+    /// the one with this number, where those in blocks are counted too, each after the one that
+    /// holds the block, from 0 (modulo 2^64).
+    StatementWithoutForm(usize, FormlessStatement),
     /// The expression with this handle is written, and has no form.
     WithoutForm(Handle<Expression>),
     /// An argument, the result or a local is of this type, which has no form.
@@ -53,6 +55,14 @@ pub enum PlanError {
     Unnamed(NamerError),
     /// Memory has run out.
     Memory(AllocError),
+}
+
+impl From<ScopeFault> for PlanError {
+    ghost from_gives = { λ fault error. error ≡ OutOfScope fault };
+
+    fn from(fault: ScopeFault) -> PlanError {
+        PlanError::OutOfScope(fault)
+    }
 }
 
 impl From<NamerError> for PlanError {
@@ -129,6 +139,8 @@ impl Plan {
         ensures err { IfErr result
             (IsRefusalToPlanOf explicit «module».now info.now (function_number «module».now ty)
             namer.old) }
+        ensures first { IfErr result
+            (IsFirstToPlanOf explicit «module».now info.now (function_number «module».now ty)) }
         ensures begun { OnErr result (HasBegunLabels namer.old
             (labels_named_in «module».now (function_number «module».now ty)) namer.new) }
     {
@@ -160,16 +172,15 @@ impl Plan {
         ensures named { IfOk result (λ p.
             NamesLabels namer.old [] (expression_labels known.now.function.now) namer.new p.named) }
         ensures err { IfErr result (IsRefusalToPlanFor explicit known.now namer.old) }
+        ensures first { IfErr result (IsFirstToPlanFor explicit known.now) }
         ensures begun { OnErr result
             (HasBegunLabels namer.old (expression_labels known.now.function.now) namer.new) }
     {
         let named = expression_names(alloc, known.function, namer)?;
         let mut scope = Scope::start(alloc, known.function)?;
-        if !function_holds(&mut scope, known) {
-            return Err(PlanError::OutOfScope);
-        }
-        if let Some(formless) = formless_statement(&known.function.body) {
-            return Err(PlanError::StatementWithoutForm(formless));
+        check_function(&mut scope, known)?;
+        if let Some((number, formless)) = formless_statement(&known.function.body) {
+            return Err(PlanError::StatementWithoutForm(number, formless));
         }
         if let Some(handle) = written_without_form(alloc, known, names)? {
             return Err(PlanError::WithoutForm(handle));

@@ -15,7 +15,7 @@ ghost use Rattle.naga_names.specs.Keys.{NameMap};
 ghost use Rattle.shader_runs.specs.Program.{binds, expression_of, operands_of};
 ghost use Rattle.shader_runs.specs.Program.{is_pure};
 ghost use Rattle.shader_runs.specs.Scope.{after_one, after_result, all_constant, at_start};
-ghost use Rattle.shader_runs.specs.Scope.{forgotten_handles, is_new, is_present, may_emit};
+ghost use Rattle.shader_runs.specs.Scope.{forgotten_handles, is_new, is_present};
 ghost use Rattle.shader_runs.specs.Scope.{usable, usable_all};
 ghost use Rattle.naga_ir.specs.Kinds.{kind_of};
 ghost use Rattle.naga_scope.specs.Availabilities.{TextPoint, availability_of};
@@ -30,7 +30,7 @@ ghost use Rattle.naga_scope.specs.Log.{Counted, Extends, HasRoom, Reverts, Same,
 ghost use Rattle.naga_scope.specs.Log.{forget_at, grows};
 
 use crate::binding::{
-    binds, expression_at, is_constant_leaf, is_emittable, is_named, is_operator, kind_at, label_of,
+    binds, expression_at, is_constant_leaf, is_named, is_operator, kind_at, label_of,
 };
 use crate::changes::count_in_block;
 use crate::known_function::KnownFunction;
@@ -389,18 +389,6 @@ impl Scope {
             Some(expression) => self.are_usable(function, expression),
             None => true,
         }
-    }
-
-    /// Whether an `Emit` may give the expression with this handle here: none gave it before, it is
-    /// one that is emitted, and where a `let` binds it, its operands are in scope. An offset that is
-    /// written out as a constant is so from the start.
-    pub(crate) fn may_emit(&self, known: &KnownFunction<'_>, handle: Handle<Expression>) -> bool
-        requires { IsPointOf known.now self.now }
-        ensures { result ≡ may_emit (shape_of known.now) handle (handles_at self.now) }
-    {
-        self.availability(handle).is_new()
-            && is_emittable(kind_at(known.function, handle))
-            && (!known.binds(handle) || self.has_operands(known.function, handle))
     }
 
     /// The name under which a `let` binds the expression with this handle here.

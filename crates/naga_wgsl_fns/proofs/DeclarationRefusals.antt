@@ -1,4 +1,5 @@
--- The initialisers of an accepted module's declarations are among its expressions.
+-- What is told of a declaration without a form; and the initialisers of an accepted module's
+-- declarations are among its expressions.
 use Rattle.std.proofs.Common.{◌≡◌, ℕ, ◌<◌, true, Option, Some, ap, length, nat_lt, slice_get, sym, ◌∙◌}
 use Rattle.std.specs.List.{list_all}
 use Rattle.std.specs.Prelude.{IsTrue}
@@ -13,7 +14,17 @@ use Rattle.module_meaning.specs.Ranges.{is_below, module_in_range, module_ranges
 use Rattle.module_meaning.specs.Ranges.{override_in_range, special_types_fit, types_in_range}
 use Rattle.naga_form.proofs.OwnExpressions.{initialiser_within}
 use Rattle.naga_info.specs.declared.info.ModuleInfo.{ModuleInfo}
+use Rattle.naga_ir.specs.declared.binding.Binding.TheVariants as binding
 use Rattle.naga_ir.specs.declared.module.Module.{Module}
+use Rattle.naga_scope.specs.Declarations.{IsFormlessDeclaration, IsFormlessHead}
+use Rattle.naga_scope.specs.declared.declarations.FormlessDeclaration.{FormlessDeclaration}
+use Rattle.naga_scope.specs.declared.declarations.FormlessDeclaration.TheVariants as declaration
+use Rattle.naga_scope.specs.declared.declarations.FormlessHead.{FormlessHead}
+use Rattle.naga_scope.specs.declared.declarations.FormlessHead.TheVariants as head
+use Rattle.naga_wgsl_fns.specs.DeclarationRefusals.{NamesDeclaration, NamesFormlessDeclaration}
+use Rattle.naga_wgsl_fns.specs.DeclarationRefusals.{NamesFormlessHead, NamesHead}
+use Rattle.naga_wgsl_fns.specs.DeclarationRefusals.{OfBinding, OfHead, OfInitialiser, OfMember, OfOffsets, OfStage, OfStride, OfType}
+use Rattle.naga_wgsl_fns.specs.declared.error.Error.{Error}
 
 -- the initialiser that there is stands before these many
 there : (count : ℕ) (init : Option ℕ) (h : ℕ) → init ≡ Some h → is_below count init ≡ true → h < count
@@ -57,3 +68,19 @@ module _ (m : Module) (info : ModuleInfo) (accepted : IsTrue (is_accepted m info
       let one = and_parts (nat_lt g.ty types) _ (list_all_at (global_in_range types own) m.global_variables i g parts.1 at) in
       let two = and_parts (is_below own g.init) _ one.1 in
       there own g.init h is two.0
+
+-- ---- what is told
+pub named_head : (m : Module) (number : ℕ) (it : FormlessHead) (error : Error) → IsFormlessHead m number it →
+    NamesFormlessHead it error → NamesHead m number error
+named_head m number (head.BuiltIn v) error lacks named =
+    OfBinding lacks.0 (binding.BuiltIn v) lacks.1 lacks.2 lacks.3 named
+named_head m number head.Stage error lacks named = OfStage lacks.0 lacks.1 lacks.2 named
+
+pub named_declaration : (m : Module) (it : FormlessDeclaration) (error : Error) → IsFormlessDeclaration m it →
+    NamesFormlessDeclaration m it error → NamesDeclaration m error
+named_declaration m (declaration.Type_ ty) error lacks named = OfType ty lacks.0 lacks.1 named
+named_declaration m (declaration.Initialiser h) error lacks named = OfInitialiser h lacks.0 lacks.1 named
+named_declaration m (declaration.BuiltIn v) error lacks named = OfMember (binding.BuiltIn v) lacks.0 lacks.1 named
+named_declaration m (declaration.Head it) error lacks named = OfHead lacks.0 (named_head m lacks.0 it error lacks.1 named)
+named_declaration m (declaration.Misplaced fault) error lacks named = OfOffsets lacks.0 fault lacks.1 named
+named_declaration m (declaration.Stride ty) error lacks named = OfStride lacks.0 ty lacks.1 named

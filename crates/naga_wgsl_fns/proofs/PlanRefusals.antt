@@ -50,6 +50,8 @@ use Rattle.module_meaning.specs.Names.{labels_named_in, wgsl_names}
 use Rattle.naga_scope.specs.ExpressionNames.{HasOtherUses, IsRefusalOfLabels}
 use Rattle.module_meaning.specs.Premises.{function_shape_at}
 use Rattle.naga_scope.specs.Plans.{HasScopeFaultIn, IsPlanOf, IsRefusalToPlanOf, Planned}
+use Rattle.naga_scope.proofs.ScopeChecks.{fault_breaks}
+use Rattle.naga_scope.specs.declared.scope_faults.ScopeFault.{ScopeFault}
 use Rattle.naga_scope.specs.declared.plan.PlanError.{PlanError}
 use Rattle.naga_scope.specs.declared.plan.PlanError.TheVariants.{LetWithoutForm, OutOfScope}
 use Rattle.naga_scope.specs.declared.plan.PlanError.TheVariants.{TypeWithoutForm, Unnamed}
@@ -82,6 +84,12 @@ use Rattle.naga_ir.specs.declared.module.Constant as constant
 use Rattle.naga_ir.specs.declared.expression.Expression.TheVariants.{CooperativeLoad}
 use Rattle.naga_ir.specs.declared.types.Scalar.{Scalar}
 use Rattle.naga_wgsl_fns.specs.Refusals.{TellsPlanError}
+use Rattle.naga_wgsl_fns.specs.Constructs.{IsToldAs}
+use Rattle.naga_wgsl_fns.specs.Unplanned.{IsRefusedFor, IsUnplanned, TellsUnplanned}
+use Rattle.naga_wgsl_fns.specs.declared.plans.Unplanned.{Unplanned}
+use Rattle.naga_wgsl_fns.specs.declared.plans.Unplanned.TheVariants as unplanned
+use Rattle.naga_wgsl_fns.specs.declared.construct.Construct.{Construct}
+use Rattle.naga_wgsl_fns.specs.declared.plans.FunctionPart.{FunctionPart}
 
 -- ---- functions with a plan
 -- what holds of the shape of each function that there is holds of the shape with its handle
@@ -273,12 +281,12 @@ module _ (explicit : Bool) (m : Module) (info : ModuleInfo) (accepted : IsTrue (
   known = element (all_infos info) i (omega (arith, within, counted))
 
   -- where the check of the function fails, it breaks a rule of scope
-  out_of_scope : (namer : Names) → IsRefusalToPlanOf explicit m info i namer OutOfScope →
+  out_of_scope : (namer : Names) (fault : ScopeFault) → IsRefusalToPlanOf explicit m info i namer (OutOfScope fault) →
       HasScopeFaultIn m info i
-  out_of_scope namer refusal =
+  out_of_scope namer fault refusal =
       subst (λ o. IsSomeAnd o HasScopeFault)
       (sym (shape_found m info (all_functions m) (all_infos info) i f known.0 stands known.1))
-      (refusal f known.0 stands known.1)
+      (fault_breaks (function_shape m info f known.0) fault (refusal f known.0 stands known.1))
 
   -- a handle of which something is known is in range
   known_there : (es : List ExpressionInfo) (h : ℕ) (P : ExpressionInfo → Type 0) →
@@ -292,8 +300,8 @@ module _ (explicit : Bool) (m : Module) (info : ModuleInfo) (accepted : IsTrue (
   pub is_of_plan : (es : List ExpressionInfo) → slice_get (all_infos info) i ≡ Some es →
       (namer : Names) (error : PlanError) → IsRefusalToPlanOf explicit m info i namer error →
       IsOfPlan m f es error
-  is_of_plan es here namer OutOfScope refusal = tt
-  is_of_plan es here namer (StatementWithoutForm statement) refusal = tt
+  is_of_plan es here namer (OutOfScope fault) refusal = tt
+  is_of_plan es here namer (StatementWithoutForm number statement) refusal = tt
   is_of_plan es here namer (WithoutForm h) refusal = (refusal f es stands here).1
   is_of_plan es here namer (TypeWithoutForm ty) refusal = tt
   is_of_plan es here namer (LetWithoutForm h) refusal =
@@ -331,7 +339,7 @@ module _ (explicit : Bool) (m : Module) (info : ModuleInfo) (accepted : IsTrue (
     labels_are : expression_labels f ≡ labels_named_in m i
     labels_are = sym (ap (λ o. option_map_or expression_labels o []) stands)
 
-    full_is : (namer : Names) → HasOtherUses wgsl_names namer →
+    pub full_is : (namer : Names) → HasOtherUses wgsl_names namer →
         SomeLabelIsFull namer earlier (expression_labels f) → ExpressionNamesAreFullIn m earlier i
     full_is namer words full = record {
       named = full.named;
@@ -373,16 +381,16 @@ module _ (explicit : Bool) (m : Module) (info : ModuleInfo) (accepted : IsTrue (
         IsPlanRefusal explicit m info earlier i reported
     plan_refusal es at namer words has (Unnamed e) reported refusal is =
         for_names namer words e reported (refusal f es stands at earlier has) is
-    plan_refusal es at namer words has OutOfScope reported refusal is =
-        for_scope reported is (out_of_scope namer refusal)
-    plan_refusal es at namer words has (StatementWithoutForm statement) reported refusal is =
+    plan_refusal es at namer words has (OutOfScope fault) reported refusal is =
+        for_scope reported is (out_of_scope namer fault refusal)
+    plan_refusal es at namer words has (StatementWithoutForm number statement) reported refusal is =
         for_form reported (inr (inr (record {
           function = f;
           known = es;
           stands = stands;
           is_known = at;
           statement = statement;
-          formless = refusal f es stands at;
+          formless = (refusal f es stands at).0;
           named = is;
         })))
     plan_refusal es at namer words has (WithoutForm h) reported refusal is =
@@ -416,6 +424,22 @@ module _ (explicit : Bool) (m : Module) (info : ModuleInfo) (accepted : IsTrue (
             for_form reported (inr (inl (type_named es at reported k.ty here.0 here.1 is)))
     plan_refusal es at namer words has (plan_error.Memory e) reported refusal is =
         subst (IsPlanRefusal explicit m info earlier i) (sym is) tt
+
+    -- what is told of a construct for which it has no plan
+    pub unplanned_refusal : (namer : Names) → HasOtherUses wgsl_names namer → HasNamed namer earlier →
+        (it : Construct) (at : FunctionPart) → IsRefusedFor explicit m info i namer it at →
+        (reported : Error) → IsToldAs it reported → IsPlanRefusal explicit m info earlier i reported
+    unplanned_refusal namer words has it at r reported told =
+        plan_refusal known.0 known.1 namer words has r.error reported r.refused
+        (r.told f known.0 stands known.1 reported told)
+
+    pub unplanned_told : (namer : Names) → HasOtherUses wgsl_names namer → HasNamed namer earlier →
+        (u : Unplanned) (reported : Error) → IsUnplanned explicit m info i namer u → TellsUnplanned u reported →
+        IsPlanRefusal explicit m info earlier i reported
+    unplanned_told namer words has (unplanned.Refused it at) reported r told =
+        unplanned_refusal namer words has it at r reported told
+    unplanned_told namer words has (unplanned.Memory e) reported r told =
+        subst (IsPlanRefusal explicit m info earlier i) (sym told) tt
 
 -- each constant and variable that an expression of an accepted function names is there
 pub items_there : (m : Module) (info : ModuleInfo) → IsTrue (is_accepted m info) → (i : ℕ)

@@ -2,6 +2,7 @@ pub mod Appends
 pub mod Attributes
 pub mod Bindings
 pub mod Constants
+pub mod Constructs
 pub mod DeclarationRefusals
 pub mod Errors
 pub mod Expressions
@@ -17,3 +18,4 @@ pub mod Refusals
 pub mod Stages
 pub mod Statements
 pub mod Types
+pub mod Unplanned

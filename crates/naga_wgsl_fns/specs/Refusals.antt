@@ -374,8 +374,9 @@ IsOfPlan m f known (LetWithoutForm handle) = handle < length known
 IsOfPlan m f known error = ⊤
 
 abbrev pub TellsPlanError : Module → Function → List ExpressionInfo → PlanError → Error → Type 0
-TellsPlanError m f known OutOfScope reported = IsCustom (codes "operand out of scope") reported
-TellsPlanError m f known (StatementWithoutForm statement) reported =
+TellsPlanError m f known (OutOfScope fault) reported =
+    IsCustom (codes "operand out of scope") reported
+TellsPlanError m f known (StatementWithoutForm number statement) reported =
     NamesStatement statement reported
 TellsPlanError m f known (WithoutForm handle) reported =
     IsSomeAnd (slice_get f.expressions handle) (λ e.

@@ -3,7 +3,7 @@
 ghost use Rattle.std.specs.Prelude.{◌≡◌};
 ghost use Rattle.naga_wgsl_fns.specs.declared.error.Error.TheVariants.{Memory};
 ghost use Rattle.naga_wgsl_fns.specs.Errors.{error_of_sink, IsCustom, IsErrorOf};
-ghost use Rattle.naga_wgsl_fns.specs.Errors.{IsUnimplemented};
+ghost use Rattle.naga_wgsl_fns.specs.Errors.{IsUnimplemented, IsUnsupported};
 ghost use Rattle.naga_wgsl_fns.specs.Refusals.{IsErrorOfNames};
 ghost use Rattle.naga_words.specs.declared.error.TypeTextError.TheVariants as type_error;
 
@@ -90,6 +90,17 @@ pub fn custom(alloc: Global, text: &str) -> Error
 {
     match String::from_str(alloc, text) {
         Ok(text) => Error::Custom(text),
+        Err(error) => Error::Memory(error),
+    }
+}
+
+/// The refusal of what WGSL has no word for, which tells its kind and its debug text; want of memory
+/// where there is none for that.
+pub fn unsupported(kind: &'static str, debug_text: Result<String, AllocError>) -> Error
+    ensures { IsUnsupported kind.now result }
+{
+    match debug_text {
+        Ok(value) => Error::Unsupported { kind, value },
         Err(error) => Error::Memory(error),
     }
 }

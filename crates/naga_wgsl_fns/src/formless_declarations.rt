@@ -1,4 +1,4 @@
-//! The refusals of declarations, by what has no form in them.
+//! The constructs for which declarations are refused, and their refusals.
 
 ghost use Rattle.std.specs.Prelude.{ℕ, IsTrue};
 ghost use Rattle.module_meaning.specs.Accepted.{is_accepted};
@@ -6,18 +6,20 @@ ghost use Rattle.naga_info.specs.declared.info.ModuleInfo.{ModuleInfo};
 ghost use Rattle.naga_ir.specs.declared.module.Module.{Module};
 ghost use Rattle.naga_scope.specs.Declarations.{IsFormlessDeclaration, IsFormlessHead};
 ghost use Rattle.naga_scope.specs.Tables.{AreTablesOf};
-ghost use Rattle.naga_wgsl_fns.specs.DeclarationRefusals.{NamesBuiltin, NamesDeclaration};
-ghost use Rattle.naga_wgsl_fns.specs.DeclarationRefusals.{NamesHead, NamesMisplaced};
+ghost use Rattle.naga_wgsl_fns.specs.Constructs.{Tells};
+ghost use Rattle.naga_wgsl_fns.specs.DeclarationRefusals.{NamesDeclaration, NamesFormlessDeclaration};
+ghost use Rattle.naga_wgsl_fns.specs.DeclarationRefusals.{NamesFormlessHead, NamesHead};
+ghost use Rattle.naga_wgsl_fns.specs.DeclarationRefusals.{NamesMisplaced};
 
-use crate::error::{Error, custom};
-use crate::formless_constants::global_without_form;
+use crate::construct::Construct;
+use crate::error::Error;
+use crate::formless_constants::formless_global;
 use crate::forms::type_without_form;
 use naga_info::TypeResolution;
-use naga_ir::{BuiltIn, Module};
+use naga_ir::Module;
 use naga_scope::{FormlessDeclaration, FormlessHead, ModuleTables};
 use std::alloc::Global;
 use wgsl_layout::Misplaced;
-use wgsl_words::TryToWgsl;
 
 /// The refusal that names a declaration of an accepted module that has no form, by what has none in
 /// it and by what is looked up of the module; want of memory where there is none for its text.
@@ -32,27 +34,40 @@ pub fn declaration_without_form(
     requires formless { IsFormlessDeclaration «module».now declaration }
     ensures { NamesDeclaration «module».now result }
 {
+    formless_construct(module, tables, declaration).to_error(alloc)
+}
+
+/// What has no form in a declaration of an accepted module, or why a struct can't keep the offsets of
+/// its members.
+pub fn formless_construct(
+    module: &Module,
+    tables: &ModuleTables,
+    declaration: FormlessDeclaration,
+) -> Construct
+    requires accepted { (info : ModuleInfo) × IsTrue (is_accepted «module».now info) }
+    requires tables { AreTablesOf «module».now tables.now }
+    requires formless { IsFormlessDeclaration «module».now declaration }
+    ensures { Tells result (NamesFormlessDeclaration «module».now declaration) }
+{
     match declaration {
         FormlessDeclaration::Type_(ty) => {
-            type_without_form(alloc, module, tables, &TypeResolution::Handle(ty))
+            type_without_form(module, tables, &TypeResolution::Handle(ty))
         }
-        FormlessDeclaration::Initialiser(handle) => {
-            global_without_form(alloc, module, tables, handle)
-        }
-        FormlessDeclaration::BuiltIn(value) => builtin_without_word(alloc, value),
-        FormlessDeclaration::Head(head) => head_without_form(alloc, head),
-        FormlessDeclaration::Misplaced(fault) => misplaced_member(alloc, fault),
-        FormlessDeclaration::Stride(_) => custom(alloc, "array stride"),
+        FormlessDeclaration::Initialiser(handle) => formless_global(module, tables, handle),
+        FormlessDeclaration::BuiltIn(value) => Construct::BuiltIn(value),
+        FormlessDeclaration::Head(head) => head_construct(head),
+        FormlessDeclaration::Misplaced(fault) => misplaced_construct(fault),
+        FormlessDeclaration::Stride(_) => Construct::ArrayStride,
     }
 }
 
-/// The refusal of members that can't stay where the module has them.
-fn misplaced_member(alloc: Global, fault: Misplaced) -> Error
-    ensures { NamesMisplaced fault result }
+/// Why members can't stay where the module has them.
+fn misplaced_construct(fault: Misplaced) -> Construct
+    ensures { Tells result (NamesMisplaced fault) }
 {
     match fault {
-        Misplaced::OffAlignment => custom(alloc, "member off its alignment"),
-        Misplaced::Overlapping => custom(alloc, "members overlap"),
+        Misplaced::OffAlignment => Construct::OffAlignment,
+        Misplaced::Overlapping => Construct::Overlap,
     }
 }
 
@@ -62,21 +77,15 @@ pub fn head_without_form(alloc: Global, head: FormlessHead) -> Error
     ensures { (m : Module) (number : ℕ) → IsFormlessHead m number head →
         NamesHead m number result }
 {
-    match head {
-        FormlessHead::BuiltIn(value) => builtin_without_word(alloc, value),
-        FormlessHead::Stage => custom(alloc, "missing payload or mesh output"),
-    }
+    head_construct(head).to_error(alloc)
 }
 
-/// The value is told by its debug text.
-fn builtin_without_word(alloc: Global, value: BuiltIn) -> Error
-    ensures { NamesBuiltin result }
+/// What has no form of what a function takes or gives, or of its stage.
+fn head_construct(head: FormlessHead) -> Construct
+    ensures { Tells result (NamesFormlessHead head) }
 {
-    match format!(in alloc; "{value:?}") {
-        Ok(value) => Error::Unsupported {
-            kind: BuiltIn::DESCRIPTION,
-            value,
-        },
-        Err(error) => Error::Memory(error),
+    match head {
+        FormlessHead::BuiltIn(value) => Construct::BuiltIn(value),
+        FormlessHead::Stage => Construct::StageVariable,
     }
 }

@@ -1,6 +1,7 @@
 //! The plan of a function, or why there is none.
 
-ghost use Rattle.std.specs.Prelude.{◌≡◌, [], ℕ, List, IfErr, IfOk, IsTrue, OnErr, Some};
+ghost use Rattle.std.specs.Prelude.{◌≡◌, [], ℕ, List, IfErr, IfOk, IsFalse, IsTrue, OnErr, OnOk};
+ghost use Rattle.std.specs.Prelude.{Some};
 ghost use Rattle.std.specs.Prelude.{slice_get};
 ghost use Rattle.module_meaning.specs.Accepted.{is_accepted};
 ghost use Rattle.module_meaning.specs.FunctionNumbers.{IsFunctionOf, function_number};
@@ -15,18 +16,52 @@ ghost use Rattle.naga_scope.specs.Plans.{IsPlanOf};
 ghost use Rattle.naga_scope.specs.Tables.{AreTablesOf};
 ghost use Rattle.naga_back.specs.Flags.{annotates_types};
 ghost use Rattle.naga_wgsl_fns.specs.Refusals.{IsOfPlan, IsPlanRefusal, NamesItemsOf};
-ghost use Rattle.naga_wgsl_fns.specs.Refusals.{TellsPlanError};
+ghost use Rattle.naga_wgsl_fns.specs.Constructs.{Tells};
+ghost use Rattle.naga_wgsl_fns.specs.Refusals.{IsErrorOfNames, TellsPlanError};
+ghost use Rattle.naga_wgsl_fns.specs.Unplanned.{IsUnplanned, TellsUnplanned, is_names_want};
+ghost use Rattle.naga_wgsl_fns.specs.Unplanned.{is_want, part_of};
+ghost use Rattle.naga_wgsl_fns.specs.declared.error.Error.TheVariants.{Memory};
+ghost use Rattle.naga_names.specs.declared.error.NamerError.TheVariants as namer_error;
 
-use crate::error::{Error, custom, names_error};
+use crate::construct::Construct;
+use crate::error::Error;
 use crate::forms::{statement_without_form, type_without_form, without_form};
 use naga_back::{FunctionType, WriterFlags, annotates_types};
 use naga_info::{FunctionInfo, ModuleInfo, TypeResolution};
-use naga_ir::{Function, Module};
-use naga_names::NameKey;
+use naga_ir::{Expression, Function, Handle, Module, Type_};
 use naga_names::namer::Namer;
-use naga_scope::{ModuleTables, Plan, PlanError, function_of};
-use std::alloc::Global;
+use naga_names::{NameKey, NamerError};
+use naga_scope::{ModuleTables, Plan, PlanError, ScopeFault, function_of};
+use std::alloc::{AllocError, Global};
 use std::collections::HashMap;
+
+/// A part of a function, or of an entry point, for which it is refused. A statement is told by its
+/// number in the order of the text: those in blocks are counted too, each after the one that holds
+/// the block, from 0 (modulo 2^64).
+#[derive(Clone, Copy, Debug, PartialEq, Eq)]
+pub enum FunctionPart {
+    /// The labels that front ends gave in it.
+    Labels,
+    /// Where it breaks a rule of scope.
+    Scope(ScopeFault),
+    /// The statement with this number.
+    Statement(usize),
+    /// An expression that is written.
+    Expression(Handle<Expression>),
+    /// The type of an argument, of the result or of a local.
+    Type_(Handle<Type_>),
+    /// The type that the `let` of this expression tells.
+    Let(Handle<Expression>),
+}
+
+/// Why there is no plan of a function.
+#[derive(Debug, Drop)]
+pub enum Unplanned {
+    /// It is refused for this construct, which stands at this part of it.
+    Refused(Construct, FunctionPart),
+    /// Memory has run out.
+    Memory(AllocError),
+}
 
 /// The plan of a function of an accepted module, by what is looked up of the module and the
 /// names of its items: the rules of scope hold in the function,
@@ -61,6 +96,48 @@ pub fn plan_of<'a>(
     ensures begun { OnErr result (HasBegunLabels namer.old
         (labels_named_in «module».now (function_number «module».now ty.now)) namer.new) }
 {
+    match plan_or_refusal(alloc, module, info, ty, tables, names, flags, namer) {
+        Ok(plan) => Ok(plan),
+        Err(unplanned) => Err(unplanned_error(alloc, unplanned)),
+    }
+}
+
+/// The refusal that names the construct, or want of memory, here or for its text.
+fn unplanned_error(alloc: Global, unplanned: Unplanned) -> Error
+    ensures { TellsUnplanned unplanned result }
+{
+    match unplanned {
+        Unplanned::Refused(construct, _) => construct.to_error(alloc),
+        Unplanned::Memory(error) => Error::Memory(error),
+    }
+}
+
+/// The same plan, or the construct for which there is none, and where it stands. Where several stand,
+/// it is the first that is found: by the labels, the rules of scope, the statements, the expressions
+/// from the last to the first, the types that are declared, and those that `let`s tell.
+pub fn plan_or_refusal<'a>(
+    alloc: Global,
+    module: &'a Module,
+    info: &'a ModuleInfo,
+    ty: &FunctionType,
+    tables: &'a ModuleTables,
+    names: &HashMap<NameKey, String>,
+    flags: WriterFlags,
+    namer: &mut Namer,
+) -> Result<Plan, Unplanned>
+    requires accepted { IsTrue (is_accepted «module».now info.now) }
+    requires there { IsFunctionOf ty.now «module».now }
+    requires tables { AreTablesOf «module».now tables.now }
+    requires names { HasNamesOf «module».now (names_in names.now) }
+    ensures ok { IfOk result (IsPlanOf (annotates_types flags) «module».now info.now
+        (function_number «module».now ty.now)) }
+    ensures named { IfOk result (λ p. NamesLabels namer.old []
+        (labels_named_in «module».now (function_number «module».now ty.now)) namer.new p.named) }
+    ensures err { IfErr result (IsUnplanned (annotates_types flags) «module».now info.now
+        (function_number «module».now ty.now) namer.old) }
+    ensures begun { OnErr result (HasBegunLabels namer.old
+        (labels_named_in «module».now (function_number «module».now ty.now)) namer.new) }
+{
     match Plan::of(
         alloc,
         module,
@@ -73,42 +150,76 @@ pub fn plan_of<'a>(
     ) {
         Ok(plan) => Ok(plan),
         Err(error) => {
+            let part = part_of(&error);
             let (function, function_info) = function_of(module, info, *ty);
-            Err(error_of_plan(alloc, module, tables, function, function_info, error))
+            match construct_of_plan(module, tables, function, function_info, error) {
+                Ok(construct) => Err(Unplanned::Refused(construct, part)),
+                Err(error) => Err(Unplanned::Memory(error)),
+            }
         }
     }
 }
 
-/// What is told of this function where there is no plan of it.
-fn error_of_plan(
-    alloc: Global,
+/// Where a function has what keeps it from having a plan. Of want of memory nothing is told.
+fn part_of(error: &PlanError) -> FunctionPart
+    ensures { result ≡ part_of error.now }
+{
+    match error {
+        PlanError::OutOfScope(fault) => FunctionPart::Scope(*fault),
+        PlanError::StatementWithoutForm(number, _) => FunctionPart::Statement(*number),
+        PlanError::WithoutForm(handle) => FunctionPart::Expression(*handle),
+        PlanError::TypeWithoutForm(ty) => FunctionPart::Type_(*ty),
+        PlanError::LetWithoutForm(handle) => FunctionPart::Let(*handle),
+        PlanError::Unnamed(_) | PlanError::Memory(_) => FunctionPart::Labels,
+    }
+}
+
+/// Why there is no plan of this function, or want of memory.
+fn construct_of_plan(
     module: &Module,
     tables: &ModuleTables,
     function: &Function,
     info: &FunctionInfo,
     error: PlanError,
-) -> Error
+) -> Result<Construct, AllocError>
     requires known { AreKnownIn «module».now.types info.now }
     requires ordered { GlobalsStandInOrder «module».now }
     requires tables { AreTablesOf «module».now tables.now }
     requires named { (h : ℕ) (e : Expression) → slice_get function.now.expressions h ≡ Some e →
         NamesItemsOf «module».now e }
     requires formless { IsOfPlan «module».now function.now info.now error }
-    ensures { TellsPlanError «module».now function.now info.now error result }
+    ensures ok { IfOk result (λ it.
+        Tells it (TellsPlanError «module».now function.now info.now error)) }
+    ensures refused { OnOk result (IsFalse (is_want error)) }
+    ensures err { IfErr result (λ e.
+        TellsPlanError «module».now function.now info.now error (Memory e)) }
 {
     match error {
-        PlanError::OutOfScope => custom(alloc, "operand out of scope"),
-        PlanError::StatementWithoutForm(statement) => statement_without_form(alloc, statement),
+        PlanError::OutOfScope(_) => Ok(Construct::OutOfScope),
+        PlanError::StatementWithoutForm(_, statement) => Ok(statement_without_form(statement)),
         PlanError::WithoutForm(handle) => {
-            without_form(alloc, module, tables, info, &function.expressions[handle])
+            Ok(without_form(module, tables, info, &function.expressions[handle]))
         }
         PlanError::TypeWithoutForm(ty) => {
-            type_without_form(alloc, module, tables, &TypeResolution::Handle(ty))
+            Ok(type_without_form(module, tables, &TypeResolution::Handle(ty)))
         }
         PlanError::LetWithoutForm(handle) => {
-            type_without_form(alloc, module, tables, &info[handle].ty)
+            Ok(type_without_form(module, tables, &info[handle].ty))
         }
-        PlanError::Unnamed(error) => names_error(alloc, error),
-        PlanError::Memory(error) => Error::Memory(error),
+        PlanError::Unnamed(error) => construct_of_names(error),
+        PlanError::Memory(error) => Err(error),
+    }
+}
+
+/// Why a module is refused of which an item or a label gets no name, or want of memory.
+pub fn construct_of_names(error: NamerError) -> Result<Construct, AllocError>
+    ensures ok { IfOk result (λ it. Tells it (IsErrorOfNames error)) }
+    ensures refused { OnOk result (IsFalse (is_names_want error)) }
+    ensures err { IfErr result (λ e. error ≡ namer_error.Memory e) }
+{
+    match error {
+        NamerError::Full => Ok(Construct::FullNamer),
+        NamerError::KeyFull => Ok(Construct::NameKey),
+        NamerError::Memory(error) => Err(error),
     }
 }

@@ -14,3 +14,5 @@ pub mod ItemRows
 pub mod Sizes
 pub mod StructRows
 pub mod VariableRows
+pub mod Unwritable
+pub mod Within

@@ -3,8 +3,10 @@ pub mod Writing
 pub mod ModuleRefusals
 pub mod Headline
 pub mod Checked
+pub mod Within
 pub mod Constants
 pub mod Declarations
 pub mod Items
 pub mod Structs
 pub mod Variables
+pub mod Unwritable

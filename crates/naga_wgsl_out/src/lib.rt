@@ -21,9 +21,11 @@ pub mod sinks;
 mod structs;
 pub mod to_wgsl;
 pub mod types;
+mod unwritable;
 pub mod valid;
 mod variables;
 pub mod wgsl;
+mod within;
 mod writer;
 
 pub use float_numerals as numerals;

@@ -20,4 +20,5 @@
 //! }
 //! ```
 
+pub use module_limits::BoundedText;
 pub use naga_words::{IoSink, Limited};

@@ -154,7 +154,7 @@ impl<W: TextSink> Writer<W> {
         ensures flags { self.new.flags ≡ self.old.flags }
     {
         let tables = ModuleTables::of(self.alloc, module)?;
-        if let Some(declaration) = formless_declaration(module, &tables) {
+        if let Some((_, declaration)) = formless_declaration(module, &tables) {
             return Err(declaration_without_form(self.alloc, module, &tables, declaration));
         }
         let (names, mut namer) = names_of(self.alloc, module)?;
@@ -319,27 +319,25 @@ pub fn names_of(alloc: Global, module: &Module) -> Result<(HashMap<NameKey, Stri
     ensures items { IfOk result (λ r. HasNamedItemsOf «module».now r.1) }
     ensures err { IfErr result (IsNamesRefusal «module».now) }
 {
-    let mut names = HashMap::new(alloc);
-    let mut namer = Namer::default(alloc);
-    name_items(alloc, module, &mut namer, &mut names)?;
-    Ok((names, namer))
-}
-
-/// Gives the items of a module names that are identifiers of WGSL, and puts these into the map.
-fn name_items(
-    alloc: Global,
-    module: &Module,
-    namer: &mut Namer,
-    names: &mut HashMap<NameKey, String>,
-) -> Result<(), Error>
-    ensures ok { OnOk result (HasAllNames «module».now (names_in names.new)) }
-    ensures namer { OnOk result (HasNamedBefore «module».now 0 namer.new) }
-    ensures err { IfErr result (IsNamesRefusal «module».now) }
-{
-    match reset_for_wgsl(alloc, module, namer, names) {
-        Ok(()) => Ok(()),
+    match items_named(alloc, module) {
+        Ok(named) => Ok(named),
         Err(error) => Err(names_error(alloc, error)),
     }
+}
+
+/// The names of a module's items, which are identifiers of WGSL, and the namer that gave them.
+pub(crate) fn items_named(
+    alloc: Global,
+    module: &Module,
+) -> Result<(HashMap<NameKey, String>, Namer), NamerError>
+    ensures ok { IfOk result (λ r. HasAllNames «module».now (names_in r.0)) }
+    ensures namer { IfOk result (λ r. HasNamedBefore «module».now 0 r.1) }
+    ensures err { IfErr result (IsResetRefusal wgsl_names «module».now) }
+{
+    let mut names = HashMap::new(alloc);
+    let mut namer = Namer::default(alloc);
+    reset_for_wgsl(alloc, module, &mut namer, &mut names)?;
+    Ok((names, namer))
 }
 
 /// Resets the namer by the module, with the words and the prefixes of WGSL.

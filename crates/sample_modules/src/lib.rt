@@ -1,5 +1,5 @@
 //! Sample modules under their names, each with what is known of it, and a module with the function
-//! that is being built for it: what the programs and tests of this repository write and ask about.
+//! that is being built for it: what the programs of this repository write and ask about.
 #![tactic(auto)]
 
 mod declaration_rows;

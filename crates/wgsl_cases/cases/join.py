@@ -17,7 +17,7 @@ HERE = Path(__file__).resolve().parent
 CRATE = HERE.parent
 
 EXPECTATION = re.compile(
-    r"(gives nothing|gives with types|gives portable|gives)|(refused with types|refused|not accepted): (.+)"
+    r"(gives nothing|gives with types|gives portable|gives)|(refused with types|refused|at|not accepted): (.+)"
 )
 ONLY_WITH_TYPES = re.compile(r"\[(: [^\[\]]+)\]")
 # A line of attributes alone, in front of an entry point or a variable that is bound.
@@ -123,6 +123,7 @@ class Expected:
     def __init__(self):
         self.texts = [None, None]
         self.refusals = [None, None]
+        self.place = None
         self.portable = None
         self.only = None
 
@@ -141,6 +142,8 @@ class Expected:
             self.portable = self.first_time(case, head, self.portable, told)
         elif word == "not accepted":
             self.only = self.first_time(case, head, self.only, f"{word}: {rest}\n")
+        elif word == "at":
+            self.place = self.first_time(case, head, self.place, f"{word}: {rest}\n")
         elif word:
             self.refusals[typed] = self.first_time(case, head, self.refusals[typed], told)
         else:
@@ -162,6 +165,8 @@ class Expected:
             raise case.error("a module that is not accepted has no text and no refusal")
         if plain == (None, None) and typed != (None, None):
             raise case.error("with types alone: what is written without them is not told")
+        if self.place is not None and self.refusals == [None, None]:
+            raise case.error("a place of what is not refused")
         if self.portable is not None and self.refusals != [None, None]:
             raise case.error("a module that is not written has no portable text")
         if self.portable is not None and self.texts[0] is None:
@@ -174,7 +179,7 @@ class Expected:
 
         def told(text, refusal):
             if refusal is not None:
-                return f"{text}refused: {refusal}\n"
+                return f"{text}refused: {refusal}\n{self.place or ''}"
             return ended(text, has_entry_points)
 
         plain = self.texts[0] or ""
@@ -362,6 +367,8 @@ class Joined:
         told = {"name": case.name, **told}
         if expected.portable is not None:
             told["portable"] = True
+        if expected.place is not None:
+            told["places"] = True
         self.input.append(json.dumps(told, ensure_ascii=False, separators=(",", ":")) + "\n")
         plain, typed = expected.answers(bool(told["module"].get("entry_points")))
         self.output.append(f"== {case.name}\n{plain}")

@@ -4,9 +4,10 @@ ghost use Rattle.std.specs.Prelude.{IsTrue};
 ghost use Rattle.module_meaning.specs.Accepted.{is_accepted};
 
 use bitflags::Flags;
+use module_answers::JsonRefusalPlace;
 use naga_json::{Known, known_of};
-use naga_wgsl_out::info::{count, unaccepted};
-use naga_wgsl_out::wgsl::{Writer, WriterFlags};
+use naga_wgsl_out::info::{Unaccepted, count, explain, unaccepted};
+use naga_wgsl_out::wgsl::{Writer, WriterFlags, unwritable};
 use serde_json::Value;
 use std::alloc::{AllocError, Global};
 use std::io;
@@ -43,11 +44,12 @@ fn answer_known<W: Write>(
     out: &mut W,
 ) -> io::Result<()> {
     if let Some(fault) = unaccepted(&known.module, &known.info) {
-        return writeln!(out, "== {name}\nnot accepted: {fault}");
+        return print_fault(alloc, name, known, fault, out);
     }
     if !is_told(case, "counted") {
         count(&mut known.info, &known.module);
     }
+    let places = is_told(case, "places");
     print_texts(
         alloc,
         name,
@@ -55,6 +57,7 @@ fn answer_known<W: Write>(
         ", with types",
         known,
         WriterFlags::empty(),
+        places,
         out,
     )?;
     if is_told(case, "portable") {
@@ -66,10 +69,26 @@ fn answer_known<W: Write>(
             typed_head,
             known,
             WriterFlags::PORTABLE,
+            places,
             out,
         );
     }
     Ok(())
+}
+
+/// Prints where and why a module is not accepted, and what was wanted there.
+fn print_fault<W: Write>(
+    alloc: Global,
+    name: &str,
+    known: &Known,
+    fault: Unaccepted,
+    out: &mut W,
+) -> io::Result<()> {
+    write!(out, "== {name}\nnot accepted: {fault}")?;
+    if let Some(wanted) = explain(alloc, &known.module, &known.info, fault)? {
+        write!(out, ": {wanted}")?;
+    }
+    writeln!(out)
 }
 
 /// Prints what the writer makes of the module with these flags, and where each `let` tells its type
@@ -81,21 +100,33 @@ fn print_texts<W: Write>(
     typed_head: &str,
     known: &Known,
     flags: WriterFlags,
+    places: bool,
     out: &mut W,
 ) -> io::Result<()>
     requires { IsTrue (is_accepted known.now.module known.now.info) }
 {
-    let plain = text_of(alloc, known, flags)?;
+    let plain = text_of(alloc, known, flags, places)?;
     write!(out, "== {name}{head}\n{plain}")?;
-    let typed = text_of(alloc, known, flags.union(WriterFlags::EXPLICIT_TYPES))?;
+    let typed = text_of(
+        alloc,
+        known,
+        flags.union(WriterFlags::EXPLICIT_TYPES),
+        places,
+    )?;
     if typed.as_str() == plain.as_str() {
         return Ok(());
     }
     write!(out, "== {name}{typed_head}\n{typed}")
 }
 
-/// What the writer makes of the module: what it wrote, and behind it the refusal if there is one.
-fn text_of(alloc: Global, known: &Known, flags: WriterFlags) -> Result<String, AllocError>
+/// What the writer makes of the module: what it wrote, and after it the refusal if there is one,
+/// with its place if that is asked.
+fn text_of(
+    alloc: Global,
+    known: &Known,
+    flags: WriterFlags,
+    places: bool,
+) -> Result<String, AllocError>
     requires { IsTrue (is_accepted known.now.module known.now.info) }
 {
     let mut writer = Writer::new(alloc, String::new(alloc), flags);
@@ -105,5 +136,25 @@ fn text_of(alloc: Global, known: &Known, flags: WriterFlags) -> Result<String, A
         let refusal = format!(in alloc; "refused: {error}\n")?;
         text.push_str(refusal.as_str())?;
     }
+    if places {
+        push_place(alloc, known, flags, &mut text)?;
+    }
     Ok(text)
+}
+
+/// Tells where what the module is refused for stands, if there is such a thing.
+fn push_place(
+    alloc: Global,
+    known: &Known,
+    flags: WriterFlags,
+    text: &mut String,
+) -> Result<(), AllocError>
+    requires { IsTrue (is_accepted known.now.module known.now.info) }
+{
+    if let Some(refusal) = unwritable(alloc, &known.module, &known.info, flags)? {
+        let place = JsonRefusalPlace(refusal.place);
+        let told = format!(in alloc; "at: {place}\n")?;
+        text.push_str(told.as_str())?;
+    }
+    Ok(())
 }

@@ -1,7 +1,7 @@
 //! How many entry points a module may have.
-use crate::texts::{reads, written};
+use crate::modules::built_text;
 use naga_wgsl_out::builder::{FunctionBuilder, ModuleBuilder};
-use naga_wgsl_out::info::{accepts, count};
+use naga_wgsl_out::info::accepts;
 use naga_wgsl_out::ir::ShaderStage;
 use naga_wgsl_out::wgsl::{Error, Writer, no_flags};
 use std::alloc::Global;
@@ -28,8 +28,8 @@ fn add_entry_points(
 }
 
 /// The text has them all: the first, the last, and as many bytes as they and empty lines between.
-fn all_are_written(rt: &impl Abort, alloc: Global, shader: &mut ModuleBuilder) {
-    let text = written(rt, alloc, &shader.module, &mut shader.info, no_flags());
+fn all_are_written(rt: &impl Abort, alloc: Global, shader: &ModuleBuilder) {
+    let text = built_text(rt, alloc, shader);
     let text = text.as_str();
     assert_eq!(rt; text.len(), 3_462_297);
     assert!(rt; text.starts_with("@compute @workgroup_size(1, 1, 1) \nfn p0_() {\n}\n\n@compute "));
@@ -37,24 +37,22 @@ fn all_are_written(rt: &impl Abort, alloc: Global, shader: &mut ModuleBuilder) {
 }
 
 /// A module with one more is refused, and nothing stands behind what the sink had.
-fn one_more_is_refused(rt: &impl Abort, alloc: Global, shader: &mut ModuleBuilder) {
-    count(&mut shader.info, &shader.module);
+fn one_more_is_refused(rt: &impl Abort, alloc: Global, shader: &ModuleBuilder) {
     assert!(rt; accepts(&shader.module, &shader.info));
     let sink = String::from_str(alloc, "before").expect(rt, "memory");
     let mut writer = Writer::new(alloc, sink, no_flags());
-    let answer = writer.write(&shader.module, &shader.info);
-    reads(rt, writer.finish().as_str(), "before");
-    match &answer {
-        Err(Error::Custom(told)) => reads(rt, told.as_str(), "name key out of range"),
+    match writer.write(&shader.module, &shader.info) {
+        Err(Error::Custom(told)) => assert_eq!(rt; told.as_str(), "name key out of range"),
         _ => panic!(rt; "the module is not refused"),
     }
+    assert_eq!(rt; writer.finish().as_str(), "before");
 }
 
 #[test]
 fn as_many_entry_points_are_written_as_keys_tell(rt: HostRuntime) {
     let mut shader = ModuleBuilder::new(rt.alloc());
     add_entry_points(&rt, rt.alloc(), &mut shader, 0, MOST);
-    all_are_written(&rt, rt.alloc(), &mut shader);
+    all_are_written(&rt, rt.alloc(), &shader);
     add_entry_points(&rt, rt.alloc(), &mut shader, MOST, MOST + 1);
-    one_more_is_refused(&rt, rt.alloc(), &mut shader);
+    one_more_is_refused(&rt, rt.alloc(), &shader);
 }

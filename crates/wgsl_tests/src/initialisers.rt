@@ -4,9 +4,8 @@ ghost use Rattle.module_meaning.specs.Accepted.{is_accepted};
 ghost use Rattle.module_meaning.specs.Names.{HasNamesOf};
 ghost use Rattle.naga_names.specs.Keys.{names_in};
 
-use crate::texts::reads;
-use naga_json::read_known;
-use naga_wgsl_out::info::{ModuleInfo, accepts};
+use crate::modules::read;
+use naga_wgsl_out::info::ModuleInfo;
 use naga_wgsl_out::ir::{Expression, Handle, Module, Place};
 use naga_wgsl_out::namer::NameKey;
 use naga_wgsl_out::wgsl::{Error, names_of, write_global_expression};
@@ -50,15 +49,10 @@ const VECTOR: &str = r#"{
 
 #[test]
 fn an_initialiser_is_written(rt: HostRuntime) {
-    let known = read_known(rt.alloc(), VECTOR).expect(&rt, "a module");
+    let known = read(&rt, rt.alloc(), VECTOR);
     let vector = Place::from_index(2);
     assert!(rt; vector.index() < known.module.global_expressions.len());
-    assert!(rt; accepts(&known.module, &known.info));
     let (names, _namer) = names_of(rt.alloc(), &known.module).expect(&rt, "names");
     let text = text_of(rt.alloc(), &known.module, &known.info, &names, vector);
-    reads(
-        &rt,
-        text.expect(&rt, "a text").as_str(),
-        "vec2<i32>(-7i, -7i)",
-    );
+    assert_eq!(rt; text.expect(&rt, "a text").as_str(), "vec2<i32>(-7i, -7i)");
 }

@@ -1,23 +1,15 @@
 //! Statements and operands that stand in one another, many times over.
-use crate::texts::{repeated, written};
+use crate::modules::{built_text, written};
 use naga_wgsl_out::builder::{BlockBuilder, FunctionBuilder, ModuleBuilder};
-use naga_wgsl_out::ir::{BinaryOperator, Scalar};
-use naga_wgsl_out::wgsl::no_flags;
 use std::alloc::Global;
 use std::mem;
 use std::process::Abort;
 
-/// How many blocks and loops stand in one another.
+/// How many blocks and loops stand in one another: more than are read from JSON.
 const BLOCKS: usize = 1_000;
 
 /// How many sums stand in one another.
 const SUMS: usize = 2_000;
-
-/// The module with this function alone is accepted, and its text is this.
-fn is_written(rt: &impl Abort, alloc: Global, shader: &mut ModuleBuilder, want: &str) {
-    let text = written(rt, alloc, &shader.module, &mut shader.info, no_flags());
-    assert!(rt; text.as_str() == want);
-}
 
 // ---- blocks and loops
 
@@ -40,10 +32,9 @@ fn nest(rt: &impl Abort, alloc: Global, block: &mut BlockBuilder, depth: usize) 
 }
 
 /// Adds a line at a level.
-fn push_line(rt: &impl Abort, text: &mut String, level: usize, line: &str) {
-    for _ in 0..level {
-        text.push_str("    ").expect(rt, "memory");
-    }
+fn push_line(rt: &impl Abort, alloc: Global, text: &mut String, level: usize, line: &str) {
+    let indent = "    ".repeat(alloc, level).expect(rt, "memory");
+    text.push_str(indent.as_str()).expect(rt, "memory");
     text.push_str(line).expect(rt, "memory");
 }
 
@@ -52,10 +43,10 @@ fn nested_text(rt: &impl Abort, alloc: Global, depth: usize) -> String {
     let mut text = String::from_str(alloc, "fn nested() {\n").expect(rt, "memory");
     for inside in (0..depth).rev() {
         let head = if is_loop(inside) { "loop {\n" } else { "{\n" };
-        push_line(rt, &mut text, depth - inside, head);
+        push_line(rt, alloc, &mut text, depth - inside, head);
     }
     for inside in 0..depth {
-        push_line(rt, &mut text, depth - inside, "}\n");
+        push_line(rt, alloc, &mut text, depth - inside, "}\n");
     }
     text.push_str("}\n\n").expect(rt, "memory");
     text
@@ -68,33 +59,46 @@ fn blocks_and_loops_stand_in_one_another(rt: HostRuntime) {
     nest(&rt, alloc, &mut function.body, BLOCKS);
     let mut shader = ModuleBuilder::new(alloc);
     shader.add_function(function).expect(&rt, "memory");
-    let want = nested_text(&rt, alloc, BLOCKS);
-    is_written(&rt, alloc, &mut shader, want.as_str());
+    let text = built_text(&rt, alloc, &shader);
+    assert!(rt; text.as_str() == nested_text(&rt, alloc, BLOCKS).as_str());
 }
 
 // ---- sums
 
-/// Adds a function that returns so many sums with its argument over one another.
-fn add_sums(rt: &impl Abort, alloc: Global, shader: &mut ModuleBuilder, depth: usize) {
-    let i32_type = shader.scalar(Scalar::I32).expect(rt, "memory");
-    let mut function = FunctionBuilder::new(alloc, "sums").expect(rt, "memory");
-    let x = function.argument("x", i32_type).expect(rt, "memory");
-    function.returns(i32_type);
-    let add = BinaryOperator::Add;
-    let first = function.binary(add, x, x, i32_type).expect(rt, "memory");
-    let mut sum = first;
-    for _ in 1..depth {
-        sum = function.binary(add, sum, x, i32_type).expect(rt, "memory");
+/// A function that returns so many sums with its argument over one another.
+fn sums_module(rt: &impl Abort, alloc: Global, depth: usize) -> String {
+    let mut sums = String::new(alloc);
+    for left in 0..depth {
+        let sum = format!(in alloc;
+            r#", {{"Binary": {{"op": "Add", "left": {left}, "right": 0}}}}"#
+        );
+        sums.push_str(sum.expect(rt, "memory").as_str())
+            .expect(rt, "memory");
     }
-    function.body.emit(first, sum).expect(rt, "memory");
-    function.body.return_value(sum).expect(rt, "memory");
-    shader.add_function(function).expect(rt, "memory");
+    let known = ", 0".repeat(alloc, depth).expect(rt, "memory");
+    format!(in alloc;
+        r#"{{
+            "module": {{
+                "types": [{{"inner": {{"Scalar": {{"kind": "Sint", "width": 4}}}}}}],
+                "functions": [{{
+                    "name": "sums",
+                    "arguments": [{{"name": "x", "ty": 0}}],
+                    "result": {{"ty": 0}},
+                    "expressions": [{{"FunctionArgument": 0}}{sums}],
+                    "body": [{{"Emit": {{"start": 1, "end": {}}}}}, {{"Return": {{"value": {depth}}}}}]
+                }}]
+            }},
+            "info": {{"functions": [[0{known}]]}}
+        }}"#,
+        depth.saturating_add(1)
+    )
+    .expect(rt, "memory")
 }
 
 /// The text of that function.
 fn sums_text(rt: &impl Abort, alloc: Global, depth: usize) -> String {
-    let opened = repeated(rt, alloc, "(", depth);
-    let closed = repeated(rt, alloc, " + x)", depth);
+    let opened = "(".repeat(alloc, depth).expect(rt, "memory");
+    let closed = " + x)".repeat(alloc, depth).expect(rt, "memory");
     format!(in alloc; "fn sums(x: i32) -> i32 {{\n    return {opened}x{closed};\n}}\n\n").expect(
         rt, "memory",
     )
@@ -102,8 +106,7 @@ fn sums_text(rt: &impl Abort, alloc: Global, depth: usize) -> String {
 
 #[test]
 fn operands_stand_in_one_another(rt: HostRuntime) {
-    let mut shader = ModuleBuilder::new(rt.alloc());
-    add_sums(&rt, rt.alloc(), &mut shader, SUMS);
-    let want = sums_text(&rt, rt.alloc(), SUMS);
-    is_written(&rt, rt.alloc(), &mut shader, want.as_str());
+    let alloc = rt.alloc();
+    let text = written(&rt, alloc, sums_module(&rt, alloc, SUMS).as_str());
+    assert!(rt; text.as_str() == sums_text(&rt, alloc, SUMS).as_str());
 }

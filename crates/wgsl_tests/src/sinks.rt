@@ -1,47 +1,16 @@
-//! Sinks, and what the writer leaves in those that refuse a piece.
+//! What the writer leaves in sinks that refuse a piece.
 
 ghost use Rattle.std.specs.Prelude.{◌≡◌, ◌<◌, ◌++◌, IsErrOf, IsTrue, OnErr, OnOk};
 ghost use Rattle.module_meaning.specs.Accepted.{is_accepted};
 
+use crate::modules::{IDENTITY, read};
 use crate::whole_module;
-use naga_json::{Known, read_known};
-use naga_wgsl_out::info::{accepts, count};
-use naga_wgsl_out::sinks::{IoSink, Limited};
+use naga_json::Known;
+use naga_wgsl_out::sinks::Limited;
 use naga_wgsl_out::types::{SinkError, TextSink};
 use naga_wgsl_out::wgsl::{Error, Writer, WriterFlags, no_flags, write_string};
 use std::alloc::{AllocError, Global};
-use std::io::Cursor;
 use std::process::Abort;
-
-/// Pieces for a sink with room for three bytes, what it answers, and what it then holds.
-const PIECES: &[(&str, Result<(), SinkError>, &str)] = &[
-    ("ab", Ok(()), "ab"),
-    ("cd", Err(SinkError::Failed), "ab"),
-    ("e", Ok(()), "abe"),
-    ("cd", Ok(()), "abecd"),
-    ("efg", Ok(()), "abecdefg"),
-];
-
-#[test]
-fn a_limited_text_refuses_once(rt: HostRuntime) {
-    let mut sink = Limited::new(rt.alloc(), 3);
-    for (piece, want, text) in PIECES {
-        assert_eq!(&rt; sink.write_str(*piece), *want, "for {piece:?}");
-        assert_eq!(&rt; sink.text(), *text);
-    }
-}
-
-#[test]
-fn a_writer_of_bytes_gets_the_text(rt: HostRuntime) {
-    let mut room = [0u8; 4];
-    let bytes: &mut [u8] = &mut room;
-    let mut sink = IoSink::new(rt.alloc(), Cursor::new(bytes));
-    sink.write_str("ab").expect(&rt, "room");
-    assert!(&rt; sink.write_str("cde") == Err(SinkError::Failed));
-    assert_eq!(&rt; sink.text(), "abcde");
-    let _ = sink.finish();
-    assert_eq!(&rt; room, *b"abcd");
-}
 
 /// A text that refuses once what would take it past its limit, and tells it as a failure or as
 /// want of memory.
@@ -137,27 +106,10 @@ fn refuses_at_each_limit(
     }
 }
 
-/// `fn f(x: i32) -> i32 { return x; }`, with what is known of it.
-const IDENTITY: &str = r#"{
-    "module": {
-        "types": [{"inner": {"Scalar": {"kind": "Sint", "width": 4}}}],
-        "functions": [{
-            "name": "f",
-            "arguments": [{"name": "x", "ty": 0}],
-            "result": {"ty": 0},
-            "expressions": [{"FunctionArgument": 0}],
-            "body": [{"Return": {"value": 0}}]
-        }]
-    },
-    "info": {"functions": [[0]]}
-}"#;
-
 /// Two modules, with each setting of the flags.
 fn modules_are_refused(rt: &impl Abort, alloc: Global, refusal: SinkError) {
     for text in [IDENTITY, whole_module::MODULE] {
-        let mut known = read_known(alloc, text).expect(rt, "a module");
-        count(&mut known.info, &known.module);
-        assert!(rt; accepts(&known.module, &known.info));
+        let known = read(rt, alloc, text);
         refuses_at_each_limit(rt, alloc, &known, no_flags(), refusal);
         refuses_at_each_limit(rt, alloc, &known, WriterFlags::EXPLICIT_TYPES, refusal);
     }

@@ -1,30 +1,34 @@
 //! Many modules: each line of the input is answered by a line of the output.
 
 use crate::failure::Failure;
+use crate::progress::{Outcome, Progress};
 use crate::texts::{Style, write_in};
-use module_answers::{JsonPlace, Written};
+use module_answers::{JsonPlace, JsonRefusalPlace, Unwritten, Written, label_at};
 use naga_json::{Known, ReadError, known_of};
-use naga_wgsl_out::info::Unaccepted;
-use naga_wgsl_out::wgsl::Error;
+use naga_wgsl_out::info::{Unaccepted, explain};
+use naga_wgsl_out::ir::Module;
+use naga_wgsl_out::wgsl::{Error, Limits, Refusal};
 use serde_json::{Map, Value};
 use std::alloc::{AllocError, Global};
 use std::fmt::Display;
 use std::io;
 use std::io::{BufRead, Write};
+use std::rt::Clock;
 
 /// Answers each line of the input, of the file of this name, by a line of the output: an answer has
 /// left the output before the next line is read, so that one who waits for it gets it. A line that
 /// holds no module is answered too.
-pub fn answer_lines<'a, B: BufRead + Drop, W: Write>(
+pub fn answer_lines<'a, B: BufRead + Drop, W: Write, R: Clock, E: Write>(
     alloc: Global,
     name: &'a str,
     input: B,
     style: Style,
     out: &mut W,
+    progress: &mut Progress<'_, R, E>,
 ) -> Result<(), Failure<'a>> {
     for line in input.split(alloc, b'\n') {
         match line {
-            Ok(line) => answer_line(alloc, line.as_slice(), style, out)?,
+            Ok(line) => progress.add(answer_line(alloc, line.as_slice(), style, out)?),
             Err(error) => return Err(Failure::Input(name, error)),
         }
     }
@@ -36,12 +40,12 @@ fn answer_line<'a, W: Write>(
     line: &[u8],
     style: Style,
     out: &mut W,
-) -> Result<(), Failure<'a>> {
-    let Ok(text) = line_answer(alloc, line, style) else {
+) -> Result<Outcome, Failure<'a>> {
+    let Ok((text, outcome)) = line_answer(alloc, line, style) else {
         return Err(Failure::Memory);
     };
     match write_line(text.as_str(), out) {
-        Ok(()) => Ok(()),
+        Ok(()) => Ok(outcome),
         Err(error) => Err(Failure::Output(error)),
     }
 }
@@ -55,14 +59,29 @@ fn write_line<W: Write>(text: &str, out: &mut W) -> io::Result<()> {
 /// The members of an answer, in the order of their names.
 type Members = Map<String, Value>;
 
-/// The answer to a line.
-fn line_answer(alloc: Global, line: &[u8], style: Style) -> Result<String, AllocError> {
+/// The answer to a line, and what became of its module.
+fn line_answer(alloc: Global, line: &[u8], style: Style) -> Result<(String, Outcome), AllocError> {
     let mut members = Map::new(alloc);
     match Value::from_slice(alloc, line) {
         Ok(mut request) => answer_request(alloc, &mut request, style, &mut members)?,
         Err(error) => tell_unread(alloc, ReadError::from(error), &mut members)?,
     }
-    Value::Object(members).to_string(alloc)
+    let outcome = outcome_in(&members);
+    let text = Value::Object(members).to_string(alloc)?;
+    Ok((text, outcome))
+}
+
+/// What an answer tells of its module.
+fn outcome_in(members: &Members) -> Outcome {
+    if members.contains_key("error") {
+        Outcome::Unread
+    } else if members.contains_key("not_accepted") {
+        Outcome::NotAccepted
+    } else if members.contains_key("refused") {
+        Outcome::Refused
+    } else {
+        Outcome::Written
+    }
 }
 
 /// Tells what becomes of the module that is asked for, under the id that came with it.
@@ -83,7 +102,7 @@ fn answer_request(
 }
 
 /// The style that is asked for: what the request doesn't tell is as in this one. It is an error
-/// where what tells it is no truth value.
+/// where what tells it is no truth value, or of the limits no number of 32 bits.
 fn style_in(request: &Value, style: Style) -> Result<Style, &'static str> {
     let Some(explicit_types) = truth_in(request, "explicit_types", style.explicit_types) else {
         return Err("explicit_types: no truth value");
@@ -91,10 +110,34 @@ fn style_in(request: &Value, style: Style) -> Result<Style, &'static str> {
     let Some(plain) = truth_in(request, "plain", style.plain) else {
         return Err("plain: no truth value");
     };
+    let limits = limits_in(request, style.limits)?;
     Ok(Style {
         explicit_types,
         plain,
+        limits,
     })
+}
+
+/// The limits that are asked for.
+fn limits_in(request: &Value, limits: Limits) -> Result<Limits, &'static str> {
+    let Some(nesting) = number_in(request, "nesting", limits.nesting) else {
+        return Err("nesting: no number of 32 bits");
+    };
+    let Some(text) = number_in(request, "text", limits.text) else {
+        return Err("text: no number of 32 bits");
+    };
+    Ok(Limits { nesting, text })
+}
+
+/// The number that a member has, or this one where there is no such member.
+fn number_in(request: &Value, name: &str, absent: usize) -> Option<usize> {
+    match request.get(name) {
+        Some(told) => match u32::try_from(told.as_u64()?) {
+            Ok(number) => Some(number as usize),
+            Err(_) => None,
+        },
+        None => Some(absent),
+    }
 }
 
 /// The truth value that a member has, or this one where there is no such member.
@@ -124,42 +167,80 @@ fn tell_known(
     members: &mut Members,
 ) -> Result<(), AllocError> {
     match write_in(alloc, style, known) {
-        Ok(written) => tell_written(alloc, written, members),
-        Err(unaccepted) => tell_unaccepted(alloc, unaccepted, members),
+        Ok(written) => tell_written(alloc, written, &known.module, members),
+        Err(unwritten) => tell_unwritten(alloc, known, unwritten, members),
+    }
+}
+
+fn tell_unwritten(
+    alloc: Global,
+    known: &Known,
+    unwritten: Unwritten,
+    members: &mut Members,
+) -> Result<(), AllocError> {
+    match unwritten {
+        Unwritten::NotAccepted(unaccepted) => tell_unaccepted(alloc, known, unaccepted, members),
+        Unwritten::Memory(error) => Err(error),
+        reason => tell_refused(
+            alloc,
+            reason,
+            None,
+            &known.module,
+            String::new(alloc),
+            members,
+        ),
     }
 }
 
 fn tell_written(
     alloc: Global,
     written: Written<String>,
+    module: &Module,
     members: &mut Members,
 ) -> Result<(), AllocError> {
-    let Written { answer, sink } = written;
+    let Written {
+        answer,
+        refusal,
+        sink,
+    } = written;
     match answer {
         Ok(()) => put(alloc, "text", Value::String(sink), members),
         Err(Error::Memory(error)) => Err(error),
-        Err(reason) => tell_refused(alloc, reason, sink, members),
+        Err(reason) => tell_refused(alloc, reason, refusal, module, sink, members),
     }
 }
 
+/// Tells what the module is refused for, where that stands, and the text in front of it.
 fn tell_refused(
     alloc: Global,
-    reason: Error,
+    reason: impl Display + Drop,
+    refusal: Option<Refusal>,
+    module: &Module,
     text: String,
     members: &mut Members,
 ) -> Result<(), AllocError> {
     tell(alloc, "refused", reason, members)?;
+    if let Some(refusal) = refusal {
+        tell(alloc, "place", JsonRefusalPlace(refusal.place), members)?;
+        if let Some(label) = label_at(module, refusal.place) {
+            tell(alloc, "function", label, members)?;
+        }
+    }
     put(alloc, "text", Value::String(text), members)
 }
 
 fn tell_unaccepted(
     alloc: Global,
+    known: &Known,
     unaccepted: Unaccepted,
     members: &mut Members,
 ) -> Result<(), AllocError> {
     let mut told = Map::new(alloc);
     tell(alloc, "place", JsonPlace(unaccepted.item), &mut told)?;
     tell(alloc, "fault", unaccepted.fault, &mut told)?;
+    if let Some(wanted) = explain(alloc, &known.module, &known.info, unaccepted)? {
+        tell(alloc, "wanted", wanted, &mut told)?;
+    }
     put(alloc, "not_accepted", Value::Object(told), members)
 }
 

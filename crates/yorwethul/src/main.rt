@@ -2,18 +2,21 @@
 //!
 //! `yorwethul MODULE.json` prints the text of one module, with its floats told by numerals and with
 //! what standard compilers ask for; `--plain` leaves both out. `yorwethul --layout MODULE.json`
-//! tells where the members of its structs stand, and `yorwethul --lines` answers many, one a line.
+//! tells where the members of its structs stand, `yorwethul --explain MODULE.json` shows why it has
+//! no text, and `yorwethul --lines` answers many, one a line.
 #![tactic(auto)]
 
+mod explanation;
 mod failure;
 mod inputs;
 mod lines;
 mod program;
+mod progress;
 mod texts;
 mod words;
 
 use std::io;
-use std::io::{BufWriter, Write};
+use std::io::{BufWriter, IsTerminal, Write};
 use std::process::ExitCode;
 
 /// Runs the program on its words, and ends with its status.
@@ -30,7 +33,8 @@ fn main(rt: HostRuntime) -> ExitCode {
 fn answer(rt: &HostRuntime) -> io::Result<u8> {
     let alloc = rt.alloc();
     let words: Vec<String> = std::env::args(rt)?.collect(alloc)?;
+    let is_watched = rt.stderr().is_terminal() && !rt.stdout().is_terminal();
     let mut out = BufWriter::new(alloc, rt.stdout())?;
     let mut err = rt.stderr();
-    Ok(program::run(rt, &words, &mut out, &mut err))
+    Ok(program::run(rt, &words, &mut out, &mut err, is_watched))
 }

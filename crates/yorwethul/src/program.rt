@@ -1,18 +1,23 @@
 //! The program: its answers and its statuses.
 
+use crate::explanation::{Explanation, explanation};
 use crate::failure::Failure;
 use crate::inputs::known_of;
 use crate::lines::answer_lines;
+use crate::progress::Progress;
 use crate::texts::write_in;
 use crate::words::{Request, Task, request_of};
-use module_answers::{JsonPlace, Written, layout_table};
+use module_answers::{
+    JsonRefusal, Unwritten, Written, fault_line, label_at, layout_table, look_into,
+};
 use naga_json::Known;
 use naga_wgsl_out::info::{Unaccepted, unaccepted};
-use naga_wgsl_out::wgsl::Error;
+use naga_wgsl_out::ir::Module;
+use naga_wgsl_out::wgsl::{Error, Refusal};
 use std::alloc::Global;
 use std::fmt::Display;
 use std::io::{BufReader, Read, Write};
-use std::rt::Files;
+use std::rt::{Clock, Files};
 use std::{fs, io};
 
 #[cfg(test)]
@@ -26,15 +31,17 @@ pub const REFUSED: u8 = 1;
 pub const FAILED: u8 = 2;
 
 /// Does what the words ask for, of which the first is the program's name, and gives the status.
-/// What is told of a failure or a refusal goes to `err`; a failure of `err` changes nothing.
-pub fn run<R: Files + Input + AllocGlobal, O: Write, E: Write>(
+/// What is told of a failure or a refusal goes to `err`, and so does, where someone watches it, how
+/// far a run over many modules has come; a failure of `err` changes nothing.
+pub fn run<R: Files + Input + Clock + AllocGlobal, O: Write, E: Write>(
     rt: &R,
     words: &[String],
     out: &mut O,
     err: &mut E,
+    is_watched: bool,
 ) -> u8 {
     match request_of(rt.alloc(), words) {
-        Ok(request) => serve(rt, request, out, err),
+        Ok(request) => serve(rt, request, out, err, is_watched),
         Err(error) => tell_words(error, out, err),
     }
 }
@@ -49,29 +56,27 @@ fn tell_words<O: Write, E: Write>(error: clap::Error, out: &mut O, err: &mut E) 
     }
 }
 
-fn serve<R: Files + Input + AllocGlobal, O: Write, E: Write>(
+fn serve<R: Files + Input + Clock + AllocGlobal, O: Write, E: Write>(
     rt: &R,
     request: Request<'_>,
     out: &mut O,
     err: &mut E,
+    is_watched: bool,
 ) -> u8 {
     match request.task {
-        Task::Lines => serve_lines(rt, request, out, err),
-        Task::Write | Task::Check | Task::Layout => serve_module(rt, request, out, err),
+        Task::Lines => serve_lines(rt, request, out, err, is_watched),
+        _ => serve_module(rt, request, out, err),
     }
 }
 
-fn serve_lines<R: Files + Input + AllocGlobal, O: Write, E: Write>(
+fn serve_lines<R: Files + Input + Clock + AllocGlobal, O: Write, E: Write>(
     rt: &R,
     request: Request<'_>,
     out: &mut O,
     err: &mut E,
+    is_watched: bool,
 ) -> u8 {
-    let done = if request.module == "-" {
-        read_lines(rt.alloc(), request, Ok(rt.reader()), out)
-    } else {
-        read_lines(rt.alloc(), request, fs::open(rt, request.module), out)
-    };
+    let done = watch_lines(rt, request, out, err, is_watched);
     match done {
         Ok(()) => 0,
         Err(failure) => fail(failure, err),
@@ -90,16 +95,36 @@ fn serve_module<R: Files + Input + AllocGlobal, O: Write, E: Write>(
     }
 }
 
+/// Answers the lines of the input, and tells how far it has come.
+fn watch_lines<'a, R: Files + Input + Clock + AllocGlobal, O: Write, E: Write>(
+    rt: &R,
+    request: Request<'a>,
+    out: &mut O,
+    err: &mut E,
+    is_watched: bool,
+) -> Result<(), Failure<'a>> {
+    let mut progress = Progress::new(rt, err, is_watched);
+    let done = if request.module == "-" {
+        read_lines(rt.alloc(), request, Ok(rt.reader()), out, &mut progress)
+    } else {
+        let input = fs::open(rt, request.module);
+        read_lines(rt.alloc(), request, input, out, &mut progress)
+    };
+    progress.finish();
+    done
+}
+
 /// Answers the lines of an input, where it could be opened.
-fn read_lines<'a, I: Read + Drop, O: Write>(
+fn read_lines<'a, I: Read + Drop, O: Write, R: Clock, E: Write>(
     alloc: Global,
     request: Request<'a>,
     input: io::Result<I>,
     out: &mut O,
+    progress: &mut Progress<'_, R, E>,
 ) -> Result<(), Failure<'a>> {
     let name = request.module;
     match buffered(alloc, input) {
-        Ok(input) => answer_lines(alloc, name, input, request.style, out),
+        Ok(input) => answer_lines(alloc, name, input, request.style, out, progress),
         Err(error) => Err(Failure::Input(name, error)),
     }
 }
@@ -117,8 +142,9 @@ fn answer<O: Write, E: Write>(
     err: &mut E,
 ) -> u8 {
     match request.task {
-        Task::Check => check(known, out, err),
-        Task::Layout => tell_layouts(alloc, known, out, err),
+        Task::Check => check(alloc, request, known, out, err),
+        Task::Layout => tell_layouts(alloc, request, known, out, err),
+        Task::Explain => explain(alloc, request, known, out, err),
         Task::Write | Task::Lines => print_text(alloc, request, known, out, err),
     }
 }
@@ -132,22 +158,57 @@ fn print_text<O: Write, E: Write>(
     err: &mut E,
 ) -> u8 {
     match write_in(alloc, request.style, known) {
-        Ok(written) => print_written(written, out, err),
-        Err(unaccepted) => refuse_unaccepted(unaccepted, err),
+        Ok(written) => print_written(written, &known.module, out, err),
+        Err(unwritten) => tell_unwritten(alloc, known, unwritten, err),
     }
 }
 
-fn check<O: Write, E: Write>(known: &Known, out: &mut O, err: &mut E) -> u8 {
+fn check<O: Write, E: Write>(
+    alloc: Global,
+    request: Request<'_>,
+    known: &Known,
+    out: &mut O,
+    err: &mut E,
+) -> u8 {
+    if let Err(unwritten) = look_into(alloc, &known.module, request.style.limits.nesting) {
+        return tell_unwritten(alloc, known, unwritten, err);
+    }
     match unaccepted(&known.module, &known.info) {
-        Some(fault) => refuse_unaccepted(fault, err),
+        Some(fault) => refuse_unaccepted(alloc, known, fault, err),
         None => print("accepted\n", out, err),
     }
 }
 
+/// Prints why the module has no text.
+fn explain<O: Write, E: Write>(
+    alloc: Global,
+    request: Request<'_>,
+    known: &mut Known,
+    out: &mut O,
+    err: &mut E,
+) -> u8 {
+    match explanation(alloc, request.style, known) {
+        Ok(Explanation { text, is_written }) => match print(text, out, err) {
+            0 if !is_written => REFUSED,
+            status => status,
+        },
+        Err(_) => fail(Failure::Memory, err),
+    }
+}
+
 /// Prints where the members of the module's structs stand.
-fn tell_layouts<O: Write, E: Write>(alloc: Global, known: &Known, out: &mut O, err: &mut E) -> u8 {
+fn tell_layouts<O: Write, E: Write>(
+    alloc: Global,
+    request: Request<'_>,
+    known: &Known,
+    out: &mut O,
+    err: &mut E,
+) -> u8 {
+    if let Err(unwritten) = look_into(alloc, &known.module, request.style.limits.nesting) {
+        return tell_unwritten(alloc, known, unwritten, err);
+    }
     match unaccepted(&known.module, &known.info) {
-        Some(fault) => refuse_unaccepted(fault, err),
+        Some(fault) => refuse_unaccepted(alloc, known, fault, err),
         None => match layout_table(alloc, &known.module, &known.info) {
             Ok(table) => print(table, out, err),
             Err(error) => tell_error(error, err),
@@ -155,11 +216,30 @@ fn tell_layouts<O: Write, E: Write>(alloc: Global, known: &Known, out: &mut O, e
     }
 }
 
-fn print_written<O: Write, E: Write>(written: Written<String>, out: &mut O, err: &mut E) -> u8 {
-    let Written { answer, sink } = written;
-    match answer {
-        Ok(()) => print(sink, out, err),
-        Err(error) => tell_error(error, err),
+fn print_written<O: Write, E: Write>(
+    written: Written<String>,
+    module: &Module,
+    out: &mut O,
+    err: &mut E,
+) -> u8 {
+    let Written {
+        answer,
+        refusal,
+        sink,
+    } = written;
+    match (answer, refusal) {
+        (Ok(()), _) => print(sink, out, err),
+        (Err(_), Some(refusal)) => refuse_at(refusal, module, err),
+        (Err(error), None) => tell_error(error, err),
+    }
+}
+
+/// Tells what the module is refused for, where that stands, and the label of the function there.
+fn refuse_at<E: Write>(refusal: Refusal, module: &Module, err: &mut E) -> u8 {
+    let told = JsonRefusal(refusal);
+    match label_at(module, refusal.place) {
+        Some(label) => refuse(format_args!("{told}, in {label:?}"), err),
+        None => refuse(told, err),
     }
 }
 
@@ -183,11 +263,24 @@ fn write_and_flush<O: Write>(text: impl Display + Drop, out: &mut O) -> io::Resu
     out.flush()
 }
 
-fn refuse_unaccepted<E: Write>(unaccepted: Unaccepted, err: &mut E) -> u8 {
-    let place = JsonPlace(unaccepted.item);
-    let fault = unaccepted.fault;
-    let _ = writeln!(err, "not accepted: {place}: {fault}");
-    REFUSED
+/// Tells where and why the module is not accepted, and what was wanted there.
+fn refuse_unaccepted<E: Write>(alloc: Global, known: &Known, fault: Unaccepted, err: &mut E) -> u8 {
+    match fault_line(alloc, &known.module, &known.info, fault) {
+        Ok(line) => {
+            let _ = writeln!(err, "not accepted: {line}");
+            REFUSED
+        }
+        Err(_) => fail(Failure::Memory, err),
+    }
+}
+
+/// Tells why the writer was not asked for a module, or was stopped at it.
+fn tell_unwritten<E: Write>(alloc: Global, known: &Known, unwritten: Unwritten, err: &mut E) -> u8 {
+    match unwritten {
+        Unwritten::NotAccepted(fault) => refuse_unaccepted(alloc, known, fault, err),
+        Unwritten::Memory(_) => fail(Failure::Memory, err),
+        reason => refuse(reason, err),
+    }
 }
 
 fn refuse<E: Write>(reason: impl Display + Drop, err: &mut E) -> u8 {

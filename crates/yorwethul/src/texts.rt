@@ -1,11 +1,11 @@
 //! How texts are written.
 
-use module_answers::{Written, flags_for, write, write_told};
+use module_answers::{Unwritten, Written, flags_for, write_told_within, write_within};
 use naga_json::Known;
-use naga_wgsl_out::info::Unaccepted;
+use naga_wgsl_out::wgsl::Limits;
 use std::alloc::Global;
 
-/// How texts are written.
+/// How texts are written, and within which limits.
 #[derive(Clone, Copy, Debug, PartialEq, Eq)]
 pub struct Style {
     /// Whether each `let` tells its type.
@@ -13,6 +13,8 @@ pub struct Style {
     /// Whether floats are kept as the module has them, so that one that is held as its bits is
     /// refused, and the text has nothing that only standard compilers ask for.
     pub plain: bool,
+    /// How deep a module may be nested, and how long its text may be.
+    pub limits: Limits,
 }
 
 /// Writes the module in this style. Where that is not plain, its floats are told by numerals first.
@@ -20,12 +22,12 @@ pub fn write_in(
     alloc: Global,
     style: Style,
     known: &mut Known,
-) -> Result<Written<String>, Unaccepted> {
+) -> Result<Written<String>, Unwritten> {
     let flags = flags_for(style.explicit_types, !style.plain);
-    let sink = String::new(alloc);
+    let limits = style.limits;
     if style.plain {
-        write(alloc, &known.module, &mut known.info, flags, sink)
+        write_within(alloc, &known.module, &mut known.info, flags, limits)
     } else {
-        write_told(alloc, &mut known.module, &mut known.info, flags, sink)
+        write_told_within(alloc, &mut known.module, &mut known.info, flags, limits)
     }
 }

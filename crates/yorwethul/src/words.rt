@@ -1,7 +1,8 @@
 //! The words that the program is called with.
 
 use crate::texts::Style;
-use clap::{Arg, ArgAction, ArgMatches, Command, Error};
+use clap::{Arg, ArgAction, ArgMatches, Command, Error, value_parser};
+use naga_wgsl_out::wgsl::Limits;
 use std::alloc::{AllocError, Global};
 
 /// What is done with the modules that are read.
@@ -13,6 +14,8 @@ pub enum Task {
     Check,
     /// It is told where the members of one module's structs stand.
     Layout,
+    /// It is shown why one module has no text.
+    Explain,
     /// Many modules are answered, one a line.
     Lines,
 }
@@ -43,9 +46,24 @@ fn request_in<'a>(matches: &ArgMatches<'a>) -> Request<'a> {
         style: Style {
             explicit_types: matches.get_flag("explicit-types"),
             plain: matches.get_flag("plain"),
+            limits: limits_in(matches),
         },
         module: matches.get_str("module").unwrap_or("-"),
         info: matches.get_str("info"),
+    }
+}
+
+/// How deep a module may be nested where the words say nothing: half of what 8 MB of stack hold
+/// (`docs/SPEED.md`).
+const NESTING: usize = 4_000;
+
+/// How many bytes a text may have where the words say nothing.
+const LONGEST_TEXT: usize = 67_108_864;
+
+fn limits_in(matches: &ArgMatches<'_>) -> Limits {
+    Limits {
+        nesting: matches.get_one::<usize>("nesting").unwrap_or(NESTING),
+        text: matches.get_one::<usize>("text").unwrap_or(LONGEST_TEXT),
     }
 }
 
@@ -56,6 +74,8 @@ fn task_in(matches: &ArgMatches<'_>) -> Task {
         Task::Layout
     } else if matches.get_flag("check") {
         Task::Check
+    } else if matches.get_flag("explain") {
+        Task::Explain
     } else {
         Task::Write
     }
@@ -67,9 +87,9 @@ const ABOUT: &str =
 const AFTER_HELP: &str = "\
 The file holds an object with the members module and info, as serde writes naga's Module and
 ModuleInfo. With --lines each line is such an object, which may have the members explicit_types,
-plain and id beside; explicit_types and plain, true or false, hold in place of --explicit-types
-and --plain. It is answered before the next line is read, by one line, an object with the same id
-and with one of the members text, refused, not_accepted and error.
+plain, nesting, text and id beside; the first two, true or false, and the next two, numbers, hold
+in place of the options of these names. It is answered before the next line is read, by one line,
+an object with the same id and with one of the members text, refused, not_accepted and error.
 
 Literals of floats are written by the digits that Rust's formatting gives, and the text has what
 standard compilers ask for, as enable subgroups. With --plain neither is so, as by the library
@@ -78,9 +98,16 @@ without flags: a literal of a float that the module holds as its bits is then re
 With --layout each struct that the text declares has a line, and so has each of its members, with
 its offset and what WGSL gives to its type, in bytes, or why the member can't stay where it is.
 
+With --explain the standard output has the reason why there is no text, and a numbered listing of
+the function's expressions and statements, or of the declarations, around the place of the fault.
+
+A module is refused where operands, types or blocks stand in one another on more levels than
+--nesting allows, since each takes some of the stack, or where its text has more bytes than --text.
+
 The status is 0; 1 where the module is refused or not accepted; 2 where the words are wrong, the
 input is no module, something cannot be read or written, or memory is refused. With --lines it is
-0 or 2, since each line of the output tells what becomes of its module.";
+0 or 2, since each line of the output tells what becomes of its module. Where the error output is a
+terminal and the output is none, a line there tells how far the run has come.";
 
 fn command<'a>(alloc: Global) -> Result<Command<'a>, AllocError> {
     Command::new(alloc, "yorwethul")
@@ -91,8 +118,11 @@ fn command<'a>(alloc: Global) -> Result<Command<'a>, AllocError> {
         .arg(plain(alloc))?
         .arg(check(alloc)?)?
         .arg(layout(alloc)?)?
+        .arg(explain(alloc)?)?
         .arg(lines(alloc)?)?
         .arg(info(alloc))?
+        .arg(nesting(alloc))?
+        .arg(text(alloc))?
         .arg(module(alloc))
 }
 
@@ -123,10 +153,18 @@ fn layout<'a>(alloc: Global) -> Result<Arg<'a>, AllocError> {
         .conflicts_with("plain")
 }
 
+fn explain<'a>(alloc: Global) -> Result<Arg<'a>, AllocError> {
+    let help = "Shows why there is no text: what the fault is, with the lines around its place";
+    flag(alloc, "explain", help)
+        .conflicts_with("check")?
+        .conflicts_with("layout")
+}
+
 fn lines<'a>(alloc: Global) -> Result<Arg<'a>, AllocError> {
     flag(alloc, "lines", "Answers many modules, one a line")
         .conflicts_with("check")?
         .conflicts_with("layout")?
+        .conflicts_with("explain")?
         .conflicts_with("info")
 }
 
@@ -134,6 +172,24 @@ fn info<'a>(alloc: Global) -> Arg<'a> {
     Arg::new(alloc, "info").long("info").value_name("FILE").help(
         "What is known of the module, where the first file holds the module alone",
     )
+}
+
+fn nesting<'a>(alloc: Global) -> Arg<'a> {
+    let help = "How deep operands, types and blocks may stand in one another: 4000";
+    number(alloc, "nesting", "LEVELS", help)
+}
+
+fn text<'a>(alloc: Global) -> Arg<'a> {
+    let help = "How many bytes a text may have: 67108864";
+    number(alloc, "text", "BYTES", help)
+}
+
+fn number<'a>(alloc: Global, name: &'a str, value: &'a str, help: &'a str) -> Arg<'a> {
+    Arg::new(alloc, name)
+        .long(name)
+        .value_name(value)
+        .value_parser(value_parser!(usize))
+        .help(help)
 }
 
 fn module<'a>(alloc: Global) -> Arg<'a> {

@@ -1,8 +1,8 @@
 -- What a call tells, from what its steps say.
-use Rattle.std.proofs.Common.{◌≡◌, ◌≤◌, ◌∙◌, ℕ, List, [], Err, None, Ok, Option, Result, Some, ap, inl, inr, is_none, refl, subst, sym, arith}
+use Rattle.std.proofs.Common.{◌≡◌, ◌≤◌, ◌∙◌, ℕ, List, [], Err, None, Ok, Option, Result, Some, ap, inl, inr, is_none, length, refl, subst, sym, arith}
 use Rattle.std.proofs.lemmas.Bool.{le-leb, lt-leb}
 use Rattle.told_floats.specs.Told.{IsToldModule}
-use Rattle.std.specs.Prelude.{◌<◌, ◌%◌, ◌⊎◌, IfErr, IfSome, IsTrue}
+use Rattle.std.specs.Prelude.{◌<◌, ◌%◌, ◌⊎◌, IfSome, IsTrue}
 use Rattle.naga_ir.specs.declared.module.Module.{Module}
 use Rattle.naga_info.specs.declared.info.ModuleInfo.{ModuleInfo}
 use Rattle.module_meaning.specs.Accepted.{is_accepted}
@@ -15,7 +15,10 @@ use Rattle.naga_wgsl_out.specs.Headline.{FaithfulWriting}
 use Rattle.naga_wgsl_out.specs.Writing.{AppendsItsText}
 use Rattle.naga_acceptance.specs.Faults.{Fails}
 use Rattle.naga_acceptance.specs.declared.faults.Unaccepted.{Unaccepted}
-use Rattle.yorwethul_c.specs.Answers.{IsAccepted, IsNotAccepted, IsStopped, IsWritten, LacksMemory, Says, SaysOfError, SaysOfWritten}
+use Rattle.module_answers.specs.Within.{IsUnwritten, TellsDepth}
+use Rattle.module_answers.specs.declared.within.Unwritten.{Unwritten}
+use Rattle.module_answers.specs.declared.within.Unwritten.TheVariants as unwritten
+use Rattle.yorwethul_c.specs.Answers.{IsAccepted, IsNotAccepted, IsStopped, IsTooDeep, IsTooLong, IsWritten, LacksMemory, Says, SaysOfError, SaysOfUnwritten, SaysOfWritten, deepest_nesting, longest_text}
 use Rattle.yorwethul_c.specs.Answers.{TellsOfChecking, TellsOfLayouts, TellsOfReading, TellsOfWriting}
 use Rattle.yorwethul_c.specs.Answers.{IsAsAsked, status_of_error, tells_floats}
 use Rattle.yorwethul_c.specs.declared.status.Status.{Status}
@@ -37,7 +40,7 @@ said Tells wanted told text tells lacks (inr less) = lacking Tells told text lac
 pub unread_written : (json : List ℕ) (flags : ℕ) (told : Status) (text : List ℕ) → TellsOfReading json told text →
     TellsOfWriting json flags told text
 unread_written json flags status.NoModule text tells = tells
-unread_written json flags status.TooDeep text tells = tells
+unread_written json flags status.TooDeep text tells = inl tells
 unread_written json flags status.OutOfMemory text tells = tells
 unread_written json flags status.Done text tells = absurd tells
 unread_written json flags status.Refused text tells = absurd tells
@@ -47,7 +50,7 @@ unread_written json flags status.TooLong text tells = absurd tells
 
 pub unread_checked : (json : List ℕ) (told : Status) (text : List ℕ) → TellsOfReading json told text → TellsOfChecking json told text
 unread_checked json status.NoModule text tells = tells
-unread_checked json status.TooDeep text tells = tells
+unread_checked json status.TooDeep text tells = inl tells
 unread_checked json status.OutOfMemory text tells = tells
 unread_checked json status.Done text tells = absurd tells
 unread_checked json status.Refused text tells = absurd tells
@@ -57,7 +60,7 @@ unread_checked json status.TooLong text tells = absurd tells
 
 pub unread_laid_out : (json : List ℕ) (told : Status) (text : List ℕ) → TellsOfReading json told text → TellsOfLayouts json told text
 unread_laid_out json status.NoModule text tells = tells
-unread_laid_out json status.TooDeep text tells = tells
+unread_laid_out json status.TooDeep text tells = inl tells
 unread_laid_out json status.OutOfMemory text tells = tells
 unread_laid_out json status.Done text tells = absurd tells
 unread_laid_out json status.Refused text tells = absurd tells
@@ -72,10 +75,33 @@ pub faulty : (m : Module) (read : ModuleInfo) (found : Option Unaccepted) (fault
 faulty m read found fault is fails =
     record { m = m; read = read; fault = fault; fails = subst (λ r. IfSome r (Fails m read)) is fails }
 
-pub faulty_writing : {A : Type 0} (m : Module) (read : ModuleInfo) (given : Result A Unaccepted) (fault : Unaccepted) →
-    given ≡ Err fault → IfErr given (Fails m read) → IsNotAccepted
-faulty_writing m read given fault is fails =
-    record { m = m; read = read; fault = fault; fails = subst (λ r. IfErr r (Fails m read)) is fails }
+-- it is nested too deep, or memory was wanting for the question
+pub too_deep : (Tells : Status → List ℕ → Type 0) (m : Module) (reason : Unwritten) (told : Status) (text : List ℕ) →
+    (IsTooDeep → Tells status.TooDeep text) → Tells status.OutOfMemory [] →
+    TellsDepth deepest_nesting m reason → SaysOfUnwritten reason told text → Tells told text
+too_deep Tells m (unwritten.TooDeep nested) told text deep lacks past says =
+    said Tells status.TooDeep told text (deep (record { m = m; nested = nested; past = past })) lacks says.0
+too_deep Tells m (unwritten.NotAccepted fault) told text deep lacks past says = absurd past
+too_deep Tells m unwritten.TooLong told text deep lacks past says = absurd past
+too_deep Tells m (unwritten.Memory error) told text deep lacks past says =
+    said Tells status.OutOfMemory told text (subst (Tells status.OutOfMemory) (sym (says.1 refl)) lacks) lacks says.0
+
+-- the writer was not asked for it, or was stopped
+pub not_written : (json : List ℕ) (flags : ℕ) (writer : WriterFlags) (given m : Module) (read info : ModuleInfo)
+    (reason : Unwritten) (told : Status) (text : List ℕ) →
+    flags ≤ 7 → bits_of writer ≡ flags % 4 → (reason ≡ unwritten.TooLong → IsAsAsked (tells_floats flags) given m) →
+    IsUnwritten writer (record { nesting = deepest_nesting; text = longest_text }) given m read info reason →
+    SaysOfUnwritten reason told text → TellsOfWriting json flags told text
+not_written json flags writer given m read info (unwritten.TooDeep nested) told text known bits asked is says =
+    said (TellsOfWriting json flags) status.TooDeep told text (inr (record { m = given; nested = nested; past = is.0 })) refl says.0
+not_written json flags writer given m read info (unwritten.NotAccepted fault) told text known bits asked is says =
+    said (TellsOfWriting json flags) status.NotAccepted told text (record { m = given; read = read; fault = fault; fails = is.1 }) refl says.0
+not_written json flags writer given m read info unwritten.TooLong told text known bits asked is says =
+    let long : IsTooLong flags =
+    record { flags_are_known = known; writer = writer; has_bits = bits; given = given; m = m; is_as_asked = asked refl; read = read; info = info; accepted = is.accepted; counted = is.counted; longer = is.longer } in
+    said (TellsOfWriting json flags) status.TooLong told text long refl says.0
+not_written json flags writer given m read info (unwritten.Memory error) told text known bits asked is says =
+    said (TellsOfWriting json flags) status.OutOfMemory told text (says.1 refl) refl says.0
 
 pub accepted_by : (m : Module) (read : ModuleInfo) (found : Option Unaccepted) →
     found ≡ None → is_none found ≡ is_accepted m read → IsAccepted
@@ -97,7 +123,7 @@ stopped : (json : List ℕ) (flags : ℕ) (e : Error) (told : Status) (text : Li
 stopped json flags (error.Memory e) told text is says =
     said (TellsOfWriting json flags) status.OutOfMemory told text (says.1 refl) refl says.0
 stopped json flags (error.FmtError e) told text is says =
-    said (TellsOfWriting json flags) status.TooLong told text is refl says.0
+    said (TellsOfWriting json flags) status.Refused told text is refl says.0
 stopped json flags (error.Custom e) told text is says =
     said (TellsOfWriting json flags) status.Refused told text is refl says.0
 stopped json flags (error.Unimplemented e) told text is says =
@@ -124,20 +150,18 @@ pub wrote : (json : List ℕ) (flags : ℕ) (writer : WriterFlags) (given m : Mo
     flags ≤ 7 → bits_of writer ≡ flags % 4 → IsAsAsked (tells_floats flags) given m →
     IsTrue (is_accepted given read) → IsCounted m read info →
     FaithfulWriting writer m info answer [] content 0 failures →
-    AppendsItsText m info writer answer [] content →
+    AppendsItsText m info writer answer [] content → length content ≤ longest_text →
     SaysOfWritten answer content told text → TellsOfWriting json flags told text
 wrote json flags writer given m read info (Ok tt) content failures told text known bits asked accepted counted faithful
-    appends (inl is) =
+    appends within is =
     let moved : FaithfulWriting writer m info (Ok tt) [] text 0 0 =
     subst (λ now. FaithfulWriting writer m info (Ok tt) [] now 0 0) (sym is.1)
     (no_failures writer m info content failures faithful) in
     let done : IsWritten flags text =
-    record { flags_are_known = known; writer = writer; has_bits = bits; given = given; m = m; is_as_asked = asked; read = read; info = info; accepted = accepted; counted = counted; faithful = moved; text_is = is.1 ∙ appends } in
+    record { flags_are_known = known; writer = writer; has_bits = bits; given = given; m = m; is_as_asked = asked; read = read; info = info; accepted = accepted; counted = counted; faithful = moved; text_is = is.1 ∙ appends; is_within = subst (λ t. length t ≤ longest_text) (sym is.1) within } in
     subst (λ s. TellsOfWriting json flags s text) (sym is.0) done
-wrote json flags writer given m read info (Ok tt) content failures told text known bits asked accepted counted faithful
-    appends (inr less) = lacking (TellsOfWriting json flags) told text refl less
 wrote json flags writer given m read info (Err e) content failures told text known bits asked accepted counted faithful
-    appends says =
+    appends within says =
     stopped json flags e told text
     (record { flags_are_known = known; writer = writer; has_bits = bits; given = given; m = m; is_as_asked = asked; read = read; info = info; error = e; beginning = content; failures = failures; accepted = accepted; counted = counted; faithful = faithful; told_is = refl })
     says

@@ -2,8 +2,8 @@
 --
 -- Throughout, m is a module, read is what is known of it, info is the same with the uses counted, and
 -- json is the bytes that a call was given.
-use Rattle.std.specs.Prelude.{◌≡◌, ◌≤◌, ⊤, ℕ, ◌%◌, ◌++◌, ◌⊎◌, Bool, true, false, IsTrue}
-use Rattle.std.specs.Prelude.{List, [], length}
+use Rattle.std.specs.Prelude.{◌≡◌, ◌<◌, ◌≤◌, ⊤, ℕ, ◌%◌, ◌++◌, ◌⊎◌, Bool, true, false, IsTrue}
+use Rattle.std.specs.Prelude.{List, [], Some, length}
 use Rattle.std.specs.Prelude.{drop, if◌then◌else◌, nat_le, Result, Ok, Err}
 use Rattle.naga_ir.specs.declared.module.Module.{Module}
 use Rattle.naga_info.specs.declared.info.ModuleInfo.{ModuleInfo}
@@ -12,6 +12,10 @@ use Rattle.naga_back.specs.declared.flags.WriterFlags.{WriterFlags}
 use Rattle.naga_acceptance.specs.Faults.{Fails}
 use Rattle.naga_acceptance.specs.declared.faults.Unaccepted.{Unaccepted}
 use Rattle.module_meaning.specs.Accepted.{is_accepted}
+use Rattle.module_answers.specs.declared.within.Unwritten.{Unwritten}
+use Rattle.module_answers.specs.declared.within.Unwritten.TheVariants as unwritten
+use Rattle.module_limits.specs.Nesting.{nested_past}
+use Rattle.module_limits.specs.declared.nesting.Nested.{Nested}
 use Rattle.naga_form.specs.Declarations.{written_program}
 use Rattle.wgsl_text.specs.Reading.{layout}
 use Rattle.naga_wgsl_fns.specs.declared.error.Error.{Error}
@@ -55,11 +59,24 @@ pub record HandsOut (Tells : Status → List ℕ → Type 0) (number needed : �
 
 -- ---- what each status tells
 
--- the status of an error of the writer, whose sink fails only past the longest text
+-- the status of an error of the writer
 abbrev pub status_of_error : Error → Status
 status_of_error (error.Memory e) = status.OutOfMemory
-status_of_error (error.FmtError e) = status.TooLong
 status_of_error _ = status.Refused
+
+-- the status of what the writer was not asked for, or stopped at
+abbrev pub status_of_unwritten : Unwritten → Status
+status_of_unwritten (unwritten.TooDeep nested) = status.TooDeep
+status_of_unwritten (unwritten.NotAccepted fault) = status.NotAccepted
+status_of_unwritten unwritten.TooLong = status.TooLong
+status_of_unwritten (unwritten.Memory error) = status.OutOfMemory
+
+-- how many bytes a text may have, and how deep a module may be nested
+abbrev pub longest_text : ℕ
+longest_text = 67108864
+
+abbrev pub deepest_nesting : ℕ
+deepest_nesting = 4000
 
 -- Of the flags in yorwethul.h the two lowest bits are the writer's own. The next one asks that the
 -- floats of a module are told before it is written; else it is written as it is given.
@@ -84,6 +101,21 @@ pub record IsWritten (flags : ℕ) (text : List ℕ) : Type 0 where
   pub counted : IsCounted m read info
   pub faithful : FaithfulWriting writer m info (Ok tt) [] text 0 0
   pub text_is : text ≡ layout (written_program m info writer)
+  pub is_within : length text ≤ longest_text
+
+-- The text of an accepted module, written as asked, would be longer than it may be.
+pub record IsTooLong (flags : ℕ) : Type 0 where
+  pub flags_are_known : flags ≤ 7
+  pub writer : WriterFlags
+  pub has_bits : bits_of writer ≡ flags % 4
+  pub given : Module
+  pub m : Module
+  pub is_as_asked : IsAsAsked (tells_floats flags) given m
+  pub read : ModuleInfo
+  pub info : ModuleInfo
+  pub accepted : IsTrue (is_accepted given read)
+  pub counted : IsCounted m read info
+  pub longer : longest_text < length (layout (written_program m info writer))
 
 -- The writer stopped at an accepted module, by an error of this status. So a refusal is for a
 -- listed construct that stands in the module.
@@ -103,6 +135,12 @@ pub record IsStopped (flags : ℕ) (told : Status) : Type 0 where
   pub counted : IsCounted m read info
   pub faithful : FaithfulWriting writer m info (Err error) [] beginning 0 failures
   pub told_is : status_of_error error ≡ told
+
+-- A module was read of which this is nested too deep.
+pub record IsTooDeep : Type 0 where
+  pub m : Module
+  pub nested : Nested
+  pub past : nested_past deepest_nesting m ≡ Some nested
 
 -- A module was read that is accepted.
 pub record IsAccepted : Type 0 where
@@ -125,11 +163,16 @@ TellsOfReading json status.TooDeep text = IsTrue (nest_past 127 within.Outside 0
 TellsOfReading json status.OutOfMemory text = text ≡ []
 TellsOfReading json _ text = ⊥
 
+-- of what nests too deep: the bytes, or the module that they hold
+abbrev pub TellsOfDepth : (json : List ℕ) → Type 0
+TellsOfDepth json = IsTrue (nest_past 127 within.Outside 0 json) ⊎ IsTooDeep
+
 -- of a module that is to be written
 abbrev pub TellsOfWriting : (json : List ℕ) (flags : ℕ) → Status → (text : List ℕ) → Type 0
 TellsOfWriting json flags status.Done text = IsWritten flags text
 TellsOfWriting json flags status.Refused text = IsStopped flags status.Refused
-TellsOfWriting json flags status.TooLong text = IsStopped flags status.TooLong
+TellsOfWriting json flags status.TooLong text = IsTooLong flags
+TellsOfWriting json flags status.TooDeep text = TellsOfDepth json
 TellsOfWriting json flags status.NotAccepted text = IsNotAccepted
 TellsOfWriting json flags status.UnknownFlag text = 8 ≤ flags
 TellsOfWriting json flags told text = TellsOfReading json told text
@@ -138,6 +181,7 @@ TellsOfWriting json flags told text = TellsOfReading json told text
 abbrev pub TellsOfChecking : (json : List ℕ) → Status → (text : List ℕ) → Type 0
 TellsOfChecking json status.Done text = IsAccepted × (text ≡ [])
 TellsOfChecking json status.NotAccepted text = IsNotAccepted
+TellsOfChecking json status.TooDeep text = TellsOfDepth json
 TellsOfChecking json told text = TellsOfReading json told text
 
 -- of one whose layouts are asked for: it is refused where its items get no names
@@ -145,6 +189,7 @@ abbrev pub TellsOfLayouts : (json : List ℕ) → Status → (text : List ℕ) �
 TellsOfLayouts json status.Done text = IsAccepted
 TellsOfLayouts json status.Refused text = IsAccepted
 TellsOfLayouts json status.NotAccepted text = IsNotAccepted
+TellsOfLayouts json status.TooDeep text = TellsOfDepth json
 TellsOfLayouts json told text = TellsOfReading json told text
 
 -- ---- steps on the way
@@ -163,9 +208,15 @@ SaysOfError error told text =
     Says (status_of_error error) told text
     × (status_of_error error ≡ status.OutOfMemory → text ≡ [])
 
+-- what is told where the writer was not asked or was stopped
+abbrev pub SaysOfUnwritten : Unwritten → Status → (text : List ℕ) → Type 0
+SaysOfUnwritten reason told text =
+    Says (status_of_unwritten reason) told text
+    × (status_of_unwritten reason ≡ status.OutOfMemory → text ≡ [])
+
 -- what is told of the writer's answer, and of what its sink holds
 abbrev pub SaysOfWritten : Result Unit Error → (content : List ℕ) → Status → (text : List ℕ) →
     Type 0
 SaysOfWritten (Ok _) content told text =
-    ((told ≡ status.Done) × (text ≡ content)) ⊎ LacksMemory told text
+    (told ≡ status.Done) × (text ≡ content)
 SaysOfWritten (Err error) content told text = SaysOfError error told text

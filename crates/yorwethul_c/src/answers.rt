@@ -4,22 +4,33 @@ ghost use Rattle.std.specs.Prelude.{◌≡◌, ◌<◌, ◌≤◌, ◌%◌, ℕ,
 ghost use Rattle.naga_back.specs.Flags.{bits_of};
 ghost use Rattle.yorwethul_c.specs.Answers.{LacksMemory, Says, SaysOfError, SaysOfWritten};
 ghost use Rattle.yorwethul_c.specs.Answers.{TellsOfChecking, TellsOfLayouts, TellsOfReading};
-ghost use Rattle.yorwethul_c.specs.Answers.{TellsOfWriting};
+ghost use Rattle.yorwethul_c.specs.Answers.{SaysOfUnwritten, TellsOfWriting};
 
 use crate::nesting::nests_past;
 use crate::status::{Status, status_of};
 use bitflags::Flags;
-use module_answers::{JsonPlace, Written, layout_table, write, write_told};
+use module_answers::{
+    JsonRefusal, Unwritten, Written, fault_line, layout_table, look_into, write_told_within,
+    write_within,
+};
 use naga_json::{Known, ReadError, read_known};
 use naga_wgsl_out::info::{Unaccepted, unaccepted};
-use naga_wgsl_out::sinks::Limited;
-use naga_wgsl_out::wgsl::{Error, WriterFlags};
+use naga_wgsl_out::wgsl::{Error, Limits, Refusal, WriterFlags};
 use std::alloc::{AllocError, Global};
 use std::fmt::Display;
 
 /// How many bytes a text may have. Shaders have shorter ones by far, and a hostile module of a few
 /// kilobytes can ask for a text without end.
 const LONGEST_TEXT: usize = 67_108_864;
+
+/// How deep operands, types and blocks may stand in one another, so that no call takes more of the
+/// stack than `docs/LIBRARY.md` says.
+const DEEPEST_NESTING: usize = 4_000;
+
+const LIMITS: Limits = Limits {
+    nesting: DEEPEST_NESTING,
+    text: LONGEST_TEXT,
+};
 
 /// The flag by which floats are told. Those below it are the writer's own.
 const TELL_FLOATS: u32 = 4;
@@ -40,6 +51,7 @@ pub struct Answer {
 }
 
 /// Writes the module that the JSON holds with what is known of it.
+#[tactic(auto, using(crate::proofs::Told::unread_written))]
 pub fn written(alloc: Global, json: &[u8], flags: u32) -> Answer
     ensures { TellsOfWriting json.now flags result.status (string_bytes result.text) }
 {
@@ -53,6 +65,7 @@ pub fn written(alloc: Global, json: &[u8], flags: u32) -> Answer
 }
 
 /// Says whether the module that the JSON holds is accepted.
+#[tactic(auto, using(crate::proofs::Told::unread_checked))]
 pub fn checked(alloc: Global, json: &[u8]) -> Answer
     ensures { TellsOfChecking json.now result.status (string_bytes result.text) }
 {
@@ -63,6 +76,7 @@ pub fn checked(alloc: Global, json: &[u8]) -> Answer
 }
 
 /// Tells where the members of the structs stand of the module that the JSON holds.
+#[tactic(auto, using(crate::proofs::Told::unread_laid_out))]
 pub fn laid_out(alloc: Global, json: &[u8]) -> Answer
     ensures { TellsOfLayouts json.now result.status (string_bytes result.text) }
 {
@@ -117,16 +131,15 @@ fn written_as_given(alloc: Global, known: &mut Known, flags: u32) -> Answer
     requires known { flags < 4 }
     ensures { (json : List ℕ) → TellsOfWriting json flags result.status (string_bytes result.text) }
 {
-    let sink = Limited::new(alloc, LONGEST_TEXT);
-    match write(
+    match write_within(
         alloc,
         &known.module,
         &mut known.info,
         writer_flags(flags),
-        sink,
+        LIMITS,
     ) {
         Ok(written) => told_written(alloc, written),
-        Err(fault) => not_accepted(alloc, fault),
+        Err(unwritten) => not_written(alloc, known, unwritten),
     }
 }
 
@@ -135,16 +148,15 @@ fn written_told(alloc: Global, known: &mut Known, flags: u32) -> Answer
     requires known { flags ≤ 7 }
     ensures { (json : List ℕ) → TellsOfWriting json flags result.status (string_bytes result.text) }
 {
-    let sink = Limited::new(alloc, LONGEST_TEXT);
-    match write_told(
+    match write_told_within(
         alloc,
         &mut known.module,
         &mut known.info,
         writer_flags(flags),
-        sink,
+        LIMITS,
     ) {
         Ok(written) => told_written(alloc, written),
-        Err(fault) => not_accepted(alloc, fault),
+        Err(unwritten) => not_written(alloc, known, unwritten),
     }
 }
 
@@ -155,32 +167,71 @@ fn writer_flags(flags: u32) -> WriterFlags
     WriterFlags::from_bits_retain(flags % TELL_FLOATS)
 }
 
-fn told_written(alloc: Global, written: Written<Limited>) -> Answer
-    ensures { SaysOfWritten written.answer written.sink.text result.status
+fn told_written(alloc: Global, written: Written<String>) -> Answer
+    ensures { SaysOfWritten written.answer (string_bytes written.sink) result.status
         (string_bytes result.text) }
 {
-    let Written { answer, sink } = written;
+    let Written {
+        answer,
+        refusal,
+        sink,
+    } = written;
     match answer {
-        Ok(()) => settled(alloc, Status::Done, String::from_str(alloc, sink.text())),
-        Err(error) => told_error(alloc, error),
+        Ok(()) => Answer {
+            status: Status::Done,
+            text: sink,
+        },
+        Err(error) => told_error(alloc, error, refusal),
     }
 }
 
-fn told_error(alloc: Global, error: Error) -> Answer
+fn told_error(alloc: Global, error: Error, refusal: Option<Refusal>) -> Answer
     ensures { SaysOfError error result.status (string_bytes result.text) }
 {
     match status_of(&error) {
         Status::OutOfMemory => out_of_memory(alloc),
-        Status::TooLong => told(alloc, Status::TooLong, "text of more than 67108864 bytes"),
-        status => told(alloc, status, error),
+        status => told_refusal(alloc, status, error, refusal),
+    }
+}
+
+/// A status with the construct that is refused and its place, or with the error where no place was
+/// found.
+fn told_refusal(alloc: Global, status: Status, error: Error, refusal: Option<Refusal>) -> Answer
+    ensures { Says status result.status (string_bytes result.text) }
+{
+    match refusal {
+        Some(refusal) => told(alloc, status, JsonRefusal(refusal)),
+        None => told(alloc, status, error),
+    }
+}
+
+/// Tells why the writer was not asked, or was stopped.
+fn not_written(alloc: Global, known: &Known, unwritten: Unwritten) -> Answer
+    ensures { SaysOfUnwritten unwritten result.status (string_bytes result.text) }
+{
+    match unwritten {
+        Unwritten::TooDeep(nested) => told(alloc, Status::TooDeep, nested),
+        Unwritten::NotAccepted(fault) => not_accepted(alloc, known, fault),
+        Unwritten::TooLong => told(alloc, Status::TooLong, "text of more than 67108864 bytes"),
+        Unwritten::Memory(_) => out_of_memory(alloc),
     }
 }
 
 fn checked_known(alloc: Global, known: &Known) -> Answer
     ensures { (json : List ℕ) → TellsOfChecking json result.status (string_bytes result.text) }
 {
+    match look_into(alloc, &known.module, DEEPEST_NESTING) {
+        Ok(()) => checked_flat(alloc, known),
+        Err(unwritten) => not_written(alloc, known, unwritten),
+    }
+}
+
+/// Says whether a module that is nested no deeper than it may be is accepted.
+fn checked_flat(alloc: Global, known: &Known) -> Answer
+    ensures { (json : List ℕ) → TellsOfChecking json result.status (string_bytes result.text) }
+{
     match unaccepted(&known.module, &known.info) {
-        Some(fault) => not_accepted(alloc, fault),
+        Some(fault) => not_accepted(alloc, known, fault),
         None => Answer {
             status: Status::Done,
             text: String::new(alloc),
@@ -191,8 +242,18 @@ fn checked_known(alloc: Global, known: &Known) -> Answer
 fn laid_out_known(alloc: Global, known: &Known) -> Answer
     ensures { (json : List ℕ) → TellsOfLayouts json result.status (string_bytes result.text) }
 {
+    match look_into(alloc, &known.module, DEEPEST_NESTING) {
+        Ok(()) => laid_out_flat(alloc, known),
+        Err(unwritten) => not_written(alloc, known, unwritten),
+    }
+}
+
+/// Tells the layouts of one that is nested no deeper than it may be.
+fn laid_out_flat(alloc: Global, known: &Known) -> Answer
+    ensures { (json : List ℕ) → TellsOfLayouts json result.status (string_bytes result.text) }
+{
     match unaccepted(&known.module, &known.info) {
-        Some(fault) => not_accepted(alloc, fault),
+        Some(fault) => not_accepted(alloc, known, fault),
         None => match layout_table(alloc, &known.module, &known.info) {
             Ok(text) => Answer {
                 status: Status::Done,
@@ -204,12 +265,11 @@ fn laid_out_known(alloc: Global, known: &Known) -> Answer
     }
 }
 
-fn not_accepted(alloc: Global, fault: Unaccepted) -> Answer
+/// Tells where and why the module is not accepted, and what was wanted there.
+fn not_accepted(alloc: Global, known: &Known, fault: Unaccepted) -> Answer
     ensures { Says Status.NotAccepted result.status (string_bytes result.text) }
 {
-    let place = JsonPlace(fault.item);
-    let fault = fault.fault;
-    let text = format!(in alloc; "{place}: {fault}");
+    let text = fault_line(alloc, &known.module, &known.info, fault);
     settled(alloc, Status::NotAccepted, text)
 }
 

@@ -20,7 +20,7 @@ pub enum Status {
     UnknownFlag,
     /// Memory was refused.
     OutOfMemory,
-    /// Lists and objects nest too deep in the bytes.
+    /// Lists and objects nest too deep in the bytes, or the module itself is nested too deep.
     TooDeep,
     /// Its text is too long.
     TooLong,
@@ -44,13 +44,13 @@ impl Status {
     }
 }
 
-/// What an error of the writer says. Its sink fails only where the text is too long.
+/// What an error of the writer says. Its sink fails only where the text is too long, which is told
+/// otherwise.
 pub fn status_of(error: &Error) -> Status
     ensures { result ≡ status_of_error error.now }
 {
     match error {
         Error::Memory(_) => Status::OutOfMemory,
-        Error::FmtError(_) => Status::TooLong,
         _ => Status::Refused,
     }
 }

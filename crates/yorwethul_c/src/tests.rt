@@ -93,8 +93,18 @@ const CALLS: &[(Call, &str, u32, &str)] = &[
     (Call::Write(1), DOUBLE, 0, DOUBLE_TEXT),
     (Call::Write(7), DOUBLE, 0, DOUBLE_TEXT),
     (Call::Write(8), DOUBLE, 4, "a bit is set that no flag has"),
-    (Call::Write(0), FLOAT_LITERAL, 1, "float literal"),
-    (Call::Write(3), FLOAT_LITERAL, 1, "float literal"),
+    (
+        Call::Write(0),
+        FLOAT_LITERAL,
+        1,
+        "float literal: module.functions[0].expressions[0]",
+    ),
+    (
+        Call::Write(3),
+        FLOAT_LITERAL,
+        1,
+        "float literal: module.functions[0].expressions[0]",
+    ),
     (
         Call::Write(4),
         FLOAT_LITERAL,

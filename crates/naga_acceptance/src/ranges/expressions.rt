@@ -5,7 +5,7 @@ ghost use Rattle.std.specs.List.{enumerate_from};
 ghost use Rattle.naga_ir.specs.Operands.{expression_operands};
 ghost use Rattle.module_meaning.specs.Literals.{literal_is_within};
 ghost use Rattle.naga_acceptance.specs.FirstFaults.{expression_range_fault};
-ghost use Rattle.naga_acceptance.specs.FirstFaults.{global_expression_range_fault};
+ghost use Rattle.naga_acceptance.specs.FirstFaults.{global_expression_range_fault, names_fault};
 ghost use Rattle.naga_acceptance.specs.Searching.{first_faulty};
 ghost use Rattle.module_meaning.specs.Ranges.{all_below};
 ghost use Rattle.module_meaning.specs.Ranges.{initialiser_before, names_in_range};
@@ -95,6 +95,17 @@ fn names_in_range(module: &Module, arguments: usize, locals: usize, expression: 
     }
 }
 
+/// The fault of an expression that names what is not there. A literal names nothing, but its
+/// numeral may be out of range.
+fn names_fault(expression: &Expression) -> Fault
+    ensures { result ≡ names_fault expression.now }
+{
+    match expression {
+        Expression::Literal(_) => Fault::Numeral,
+        _ => Fault::Names,
+    }
+}
+
 /// Whether an operand of the expression with this handle does not stand before it, or else what it
 /// names is not there.
 fn expression_range_fault(
@@ -111,7 +122,7 @@ fn expression_range_fault(
         return Some(Fault::Operands);
     }
     if !names_in_range(module, arguments, locals, expression) {
-        return Some(Fault::Names);
+        return Some(names_fault(expression));
     }
     None
 }

@@ -2,6 +2,7 @@ use super::{FAILED, REFUSED, answer, run};
 use crate::texts::Style;
 use crate::words::{Request, Task};
 use naga_json::read_known;
+use naga_wgsl_out::wgsl::Limits;
 use std::alloc::{AllocError, Global};
 use std::io;
 use std::io::Write;
@@ -26,7 +27,7 @@ fn words_give(rt: &HostRuntime, words: &[&str], told: Told) -> Result<bool, Allo
     }
     let mut out = Vec::new(rt.alloc());
     let mut err = Vec::new(rt.alloc());
-    let status = run(rt, &texts, &mut out, &mut err);
+    let status = run(rt, &texts, &mut out, &mut err, false);
     Ok(is_told(told, status, out.as_slice(), err.as_slice()))
 }
 
@@ -92,6 +93,22 @@ const WORDS: &[(&[&str], Told)] = &[
         ),
     ),
     (
+        &["--explain", "--check"],
+        (
+            FAILED,
+            "",
+            "error: the argument '--explain' cannot be used with '--check'",
+        ),
+    ),
+    (
+        &["--lines", "--explain"],
+        (
+            FAILED,
+            "",
+            "error: the argument '--lines' cannot be used with",
+        ),
+    ),
+    (
         &["--layout", "--check"],
         (
             FAILED,
@@ -125,6 +142,23 @@ const WORDS: &[(&[&str], Told)] = &[
     ),
     (
         &["--plain", "--explicit-types", "no/such.json"],
+        (
+            FAILED,
+            "",
+            "no/such.json: No such file or directory (os error 2)\n",
+        ),
+    ),
+    (
+        &["--nesting", "deep"],
+        (
+            FAILED,
+            "",
+            "error: invalid value 'deep' for '--nesting <LEVELS>'",
+        ),
+    ),
+    (&["--text", "-1"], (FAILED, "", "error: ")),
+    (
+        &["--nesting", "1", "--text", "1", "no/such.json"],
         (
             FAILED,
             "",
@@ -278,19 +312,62 @@ struct Out: no layout
 ";
 
 const OPERAND_FAULT: &str = "not accepted: module.functions[0].expressions[1]: \
-    an operand does not stand before the expression\n";
+    an operand does not stand before the expression: \
+    names expressions[1], wanted one before expressions[1]\n";
+
+const OPERAND_LISTING: &str = "\
+not accepted: module.functions[0].expressions[1]: an operand does not stand before the expression
+
+function 0 \"double\"(\"x\": i32) -> i32
+  expressions
+     0  FunctionArgument 0 \"x\"                        i32
+     1  Binary Add left: [1], right: [0]              i32
+        ^ an operand does not stand before the expression
+  statements
+     0  Emit 1..2
+     1  Return value: [1]
+";
 
 /// The style of texts by default.
 const STANDARD: Style = Style {
     explicit_types: false,
     plain: false,
+    limits: LIMITS,
 };
 
 /// That of plain texts.
 const PLAIN: Style = Style {
     explicit_types: false,
     plain: true,
+    limits: LIMITS,
 };
+
+const LIMITS: Limits = Limits {
+    nesting: 4,
+    text: 1_000,
+};
+
+/// That of modules without anything in one another.
+const FLAT: Style = Style {
+    explicit_types: false,
+    plain: true,
+    limits: Limits {
+        nesting: 1,
+        text: 1_000,
+    },
+};
+
+/// That of texts without a byte.
+const SHORT: Style = Style {
+    explicit_types: false,
+    plain: false,
+    limits: Limits {
+        nesting: 4,
+        text: 0,
+    },
+};
+
+const TOO_DEEP: Told = (REFUSED, "", "refused: nested too deep: operands\n");
 
 const DOUBLE_TEXT: &str = "fn double(x: i32) -> i32 {\n    return (x + x);\n}\n\n";
 
@@ -309,13 +386,21 @@ const MODULES: &[(&str, Task, Style, Told)] = &[
         FLOAT_LITERAL,
         Task::Write,
         PLAIN,
-        (REFUSED, "", "refused: float literal\n"),
+        (
+            REFUSED,
+            "",
+            "refused: float literal: module.functions[0].expressions[0], in \"half\"\n",
+        ),
     ),
     (
         INFINITE_LITERAL,
         Task::Write,
         STANDARD,
-        (REFUSED, "", "refused: float literal\n"),
+        (
+            REFUSED,
+            "",
+            "refused: float literal: module.functions[0].expressions[0], in \"endless\"\n",
+        ),
     ),
     (FLOAT_LITERAL, Task::Check, STANDARD, (0, "accepted\n", "")),
     (
@@ -358,14 +443,47 @@ const MODULES: &[(&str, Task, Style, Told)] = &[
         STANDARD,
         (REFUSED, "", OPERAND_FAULT),
     ),
+    (
+        ITS_OWN_OPERAND,
+        Task::Explain,
+        STANDARD,
+        (REFUSED, OPERAND_LISTING, ""),
+    ),
+    (
+        FLOAT_LITERAL,
+        Task::Explain,
+        PLAIN,
+        (REFUSED, "refused: float literal\n", ""),
+    ),
+    (FLOAT_LITERAL, Task::Explain, STANDARD, (0, "written\n", "")),
     (STRUCTS, Task::Check, STANDARD, (0, "accepted\n", "")),
     (
         STRUCTS,
         Task::Write,
         STANDARD,
-        (REFUSED, "", "refused: member off its alignment\n"),
+        (
+            REFUSED,
+            "",
+            "refused: member off its alignment: module.types[2]\n",
+        ),
     ),
     (STRUCTS, Task::Layout, STANDARD, (0, LAYOUTS, "")),
+    (DOUBLE, Task::Write, FLAT, TOO_DEEP),
+    (DOUBLE, Task::Check, FLAT, TOO_DEEP),
+    (DOUBLE, Task::Layout, FLAT, TOO_DEEP),
+    (FLOAT_LITERAL, Task::Check, FLAT, (0, "accepted\n", "")),
+    (
+        STRUCTS,
+        Task::Layout,
+        FLAT,
+        (REFUSED, "", "refused: nested too deep: types\n"),
+    ),
+    (
+        DOUBLE,
+        Task::Write,
+        SHORT,
+        (REFUSED, "", "refused: text too long\n"),
+    ),
 ];
 
 /// The status where this is done with a module, or none where it cannot be read.

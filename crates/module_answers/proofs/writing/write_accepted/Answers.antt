@@ -1,5 +1,8 @@
 use Rattle.std.proofs.Common.{subst, sym}
+use Rattle.std.specs.Prelude.{OnErr}
+use Rattle.naga_words.specs.Sink.{IsBehind}
 use Rattle.naga_wgsl_out.specs.Headline.{FaithfulWriting}
+use Rattle.naga_wgsl_out.specs.Writing.{written_text}
 use Rattle.module_answers.proofs.writing.write_accepted.Goals as goal
 
 -- The writer has these flags and this sink, and ends with its sink.
@@ -23,3 +26,21 @@ returns-clause-faithful g c =
     (text c.new-writer.result.sink) (text now) (failures c.new-writer.result.sink) (failures now))
     (sym c.finish-sink.ensures)
     c.write-answer.ensures.faithful))
+
+-- The same of what stands in the sink where the writer stopped.
+pub returns-clause-beginning : goal.returns-clause-beginning
+returns-clause-beginning g c =
+    let m = c.args.«module».now in
+    let info = c.args.info.now in
+    let answer = c.write-answer.result in
+    let text = g.W.TextSink.text in
+    subst
+    (λ flags. OnErr answer (IsBehind (text c.args.sink) (written_text m info flags) (text c.finish-sink.result)))
+    c.new-writer.ensures.flags
+    (subst
+    (λ old. OnErr answer (IsBehind (text old) (written_text m info c.new-writer.result.flags) (text c.finish-sink.result)))
+    c.new-writer.ensures.sink
+    (subst
+    (λ now. OnErr answer (IsBehind (text c.new-writer.result.sink) (written_text m info c.new-writer.result.flags) (text now)))
+    (sym c.finish-sink.ensures)
+    c.write-answer.ensures.text_err))

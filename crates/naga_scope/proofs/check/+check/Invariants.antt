@@ -6,40 +6,41 @@ use Rattle.naga_scope.specs.KnownFunctions.{IsPointOf, cases_in, expressions_of,
 use Rattle.naga_scope.specs.Log.{Extends, Same}
 use Rattle.naga_scope.specs.Results.{CaseResultsFit, ResultsFit}
 use Rattle.naga_scope.specs.Walks.{after_each}
-use Rattle.shader_runs.specs.Scope.{fits_all, fits_cases, named_by_all, named_by_cases}
+use Rattle.naga_scope.specs.ScopeChecks.{check_all, check_cases}
+use Rattle.shader_runs.specs.Scope.{named_by_all, named_by_cases}
 use Rattle.naga_scope.proofs.check.+check.Given as goal
 
-abbrev pub decreases-lines_hold : goal.decreases-lines_hold
-decreases-lines_hold l = 6 * block_size (block_of l.statements.now) + 1
+abbrev pub decreases-check_lines : goal.decreases-check_lines
+decreases-check_lines l = 6 * block_size (block_of l.statements.now) + 1
 
-abbrev pub decreases-block_holds : goal.decreases-block_holds
-decreases-block_holds l = 6 * block_size l.block.now + 2
+abbrev pub decreases-check_block : goal.decreases-check_block
+decreases-check_block l = 6 * block_size l.block.now + 2
 
-abbrev pub decreases-body_holds : goal.decreases-body_holds
-decreases-body_holds l = 6 * block_size l.body.now + 3
+abbrev pub decreases-check_body : goal.decreases-check_body
+decreases-check_body l = 6 * block_size l.body.now + 3
 
-abbrev pub decreases-if_holds : goal.decreases-if_holds
-decreases-if_holds l = 6 * (block_size l.accept.now + block_size l.reject.now) + 5
+abbrev pub decreases-check_if : goal.decreases-check_if
+decreases-check_if l = 6 * (block_size l.accept.now + block_size l.reject.now) + 5
 
-abbrev pub decreases-cases_hold : goal.decreases-cases_hold
-decreases-cases_hold l = 6 * cases_size (cases_of l.cases.now)
+abbrev pub decreases-check_cases : goal.decreases-check_cases
+decreases-check_cases l = 6 * cases_size (cases_of l.cases.now)
 
-abbrev pub decreases-switch_holds : goal.decreases-switch_holds
-decreases-switch_holds l = 6 * cases_size (cases_of l.cases.now) + 5
+abbrev pub decreases-check_switch : goal.decreases-check_switch
+decreases-check_switch l = 6 * cases_size (cases_of l.cases.now) + 5
 
-abbrev pub decreases-turn_holds : goal.decreases-turn_holds
-decreases-turn_holds l = 6 * (block_size l.body.now + block_size l.continuing.now) + 4
+abbrev pub decreases-check_turn : goal.decreases-check_turn
+decreases-check_turn l = 6 * (block_size l.body.now + block_size l.continuing.now) + 4
 
-abbrev pub decreases-loop_holds : goal.decreases-loop_holds
-decreases-loop_holds l = 6 * (block_size l.body.now + block_size l.continuing.now) + 5
+abbrev pub decreases-check_loop : goal.decreases-check_loop
+decreases-check_loop l = 6 * (block_size l.body.now + block_size l.continuing.now) + 5
 
-abbrev pub decreases-statement_holds : goal.decreases-statement_holds
-decreases-statement_holds l = 6 * statement_size (tree_of l.statement.now)
+abbrev pub decreases-check_statement : goal.decreases-check_statement
+decreases-check_statement l = 6 * statement_size (tree_of l.statement.now)
 
-abbrev pub invariant-lines_hold-loop-statement : goal.invariant-lines_hold-loop-statement
-invariant-lines_hold-loop-statement l = record {
-  holds : fits_all (naming_of l.known) l.scope.named (statements_in l.known (block_of (drop l.statement-index l.statements))) (handles_at l.scope)
-      ≡ fits_all (naming_of l.known) l.initial.scope.named (statements_in l.known (block_of l.statements)) (handles_at l.initial.scope);
+abbrev pub invariant-check_lines-loop-statement : goal.invariant-check_lines-loop-statement
+invariant-check_lines-loop-statement l = record {
+  check : check_all (naming_of l.known) l.scope.named l.number (statements_in l.known (block_of (drop l.statement-index l.statements))) (handles_at l.scope)
+      ≡ check_all (naming_of l.known) l.initial.scope.named l.first (statements_in l.known (block_of l.statements)) (handles_at l.initial.scope);
   behind : after_each (naming_of l.known) l.scope.named (statements_in l.known (block_of (drop l.statement-index l.statements))) (handles_at l.scope)
       ≡ after_each (naming_of l.known) l.initial.scope.named (statements_in l.known (block_of l.statements)) (handles_at l.initial.scope);
   named : named_by_all (shape_of l.known) (statements_in l.known (block_of (drop l.statement-index l.statements))) l.scope.named
@@ -52,10 +53,10 @@ invariant-lines_hold-loop-statement l = record {
   smaller : block_size (block_of (drop l.statement-index l.statements)) ≤ block_size (block_of l.statements);
 }
 
-abbrev pub invariant-cases_hold-loop-case : goal.invariant-cases_hold-loop-case
-invariant-cases_hold-loop-case l = record {
-  holds : fits_cases (naming_of l.known) l.scope.named (cases_in l.known (cases_of (drop l.case-index l.cases))) (handles_at l.scope)
-      ≡ fits_cases (naming_of l.known) l.initial.scope.named (cases_in l.known (cases_of l.cases)) (handles_at l.initial.scope);
+abbrev pub invariant-check_cases-loop-case : goal.invariant-check_cases-loop-case
+invariant-check_cases-loop-case l = record {
+  check : check_cases (naming_of l.known) l.scope.named l.number (cases_in l.known (cases_of (drop l.case-index l.cases))) (handles_at l.scope)
+      ≡ check_cases (naming_of l.known) l.initial.scope.named l.first (cases_in l.known (cases_of l.cases)) (handles_at l.initial.scope);
   named : named_by_cases (shape_of l.known) (cases_in l.known (cases_of (drop l.case-index l.cases))) l.scope.named
       ≡ named_by_cases (shape_of l.known) (cases_in l.known (cases_of l.cases)) l.initial.scope.named;
   results : CaseResultsFit (length (expressions_of l.known)) (cases_of (drop l.case-index l.cases));

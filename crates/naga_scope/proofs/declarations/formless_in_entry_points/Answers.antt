@@ -6,14 +6,14 @@ use Rattle.naga_scope.proofs.declarations.formless_in_entry_points.Goals as goal
 
 pub returns-in-Some : goal.returns-in-Some
 returns-in-Some c =
-    let here = slice_get_read c.args.entry_points.now (length c.args.entry_points.now) c.loop-entry_point.entry_point-index c.entry_point-item.result refl c.loop-entry_point-test.true c.entry_point-item.is in
-    (c.loop-entry_point.entry_point-index, c.entry_point-item.result, here, c.in-Some.ensures)
+    let here = slice_get_read c.args.entry_points.now (length c.args.entry_points.now) c.loop-index.index c.index-entry_points-index.result refl c.loop-index-test.true c.index-entry_points-index.is in
+    (c.loop-index.index, c.index-entry_points-index.result, here, refl, c.loop-index.invariant.formed, c.in-Some.ensures)
 
-pub loop-entry_point-preserved : goal.loop-entry_point-preserved
-loop-entry_point-preserved c =
-    let here = slice_get_read c.args.entry_points.now (length c.args.entry_points.now) c.loop-entry_point.entry_point-index c.entry_point-item.result refl c.loop-entry_point-test.true c.entry_point-item.is in
-    one_passed (λ i. EntryPointHasForm) c.args.entry_points.now c.loop-entry_point.entry_point-index c.entry_point-item.result here c.in_default.ensures c.loop-entry_point.invariant
+pub loop-index-preserved : goal.loop-index-preserved
+loop-index-preserved c =
+    let here = slice_get_read c.args.entry_points.now (length c.args.entry_points.now) c.loop-index.index c.index-entry_points-index.result refl c.loop-index-test.true c.index-entry_points-index.is in
+    one_passed (λ i. EntryPointHasForm) c.args.entry_points.now c.loop-index.index c.index-entry_points-index.result here c.in_default.ensures c.loop-index.invariant
 
 pub returns : goal.returns
 returns c =
-    all_passed (λ i. EntryPointHasForm) c.args.entry_points.now c.loop-entry_point.entry_point-index c.loop-entry_point-test.false c.loop-entry_point.invariant
+    all_passed (λ i. EntryPointHasForm) c.args.entry_points.now c.loop-index.index c.loop-index-test.false c.loop-index.invariant

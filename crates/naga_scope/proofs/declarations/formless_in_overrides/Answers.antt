@@ -1,4 +1,5 @@
-use Rattle.naga_scope.proofs.Searching.{here_left, next_left, none_left}
+use Rattle.std.proofs.Common.{refl}
+use Rattle.naga_scope.proofs.Searching.{before_left, here_left, next_left, none_left}
 use Rattle.naga_scope.specs.Declarations.{ValueHasForm}
 use Rattle.naga_ir.specs.declared.module.Override.{Override}
 use Rattle.naga_scope.proofs.declarations.formless_in_overrides.Goals as goal
@@ -7,17 +8,20 @@ pub returns-in-Some-formless_value : goal.returns-in-Some-formless_value
 returns-in-Some-formless_value c =
     let m = c.args.module.now in
     let here =
-    here_left (λ i (o : Override). ValueHasForm m o.ty o.init) m.overrides c.loop-item.item-iterator c.next.new.self c.in-Some.field-0-0 c.in-Some.item.now c.in-Some.ensures.steps
-    c.loop-item.invariant in
-    (c.in-Some.field-0-0, c.in-Some.item.now, here, c.in-Some-formless_value.ensures)
+    here_left (λ i (o : Override). ValueHasForm m o.ty o.init) m.overrides c.loop-handle.handle-iterator c.next.new.self c.in-Some.handle c.in-Some.item.now c.in-Some.ensures.steps
+    c.loop-handle.invariant in
+    let earlier =
+    before_left (λ i (o : Override). ValueHasForm m o.ty o.init) m.overrides c.loop-handle.handle-iterator c.next.new.self c.in-Some.handle c.in-Some.item.now c.in-Some.ensures.steps
+    c.loop-handle.invariant in
+    (c.in-Some.handle, c.in-Some.item.now, here, refl, earlier, c.in-Some-formless_value.ensures)
 
-pub loop-item-preserved : goal.loop-item-preserved
-loop-item-preserved c =
+pub loop-handle-preserved : goal.loop-handle-preserved
+loop-handle-preserved c =
     let m = c.args.module.now in
-    next_left (λ i (o : Override). ValueHasForm m o.ty o.init) m.overrides c.loop-item.item-iterator c.next.new.self c.in-Some.field-0-0 c.in-Some.item.now c.in-Some.ensures.steps
-    c.in_default.ensures c.loop-item.invariant
+    next_left (λ i (o : Override). ValueHasForm m o.ty o.init) m.overrides c.loop-handle.handle-iterator c.next.new.self c.in-Some.handle c.in-Some.item.now c.in-Some.ensures.steps
+    c.in_default.ensures c.loop-handle.invariant
 
 pub returns : goal.returns
 returns c =
     let m = c.args.module.now in
-    none_left (λ i (o : Override). ValueHasForm m o.ty o.init) m.overrides c.loop-item.item-iterator c.in-None.ensures.steps.0 c.loop-item.invariant
+    none_left (λ i (o : Override). ValueHasForm m o.ty o.init) m.overrides c.loop-handle.handle-iterator c.in-None.ensures.steps.0 c.loop-handle.invariant

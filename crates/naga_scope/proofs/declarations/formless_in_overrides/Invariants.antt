@@ -2,6 +2,6 @@ use Rattle.naga_scope.proofs.Searching.{Left}
 use Rattle.naga_scope.specs.Declarations.{ValueHasForm}
 use Rattle.naga_scope.proofs.declarations.formless_in_overrides.Given as goal
 
-abbrev pub invariant-loop-item : goal.invariant-loop-item
-invariant-loop-item l =
-    Left (λ i o. ValueHasForm l.module o.ty o.init) l.module.overrides l.item-iterator
+abbrev pub invariant-loop-handle : goal.invariant-loop-handle
+invariant-loop-handle l =
+    Left (λ i o. ValueHasForm l.module o.ty o.init) l.module.overrides l.handle-iterator

@@ -1,4 +1,5 @@
-use Rattle.naga_scope.proofs.Searching.{here_left, next_left, none_left}
+use Rattle.std.proofs.Common.{refl}
+use Rattle.naga_scope.proofs.Searching.{before_left, here_left, next_left, none_left}
 use Rattle.naga_scope.specs.Declarations.{TypeHasForm}
 use Rattle.naga_scope.proofs.declarations.formless_in_structs.Goals as goal
 
@@ -8,7 +9,10 @@ returns-in-Some-formless_in_type c =
     let here =
     here_left (TypeHasForm m) m.types c.loop-handle.handle-iterator c.next.new.self c.in-Some.handle c.in-Some.ty.now c.in-Some.ensures.steps
     c.loop-handle.invariant in
-    (c.in-Some.handle, c.in-Some.ty.now, here, c.in-Some-formless_in_type.ensures)
+    let earlier =
+    before_left (TypeHasForm m) m.types c.loop-handle.handle-iterator c.next.new.self c.in-Some.handle c.in-Some.ty.now c.in-Some.ensures.steps
+    c.loop-handle.invariant in
+    (c.in-Some.handle, c.in-Some.ty.now, here, refl, earlier, c.in-Some-formless_in_type.ensures)
 
 pub loop-handle-preserved : goal.loop-handle-preserved
 loop-handle-preserved c =

@@ -1,4 +1,5 @@
-use Rattle.naga_scope.proofs.Searching.{here_left, next_left, none_left}
+use Rattle.std.proofs.Common.{refl}
+use Rattle.naga_scope.proofs.Searching.{before_left, here_left, next_left, none_left}
 use Rattle.naga_scope.specs.Declarations.{ValueHasForm}
 use Rattle.naga_ir.specs.declared.module.GlobalVariable.{GlobalVariable}
 use Rattle.naga_scope.proofs.declarations.formless_in_variables.Goals as goal
@@ -7,17 +8,20 @@ pub returns-in-Some-formless_value : goal.returns-in-Some-formless_value
 returns-in-Some-formless_value c =
     let m = c.args.module.now in
     let here =
-    here_left (λ i (g : GlobalVariable). ValueHasForm m g.ty g.init) m.global_variables c.loop-variable.variable-iterator c.next.new.self c.in-Some.field-0-0 c.in-Some.variable.now c.in-Some.ensures.steps
-    c.loop-variable.invariant in
-    (c.in-Some.field-0-0, c.in-Some.variable.now, here, c.in-Some-formless_value.ensures)
+    here_left (λ i (g : GlobalVariable). ValueHasForm m g.ty g.init) m.global_variables c.loop-handle.handle-iterator c.next.new.self c.in-Some.handle c.in-Some.variable.now c.in-Some.ensures.steps
+    c.loop-handle.invariant in
+    let earlier =
+    before_left (λ i (g : GlobalVariable). ValueHasForm m g.ty g.init) m.global_variables c.loop-handle.handle-iterator c.next.new.self c.in-Some.handle c.in-Some.variable.now c.in-Some.ensures.steps
+    c.loop-handle.invariant in
+    (c.in-Some.handle, c.in-Some.variable.now, here, refl, earlier, c.in-Some-formless_value.ensures)
 
-pub loop-variable-preserved : goal.loop-variable-preserved
-loop-variable-preserved c =
+pub loop-handle-preserved : goal.loop-handle-preserved
+loop-handle-preserved c =
     let m = c.args.module.now in
-    next_left (λ i (g : GlobalVariable). ValueHasForm m g.ty g.init) m.global_variables c.loop-variable.variable-iterator c.next.new.self c.in-Some.field-0-0 c.in-Some.variable.now c.in-Some.ensures.steps
-    c.in_default.ensures c.loop-variable.invariant
+    next_left (λ i (g : GlobalVariable). ValueHasForm m g.ty g.init) m.global_variables c.loop-handle.handle-iterator c.next.new.self c.in-Some.handle c.in-Some.variable.now c.in-Some.ensures.steps
+    c.in_default.ensures c.loop-handle.invariant
 
 pub returns : goal.returns
 returns c =
     let m = c.args.module.now in
-    none_left (λ i (g : GlobalVariable). ValueHasForm m g.ty g.init) m.global_variables c.loop-variable.variable-iterator c.in-None.ensures.steps.0 c.loop-variable.invariant
+    none_left (λ i (g : GlobalVariable). ValueHasForm m g.ty g.init) m.global_variables c.loop-handle.handle-iterator c.in-None.ensures.steps.0 c.loop-handle.invariant

@@ -2,7 +2,7 @@ use Rattle.std.proofs.Common.{◌≡◌, ◌<◌, ◌≤◌, ◌-◌, suc, arith
 use Rattle.std.proofs.Common.{slice_get}
 use Rattle.std.specs.Prelude.{IsFalse, IsSomeAnd}
 use Rattle.module_meaning.specs.ExpressionForms.{expression_has_form}
-use Rattle.naga_scope.proofs.Sweeping.{Swept, begun, ended, next, passed}
+use Rattle.naga_scope.proofs.Sweeping.{Swept, begun, ended, later_formed, next, passed}
 use Rattle.naga_scope.specs.Marks.{is_marked}
 use Rattle.naga_scope.proofs.written.sweep.Goals as goal
 
@@ -30,6 +30,9 @@ returns-then-not-expression_has_form c roots just =
       subst (λ o. IsSomeAnd o (λ e. IsFalse (expression_has_form c.args.module.now c.args.info.now c.args.function.now.expressions e))) (sym c.index-expression.ensures)
           (sym (c.if-not-expression_has_form.ensures c.args.function.now.expressions
           c.requires.constants)),
+      later_formed (expression_has_form c.args.module.now c.args.info.now c.args.function.now.expressions) _ roots _ just
+          c.requires.size c.requires.ordered c.loop-end.marks c.loop-end.end swept c.from_index-handle.result
+          (omega (arith, here, c.loop-end-test.true)),
     )
 
 pub loop-end-preserved-then-marks-end : goal.loop-end-preserved-then-marks-end

@@ -14,8 +14,8 @@ abbrev unwritten : Module → ℕ → Bool
 unwritten m h = not (global_is_written m h)
 
 -- ---- through constants without names
-pub global_without_form-representative_without_form-requires : goal.global_without_form-representative_without_form-requires
-global_without_form-representative_without_form-requires t c =
+pub formless_global-formless_representative-requires : goal.formless_global-formless_representative-requires
+formless_global-formless_representative-requires t c =
     let m = c.args.«module».now in
     let is = formless_is m c.requires.ordered c.args.tables.now.representatives
     c.requires.tables.representatives c.args.handle c.requires.there c.requires.formless in
@@ -35,26 +35,25 @@ global_without_form-representative_without_form-requires t c =
       ),
     )
 
-pub global_without_form-returns : goal.global_without_form-returns
-global_without_form-returns t c =
+pub formless_global-returns : goal.formless_global-returns
+formless_global-returns t c =
     let m = c.args.«module».now in
     let is = formless_is m c.requires.ordered c.args.tables.now.representatives
     c.requires.tables.representatives c.args.handle c.requires.there c.requires.formless in
-    is.names c.representative_without_form.result
-    (subst (NamesGlobal m c.representative_without_form.result) c.representative.ensures
-    c.representative_without_form.ensures)
+    λ e told. is.names e
+    (subst (NamesGlobal m e) c.representative.ensures (c.formless_representative.ensures e told))
 
 -- ---- a literal
-pub representative_without_form-returns-in-Literal : goal.representative_without_form-returns-in-Literal
-representative_without_form-returns-in-Literal t c =
-    OfLiteral c.args.handle c.in-Literal.literal (c.index.ensures ∙ ap Some c.in-Literal.is)
+pub formless_representative-returns-in-Literal : goal.formless_representative-returns-in-Literal
+formless_representative-returns-in-Literal t c =
+    λ e told. OfLiteral c.args.handle c.in-Literal.literal (c.index.ensures ∙ ap Some c.in-Literal.is)
     (formless.literal_fails c.args.«module».now c.requires.ordered c.args.handle c.requires.formless
     c.index.result.now c.in-Literal.literal c.index.ensures c.in-Literal.is)
-    c.literal_without_form.ensures
+    (c.literal_without_form.ensures e told)
 
 -- ---- the initialiser of a constant
-pub representative_without_form-global_without_form-requires : goal.representative_without_form-global_without_form-requires
-representative_without_form-global_without_form-requires t c =
+pub formless_representative-formless_global-requires : goal.formless_representative-formless_global-requires
+formless_representative-formless_global-requires t c =
     let before =
     formless.constant_fails c.args.«module».now c.requires.ordered c.args.handle
     c.requires.formless c.index.result.now c.in-Constant.constant c.index-in-Constant.result.now
@@ -64,47 +63,47 @@ representative_without_form-global_without_form-requires t c =
       (c.requires.ordered, (c.requires.tables, (omega (arith, before.0, within), before.1))),
     )
 
-pub representative_without_form-returns-in-Constant : goal.representative_without_form-returns-in-Constant
-representative_without_form-returns-in-Constant t c =
+pub formless_representative-returns-in-Constant : goal.formless_representative-returns-in-Constant
+formless_representative-returns-in-Constant t c =
     let fails =
     formless.constant_fails c.args.«module».now c.requires.ordered c.args.handle
     c.requires.formless c.index.result.now c.in-Constant.constant c.index-in-Constant.result.now
     c.index.ensures c.in-Constant.is c.index-in-Constant.ensures in
-    OfConstant c.args.handle c.in-Constant.constant c.index-in-Constant.result.now
+    λ e told. OfConstant c.args.handle c.in-Constant.constant c.index-in-Constant.result.now
     (c.index.ensures ∙ ap Some c.in-Constant.is) c.index-in-Constant.ensures fails.2
-    c.global_without_form.ensures
+    (c.formless_global.ensures e told)
 
 -- ---- an override
-pub representative_without_form-unreachable-requires : goal.representative_without_form-unreachable-requires
-representative_without_form-unreachable-requires t c =
+pub formless_representative-unreachable-requires : goal.formless_representative-unreachable-requires
+formless_representative-unreachable-requires t c =
     formless.override_fails c.args.«module».now c.requires.ordered c.args.handle c.requires.formless
     c.index.result.now _ c.index.ensures c.in-Override.is
 
 -- ---- values of a type
-pub representative_without_form-returns-in-ZeroValue : goal.representative_without_form-returns-in-ZeroValue
-representative_without_form-returns-in-ZeroValue t c =
-    OfType c.args.handle c.in-ZeroValue.ty (expression.ZeroValue c.in-ZeroValue.ty)
+pub formless_representative-returns-in-ZeroValue : goal.formless_representative-returns-in-ZeroValue
+formless_representative-returns-in-ZeroValue t c =
+    λ e told. OfType c.args.handle c.in-ZeroValue.ty (expression.ZeroValue c.in-ZeroValue.ty)
     (c.index.ensures ∙ ap Some c.in-ZeroValue.is) refl refl
     (formless.zero_fails c.args.«module».now c.requires.ordered c.args.handle c.requires.formless
     c.index.result.now c.in-ZeroValue.ty c.index.ensures c.in-ZeroValue.is)
-    c.type_without_form.ensures
+    (c.type_without_form.ensures e told)
 
-pub representative_without_form-returns-in-None : goal.representative_without_form-returns-in-None
-representative_without_form-returns-in-None t c =
+pub formless_representative-returns-in-None : goal.formless_representative-returns-in-None
+formless_representative-returns-in-None t c =
     let parts = c.in-Compose.components in
     let all =
     formless.none_unwritten c.args.«module».now parts.items
     (sym c.in-None.is ∙ c.first_unwritten.ensures
     ∙ ap (find (unwritten c.args.«module».now)) c.as_slice.ensures.value) in
-    OfType c.args.handle c.in-Compose.ty (expression.Compose c.in-Compose.ty parts)
+    λ e told. OfType c.args.handle c.in-Compose.ty (expression.Compose c.in-Compose.ty parts)
     (c.index.ensures ∙ ap Some c.in-Compose.is) refl all
     (formless.composed_fails c.args.«module».now c.requires.ordered c.args.handle
     c.requires.formless c.index.result.now c.in-Compose.ty parts c.index.ensures c.in-Compose.is all)
-    c.type_without_form-in-None.ensures
+    (c.type_without_form-in-None.ensures e told)
 
 -- ---- operands
-pub representative_without_form-global_without_form-requires-in-Some : goal.representative_without_form-global_without_form-requires-in-Some
-representative_without_form-global_without_form-requires-in-Some t c =
+pub formless_representative-formless_global-requires-in-Some : goal.formless_representative-formless_global-requires-in-Some
+formless_representative-formless_global-requires-in-Some t c =
     let parts = c.in-Compose.components in
     let found =
     formless.one_unwritten c.args.«module».now parts.items
@@ -119,18 +118,18 @@ representative_without_form-global_without_form-requires-in-Some t c =
       (c.requires.ordered, (c.requires.tables, (omega (arith, before, within), found.1))),
     )
 
-pub representative_without_form-returns-in-Some : goal.representative_without_form-returns-in-Some
-representative_without_form-returns-in-Some t c =
+pub formless_representative-returns-in-Some : goal.formless_representative-returns-in-Some
+formless_representative-returns-in-Some t c =
     let parts = c.in-Compose.components in
-    OfOperand c.args.handle c.in-Some.component (expression.Compose c.in-Compose.ty parts)
+    λ e told. OfOperand c.args.handle c.in-Some.component (expression.Compose c.in-Compose.ty parts)
     (c.index.ensures ∙ ap Some c.in-Compose.is) refl
     (sym
     (sym c.in-Some.is ∙ c.first_unwritten.ensures
     ∙ ap (find (unwritten c.args.«module».now)) c.as_slice.ensures.value))
-    c.global_without_form-in-Some.ensures
+    (c.formless_global-in-Some.ensures e told)
 
-pub representative_without_form-global_without_form-requires-in-Splat : goal.representative_without_form-global_without_form-requires-in-Splat
-representative_without_form-global_without_form-requires-in-Splat t c =
+pub formless_representative-formless_global-requires-in-Splat : goal.formless_representative-formless_global-requires-in-Splat
+formless_representative-formless_global-requires-in-Splat t c =
     let value = c.in-Splat.value in
     let before =
     formless.operand_before c.args.«module».now c.requires.ordered c.args.handle
@@ -151,20 +150,20 @@ representative_without_form-global_without_form-requires-in-Splat t c =
       ),
     )
 
-pub representative_without_form-returns-in-Splat : goal.representative_without_form-returns-in-Splat
-representative_without_form-returns-in-Splat t c =
+pub formless_representative-returns-in-Splat : goal.formless_representative-returns-in-Splat
+formless_representative-returns-in-Splat t c =
     let value = c.in-Splat.value in
-    OfOperand c.args.handle value (expression.Splat c.in-Splat.size value)
+    λ e told. OfOperand c.args.handle value (expression.Splat c.in-Splat.size value)
     (c.index.ensures ∙ ap Some c.in-Splat.is) refl
     (ap (λ b. cond (not b) (Some value) None)
     (formless.splat_fails c.args.«module».now c.requires.ordered c.args.handle c.requires.formless
     c.index.result.now c.in-Splat.size value c.index.ensures c.in-Splat.is))
-    c.global_without_form-in-Splat.ensures
+    (c.formless_global-in-Splat.ensures e told)
 
 -- ---- an operator
-pub representative_without_form-returns-in_default : goal.representative_without_form-returns-in_default
-representative_without_form-returns-in_default t c =
-    OfOperation c.args.handle c.index.result.now c.index.ensures
+pub formless_representative-returns-in_default : goal.formless_representative-returns-in_default
+formless_representative-returns-in_default t c =
+    λ e told. OfOperation c.args.handle c.index.result.now c.index.ensures
     (formless.applies_operator c.index.result.now c.in_default.not-Literal c.in_default.not-Constant
     c.in_default.not-Override c.in_default.not-ZeroValue c.in_default.not-Compose c.in_default.not-Splat)
-    c.custom.ensures
+    told

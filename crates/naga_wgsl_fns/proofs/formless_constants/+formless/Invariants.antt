@@ -1,8 +1,8 @@
 use Rattle.std.proofs.Common.{◌+◌, ◌*◌}
 use Rattle.naga_wgsl_fns.proofs.formless_constants.+formless.Given as goal
 
-abbrev pub decreases-global_without_form : goal.decreases-global_without_form
-decreases-global_without_form l = 2 * l.handle + 1
+abbrev pub decreases-formless_global : goal.decreases-formless_global
+decreases-formless_global l = 2 * l.handle + 1
 
-abbrev pub decreases-representative_without_form : goal.decreases-representative_without_form
-decreases-representative_without_form l = 2 * l.handle
+abbrev pub decreases-formless_representative : goal.decreases-formless_representative
+decreases-formless_representative l = 2 * l.handle

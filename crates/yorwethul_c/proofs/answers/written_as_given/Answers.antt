@@ -1,26 +1,35 @@
-use Rattle.std.proofs.Common.{◌∙◌, Err, IfErr, IfOk, Ok, ap, is_ok, refl, subst, sym}
+use Rattle.std.proofs.Common.{◌≡◌, ◌∙◌, Err, IfErr, IfOk, Ok, ap, length, refl, subst, sym, string_bytes, ◌≤◌, ℕ, []}
+use Rattle.std.specs.Prelude.{IsTrue}
+use Rattle.module_answers.specs.Within.{IsUnwritten}
+use Rattle.module_answers.specs.declared.within.Unwritten.TheVariants as unwritten
+use Rattle.module_meaning.specs.Accepted.{is_accepted}
 use Rattle.naga_wgsl_out.specs.Checked.{IsCounted}
 use Rattle.naga_wgsl_out.specs.Headline.{FaithfulWriting}
 use Rattle.naga_wgsl_out.specs.Writing.{AppendsItsText}
-use Rattle.yorwethul_c.specs.Answers.{TellsOfWriting}
-use Rattle.yorwethul_c.specs.declared.status.Status.TheVariants as status
-use Rattle.yorwethul_c.proofs.Told.{as_given, at_most_seven, faulty_writing, said, wrote}
+use Rattle.yorwethul_c.specs.Answers.{deepest_nesting, longest_text}
+use Rattle.yorwethul_c.proofs.Told.{as_given, at_most_seven, not_written, wrote}
 use Rattle.yorwethul_c.proofs.answers.written_as_given.Goals as goal
 
 pub returns-in-Err : goal.returns-in-Err
 returns-in-Err c =
-    λ json. said (TellsOfWriting json c.args.flags) status.NotAccepted _ _ (faulty_writing c.args.known.now.module c.args.known.now.info _ _ c.in-Err.is c.write.ensures.fault) refl c.not_accepted.ensures
+    let given = c.args.known.now.module in
+    let m = c.args.known.now.module in
+    let info = c.write_within.new.info in
+    let writer = c.writer_flags.result in
+    let is = subst (λ r. IfErr r (IsUnwritten writer (record { nesting = deepest_nesting; text = longest_text }) given m c.args.known.now.info info)) c.in-Err.is c.write_within.ensures.unwritten in
+    λ json. not_written json c.args.flags writer given m c.args.known.now.info info _ _ _ (at_most_seven c.args.flags c.requires.known) c.writer_flags.ensures (λ _. as_given c.args.flags given c.requires.known) is c.not_written.ensures
 
 pub returns-in-Ok : goal.returns-in-Ok
 returns-in-Ok c =
+    let given = c.args.known.now.module in
     let m = c.args.known.now.module in
-    let info = c.write.new.info in
+    let read = c.args.known.now.info in
+    let info = c.write_within.new.info in
     let writer = c.writer_flags.result in
     let w = c.in-Ok.written in
-    let counted = subst (λ r. IfOk r (λ _. IsCounted m c.args.known.now.info info)) c.in-Ok.is c.write.ensures.counted in
-    let faithful =
-    subst (λ r. IfOk r (λ w. FaithfulWriting writer m info w.answer c.new-sink.result.text w.sink.text c.new-sink.result.failures w.sink.failures)) c.in-Ok.is c.write.ensures.faithful in
-    let from_nothing = subst (λ s. FaithfulWriting writer m info w.answer s.text w.sink.text s.failures w.sink.failures) c.new-sink.ensures faithful in
-    let text = subst (λ r. IfOk r (λ w. AppendsItsText m info writer w.answer c.new-sink.result.text w.sink.text)) c.in-Ok.is c.write.ensures.text in
-    let appends = subst (λ s. AppendsItsText m info writer w.answer s.text w.sink.text) c.new-sink.ensures text in
-    λ json. wrote json c.args.flags writer m m c.args.known.now.info info w.answer w.sink.text _ _ _ (at_most_seven c.args.flags c.requires.known) c.writer_flags.ensures (as_given c.args.flags m c.requires.known) (sym c.write.ensures.accepted ∙ ap is_ok c.in-Ok.is) counted from_nothing appends c.told_written.ensures
+    let accepted = subst (λ r. IfOk r (λ _. IsTrue (is_accepted given read))) c.in-Ok.is c.write_within.ensures.accepted in
+    let counted = subst (λ r. IfOk r (λ _. IsCounted m read info)) c.in-Ok.is c.write_within.ensures.counted in
+    let faithful = subst (λ r. IfOk r (λ w. (failures : ℕ) × FaithfulWriting writer m info w.answer [] (string_bytes w.sink) 0 failures)) c.in-Ok.is c.write_within.ensures.faithful in
+    let appends = subst (λ r. IfOk r (λ w. AppendsItsText m info writer w.answer [] (string_bytes w.sink))) c.in-Ok.is c.write_within.ensures.text in
+    let within = subst (λ r. IfOk r (λ w. length (string_bytes w.sink) ≤ longest_text)) c.in-Ok.is c.write_within.ensures.within in
+    λ json. wrote json c.args.flags writer given m read info w.answer (string_bytes w.sink) faithful.0 _ _ (at_most_seven c.args.flags c.requires.known) c.writer_flags.ensures (as_given c.args.flags given c.requires.known) accepted counted faithful.1 appends within c.told_written.ensures

@@ -7,13 +7,17 @@ use Rattle.module_meaning.specs.Written.{function_roots}
 use Rattle.naga_scope.specs.Availabilities.{KeepsStart}
 use Rattle.naga_scope.specs.KnownFunctions.{bound_in, expressions_of, has_form_in, shape_of}
 use Rattle.naga_scope.specs.Marks.{Sweeps}
-use Rattle.naga_scope.proofs.FormedStatements.{none_formless}
+use Rattle.naga_scope.proofs.FormedStatements.{found_err, found_lacks, none_formless, none_found, one_found}
 use Rattle.naga_scope.proofs.SpelledTypes.{declared_lacks, let_lacks, spelled_formed}
-use Rattle.naga_scope.proofs.Planned.{check_is_the_rules, failure_is_a_fault}
+use Rattle.naga_scope.proofs.Planned.{checked_fault, checked_holds}
+use Rattle.naga_names.proofs.Reset.{if_err}
+use Rattle.naga_scope.specs.FormlessStatements.{number_block}
+use Rattle.naga_scope.specs.Plans.{IsFirstToPlanFor, IsRefusalToPlanFor}
+use Rattle.naga_scope.specs.declared.plan.PlanError.TheVariants.{OutOfScope}
 use Rattle.naga_scope.proofs.plan.Plan.of_function.Goals as goal
 
-pub function_holds-requires : goal.function_holds-requires
-function_holds-requires c =
+pub check_function-requires : goal.check_function-requires
+check_function-requires c =
     let k = c.args.known.now in
     let start = c.in_ok-scope.ensures.start (λ number. []) k.shader.now k.module_info.now k.info.now in
     record {
@@ -28,11 +32,21 @@ function_holds-requires c =
       room = c.in_ok-scope.ensures.room;
     }
 
-pub returns-then-not-function_holds-clause-err : goal.returns-then-not-function_holds-clause-err
-returns-then-not-function_holds-clause-err c =
+pub returns-in_err-check_function-clause-err : goal.returns-in_err-check_function-clause-err
+returns-in_err-check_function-clause-err c =
     let k = c.args.known.now in
-    failure_is_a_fault k.shader.now k.module_info.now k.function.now k.info.now c.requires.ordered
-    (sym c.function_holds.ensures.scope ∙ c.if-not-function_holds.true)
+    let fault = c.in_err-check_function.field-0.0 in
+    if_err c.from_residual-in_err-check_function.result (OutOfScope fault)
+    (IsRefusalToPlanFor c.args.explicit k c.args.namer.now) c.from_residual-in_err-check_function.ensures.1
+    (checked_fault k.shader.now k.module_info.now k.function.now k.info.now c.requires.ordered fault
+    (sym c.in_err-check_function.ensures.check))
+
+pub returns-in_err-check_function-clause-first : goal.returns-in_err-check_function-clause-first
+returns-in_err-check_function-clause-first c =
+    let fault = c.in_err-check_function.field-0.0 in
+    if_err c.from_residual-in_err-check_function.result (OutOfScope fault)
+    (IsFirstToPlanFor c.args.explicit c.args.known.now) c.from_residual-in_err-check_function.ensures.1
+    (sym c.in_err-check_function.ensures.check)
 
 -- there are as many names as labels
 few : {X : Type 0} (labels : List (List ℕ)) (names : List (String X)) → length (map string_bytes names) ≡ 0 + length labels → length names < 2 ^ 64 → length labels < 2 ^ 64
@@ -43,14 +57,13 @@ returns-clause-ok c =
     let k = c.args.known.now in
     let m = k.shader.now in
     let f = k.function.now in
-    let holds = sym c.function_holds.ensures.scope ∙ c.if-not-function_holds.false in
-    let no_formless = sym c.formless_statement.ensures ∙ c.in_default.is in
+    let no_formless = none_found f.body (sym c.formless_statement.ensures ∙ c.in_default.is) in
     let none_declared = sym c.declared_without_form.ensures ∙ c.in_default-declared_without_form.is in
     let none_annotated = sym c.annotated_without_form.ensures ∙ c.in_default-annotated_without_form.is in
-    let kept = c.function_holds.ensures.kept in
+    let kept = c.check_function.ensures.kept in
     let at_first = c.in_ok-scope.ensures.room in
     record {
-      in_scope = (check_is_the_rules m k.module_info.now f k.info.now c.requires.ordered).0 holds;
+      in_scope = checked_holds m k.module_info.now f k.info.now c.requires.ordered (sym c.in_ok-check_function.ensures.check);
       starts = λ named. c.restart.ensures.start named m k.module_info.now k.info.now;
       no_name = c.restart.ensures.named;
       size = c.restart.ensures.size ∙ (kept.size ∙ c.in_ok-scope.ensures.size);
@@ -69,12 +82,60 @@ returns-clause-ok c =
     }
 
 pub returns-in-Some-clause-err : goal.returns-in-Some-clause-err
-returns-in-Some-clause-err c = sym c.formless_statement.ensures ∙ c.in-Some.is
+returns-in-Some-clause-err c =
+    let f = c.args.known.now.function.now in
+    let is = sym c.formless_statement.ensures ∙ c.in-Some.is in
+    (one_found f.body c.in-Some.number c.in-Some.formless is, found_lacks f.body c.in-Some.number c.in-Some.formless is)
+
+pub returns-in-Some-clause-first : goal.returns-in-Some-clause-first
+returns-in-Some-clause-first c =
+    let k = c.args.known.now in
+    let f = k.function.now in
+    let is = sym c.formless_statement.ensures ∙ c.in-Some.is in (
+      checked_holds k.shader.now k.module_info.now f k.info.now c.requires.ordered (sym c.in_ok-check_function.ensures.check),
+      found_err (number_block 0 f.body) is,
+    )
 
 pub returns-in-Some-2-clause-err : goal.returns-in-Some-2-clause-err
 returns-in-Some-2-clause-err c =
     let k = c.args.known.now in
-    subst (Sweeps (has_form_in k) (expressions_of k) (function_roots (bound_in k) k.function.now)) c.in-Some-2.is c.in_ok-handle.ensures
+    let swept = subst (Sweeps (has_form_in k) (expressions_of k) (function_roots (bound_in k) k.function.now)) c.in-Some-2.is c.in_ok-handle.ensures in
+    (swept.0, swept.1)
+
+pub returns-in-Some-2-clause-first : goal.returns-in-Some-2-clause-first
+returns-in-Some-2-clause-first c =
+    let k = c.args.known.now in
+    let f = k.function.now in
+    let swept = subst (Sweeps (has_form_in k) (expressions_of k) (function_roots (bound_in k) f)) c.in-Some-2.is c.in_ok-handle.ensures in (
+      checked_holds k.shader.now k.module_info.now f k.info.now c.requires.ordered (sym c.in_ok-check_function.ensures.check),
+      none_formless f.body (none_found f.body (sym c.formless_statement.ensures ∙ c.in_default.is)),
+      swept.2,
+    )
+
+pub returns-in-Some-declared_without_form-clause-first : goal.returns-in-Some-declared_without_form-clause-first
+returns-in-Some-declared_without_form-clause-first c =
+    let k = c.args.known.now in
+    let f = k.function.now in (
+      (
+        checked_holds k.shader.now k.module_info.now f k.info.now c.requires.ordered (sym c.in_ok-check_function.ensures.check),
+        none_formless f.body (none_found f.body (sym c.formless_statement.ensures ∙ c.in_default.is)),
+        subst (Sweeps (has_form_in k) (expressions_of k) (function_roots (bound_in k) f)) c.in_default-2.is c.in_ok-handle.ensures,
+      ),
+      sym c.declared_without_form.ensures ∙ c.in-Some-declared_without_form.is,
+    )
+
+pub returns-in-Some-annotated_without_form-clause-first : goal.returns-in-Some-annotated_without_form-clause-first
+returns-in-Some-annotated_without_form-clause-first c =
+    let k = c.args.known.now in
+    let f = k.function.now in (
+      (
+        checked_holds k.shader.now k.module_info.now f k.info.now c.requires.ordered (sym c.in_ok-check_function.ensures.check),
+        none_formless f.body (none_found f.body (sym c.formless_statement.ensures ∙ c.in_default.is)),
+        subst (Sweeps (has_form_in k) (expressions_of k) (function_roots (bound_in k) f)) c.in_default-2.is c.in_ok-handle.ensures,
+      ),
+      sym c.declared_without_form.ensures ∙ c.in_default-declared_without_form.is,
+      sym c.annotated_without_form.ensures ∙ c.in-Some-annotated_without_form.is,
+    )
 
 pub returns-in-Some-declared_without_form-clause-err : goal.returns-in-Some-declared_without_form-clause-err
 returns-in-Some-declared_without_form-clause-err c =

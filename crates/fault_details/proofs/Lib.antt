@@ -1,0 +1,3 @@
+pub mod Fitting
+pub mod Holding
+pub mod Passing

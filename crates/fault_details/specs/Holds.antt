@@ -1,0 +1,31 @@
+-- What it means that a reason is one: types that are told are not alike, a class has not the type
+-- that is told, an item that is told is not there or not before, numbers that are told differ. And
+-- that each reason that is told is one.
+--
+-- Throughout, m is a module, info what is known of it, and u a place with a kind of fault.
+use Rattle.std.specs.Prelude.{◌≡◌, ⊤, ◌≢◌, ◌≤◌, false}
+use Rattle.std.specs.Option.{IfSome, option_map_or}
+use Rattle.naga_ir.specs.declared.module.Module.{Module}
+use Rattle.naga_info.specs.declared.info.ModuleInfo.{ModuleInfo}
+use Rattle.naga_info.specs.Resolution.{inner_of}
+use Rattle.naga_acceptance.specs.declared.faults.Unaccepted.{Unaccepted}
+use Rattle.module_meaning.specs.AlikeTypes.{are_alike}
+use Rattle.fault_details.specs.Reasons.{Reason, OtherType, OtherClass, NoValue, Unwanted, Absent}
+use Rattle.fault_details.specs.Reasons.{Later, OtherNumber, PastParts, Needs, fault_reason}
+use Rattle.fault_details.specs.Reasons.{is_in_class}
+
+abbrev pub IsReason : Module → Reason → Type 0
+IsReason m (OtherType wanted got) = are_alike m.types got wanted ≡ false
+IsReason m (OtherClass class got) =
+    option_map_or (is_in_class m.types class) (inner_of got m.types) false ≡ false
+IsReason m (NoValue wanted) = ⊤
+IsReason m (Unwanted got) = ⊤
+IsReason m (Absent name index count) = count ≤ index
+IsReason m (Later name index before) = before ≤ index
+IsReason m (OtherNumber of wanted got) = wanted ≢ got
+IsReason m (PastParts count got) = count ≤ got
+IsReason m (Needs need) = ⊤
+
+abbrev pub ReasonsHold : Type 0
+ReasonsHold = (m : Module) (info : ModuleInfo) (u : Unaccepted) →
+    IfSome (fault_reason m info u) (IsReason m)

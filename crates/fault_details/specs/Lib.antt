@@ -1,0 +1,4 @@
+pub mod Holds
+pub mod Reasons
+pub mod Shown
+pub mod Told

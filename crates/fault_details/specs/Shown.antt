@@ -1,0 +1,37 @@
+-- What the code's reasons and placed statements stand for.
+use Rattle.std.specs.Prelude.{ℕ, zero, suc, List, [], ◌∷◌, Result, Ok, Err}
+use Rattle.naga_ir.specs.StatementViews.{tree_of}
+use Rattle.naga_acceptance.specs.KnownTypes.{inferred}
+use Rattle.naga_acceptance.specs.TextOrder.{PlacedStatement}
+use Rattle.fault_details.specs.Reasons.{Reason as Told, OtherType, OtherClass, NoValue, Unwanted}
+use Rattle.fault_details.specs.Reasons.{Absent, Later, OtherNumber, PastParts, Needs}
+use Rattle.fault_details.specs.declared.reasons.Reason.{Reason}
+use Rattle.fault_details.specs.declared.reasons.Reason.TheVariants as code
+use Rattle.fault_details.specs.declared.walk.Placed.{Placed}
+
+-- a reason, with its types themselves
+abbrev pub shown : Reason → Told
+shown (code.OtherType wanted got) = OtherType (inferred wanted) got.now
+shown (code.OtherClass class got) = OtherClass class got.now
+shown (code.NoValue wanted) = NoValue (inferred wanted)
+shown (code.Unwanted got) = Unwanted got.now
+shown (code.Absent name index count) = Absent name index count
+shown (code.Later name index before) = Later name index before
+shown (code.OtherNumber of wanted got) = OtherNumber of wanted got
+shown (code.PastParts count got) = PastParts count got
+shown (code.Needs need) = Needs need
+
+-- a statement where it stands
+abbrev pub placed : Placed → PlacedStatement
+placed p = record { breaks = p.breaks; continues = p.continues; tree = tree_of p.statement.now }
+
+-- where a search stands: at a statement, or so many before it
+abbrev pub reached : Result ℕ Placed → Result ℕ PlacedStatement
+reached (Ok left) = Ok left
+reached (Err p) = Err (placed p)
+
+-- Items are passed, so many: the item behind them, as an error, or else how many are left.
+abbrev pub passed : {X : Type 0} → (n : ℕ) → List X → Result ℕ X
+passed n [] = Ok n
+passed zero (x ∷ xs) = Err x
+passed (suc n) (x ∷ xs) = passed n xs

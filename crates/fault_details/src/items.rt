@@ -1,0 +1,467 @@
+//! Why a module is not accepted, item by item.
+
+ghost use Rattle.std.specs.Prelude.{◌≡◌, length, slice_get};
+ghost use Rattle.std.specs.Option.{option_and_then, option_copied, option_map};
+ghost use Rattle.naga_acceptance.specs.Faults.{known_of};
+ghost use Rattle.naga_acceptance.specs.KnownTypes.{known_types};
+ghost use Rattle.naga_acceptance.specs.TextOrder.{text_order};
+ghost use Rattle.module_meaning.specs.TypeParts.{inner_at};
+ghost use Rattle.fault_details.specs.Reasons.{declared_reason, entry_point_reason};
+ghost use Rattle.fault_details.specs.Reasons.{expression_reason, fault_reason, function_reason};
+ghost use Rattle.fault_details.specs.Reasons.{global_reason};
+ghost use Rattle.fault_details.specs.Reasons.{item_reason, made_reason, module_reason};
+ghost use Rattle.fault_details.specs.Reasons.{sizes_reason, statement_reason, type_reason};
+ghost use Rattle.fault_details.specs.Reasons.{whole_reason};
+ghost use Rattle.fault_details.specs.Shown.{shown};
+
+use crate::names::{
+    absent_if, initialiser_reason, known_reason, length_reason, named_reason, names_reason,
+    order_reason, part_reason, signature_reason, special_reason, variables_reason,
+};
+use crate::reasons::{Reason, absent, number_reason};
+use crate::statements::statement_reason;
+use crate::types::{operand_reason, own_type_reason, type_reason};
+use crate::walk::statement_at;
+use crate::words::{Counted, ListName};
+use module_meaning::type_parts::inner_at;
+use naga_acceptance::parts::{InferredType, Known, known_type};
+use naga_acceptance::{Fault, FunctionPlace, Item, Unaccepted};
+use naga_info::{FunctionInfo, ModuleInfo};
+use naga_ir::{
+    Constant, EntryPoint, Expression, Function, GlobalVariable, Handle, LocalVariable, Module,
+    Override, Type_, TypeInner,
+};
+
+// ---- declarations
+
+/// The type and the initialiser of an item, whose initialiser is one of so many expressions of the
+/// list.
+fn declared_reason<'a>(
+    module: &'a Module,
+    list: ListName,
+    expressions: usize,
+    known: Known<'a>,
+    fault: Fault,
+    ty: Handle<Type_>,
+    init: Option<Handle<Expression>>,
+) -> Option<Reason<'a>>
+    ensures { option_map shown result ≡ declared_reason «module».now.types list expressions
+        (known_types known.entry) fault ty init }
+{
+    match fault {
+        Fault::Names => {
+            let found = absent(ListName::Types, module.types.len(), ty.index());
+            if found.is_some() {
+                return found;
+            }
+            absent_if(list, expressions, init)
+        }
+        Fault::InitialiserType => match init {
+            Some(init) => type_reason(&module.types, known, InferredType::Handle(ty), init),
+            None => None,
+        },
+        _ => None,
+    }
+}
+
+/// The same of an item of the module.
+fn global_reason<'a>(
+    module: &'a Module,
+    info: &'a ModuleInfo,
+    fault: Fault,
+    ty: Handle<Type_>,
+    init: Option<Handle<Expression>>,
+) -> Option<Reason<'a>>
+    ensures { option_map shown result ≡ global_reason «module».now info.now fault ty init }
+{
+    let known = Known::Global(info.const_expression_types.as_slice());
+    let list = ListName::GlobalExpressions;
+    let expressions = module.global_expressions.len();
+    declared_reason(module, list, expressions, known, fault, ty, init)
+}
+
+fn constant_reason<'a>(
+    module: &'a Module,
+    info: &'a ModuleInfo,
+    fault: Fault,
+    handle: Handle<Constant>,
+) -> Option<Reason<'a>>
+    ensures { option_map shown result
+        ≡ item_reason «module».now info.now fault (Item.Constant handle) }
+{
+    if handle.index() < module.constants.len() {
+        let constant = &module.constants[handle];
+        global_reason(module, info, fault, constant.ty, Some(constant.init))
+    } else {
+        None
+    }
+}
+
+fn override_reason<'a>(
+    module: &'a Module,
+    info: &'a ModuleInfo,
+    fault: Fault,
+    handle: Handle<Override>,
+) -> Option<Reason<'a>>
+    ensures { option_map shown result
+        ≡ item_reason «module».now info.now fault (Item.Override handle) }
+{
+    if handle.index() < module.overrides.len() {
+        let item = &module.overrides[handle];
+        global_reason(module, info, fault, item.ty, item.init)
+    } else {
+        None
+    }
+}
+
+fn variable_reason<'a>(
+    module: &'a Module,
+    info: &'a ModuleInfo,
+    fault: Fault,
+    handle: Handle<GlobalVariable>,
+) -> Option<Reason<'a>>
+    ensures { option_map shown result
+        ≡ item_reason «module».now info.now fault (Item.GlobalVariable handle) }
+{
+    if handle.index() < module.global_variables.len() {
+        let variable = &module.global_variables[handle];
+        global_reason(module, info, fault, variable.ty, variable.init)
+    } else {
+        None
+    }
+}
+
+// ---- expressions
+
+/// Why an expression is at fault, of this function or of the module itself.
+fn expression_reason<'a>(
+    module: &'a Module,
+    function: Option<&Function>,
+    known: Known<'a>,
+    fault: Fault,
+    handle: Handle<Expression>,
+    expression: &Expression,
+) -> Option<Reason<'a>>
+    ensures { option_map shown result ≡ expression_reason «module».now
+        (option_copied function.entry) (known_types known.entry) fault handle expression.now }
+{
+    match fault {
+        Fault::Operands => order_reason(module, function, handle.index(), expression),
+        Fault::Names => names_reason(module, function, expression),
+        Fault::LaterInitialiser => initialiser_reason(module, handle.index(), expression),
+        Fault::KnownType => match known_type(known, handle) {
+            Some(ty) => known_reason(module.overrides.len(), module.types.len(), ty),
+            None => None,
+        },
+        Fault::OtherType => own_type_reason(module, function, known, handle, expression),
+        Fault::OperandTypes => operand_reason(&module.types, known, expression),
+        _ => None,
+    }
+}
+
+fn global_expression_reason<'a>(
+    module: &'a Module,
+    info: &'a ModuleInfo,
+    fault: Fault,
+    handle: Handle<Expression>,
+) -> Option<Reason<'a>>
+    ensures { option_map shown result
+        ≡ item_reason «module».now info.now fault (Item.GlobalExpression handle) }
+{
+    let expressions = &module.global_expressions;
+    if handle.index() < expressions.len() {
+        let known = Known::Global(info.const_expression_types.as_slice());
+        expression_reason(module, None, known, fault, handle, &expressions[handle])
+    } else {
+        None
+    }
+}
+
+// ---- functions
+
+fn known_count(known: Known<'_>) -> usize
+    ensures { result ≡ length (known_types known.entry) }
+{
+    match known {
+        Known::Function(infos) => infos.len(),
+        Known::Global(types) => types.len(),
+    }
+}
+
+fn whole_reason<'a>(
+    module: &Module,
+    function: &Function,
+    known: Known<'_>,
+    fault: Fault,
+) -> Option<Reason<'a>>
+    ensures { option_map shown result
+        ≡ whole_reason «module».now function.now (known_types known.entry) fault }
+{
+    match fault {
+        Fault::InfoSize => {
+            let wanted = function.expressions.len();
+            number_reason(Counted::Expressions, wanted, known_count(known))
+        }
+        Fault::Signature => signature_reason(module.types.len(), function),
+        Fault::NamedExpressions => named_reason(function),
+        _ => None,
+    }
+}
+
+fn local_reason<'a>(
+    module: &'a Module,
+    function: &Function,
+    known: Known<'a>,
+    fault: Fault,
+    handle: Handle<LocalVariable>,
+) -> Option<Reason<'a>>
+    ensures { option_map shown result ≡ option_and_then (λ k. declared_reason «module».now.types
+        ListName.Expressions (length function.now.expressions) (known_types known.entry) fault
+        k.ty k.init) (slice_get function.now.local_variables handle) }
+{
+    if handle.index() < function.local_variables.len() {
+        let local = &function.local_variables[handle];
+        declared_reason(
+            module,
+            ListName::Expressions,
+            function.expressions.len(),
+            known,
+            fault,
+            local.ty,
+            local.init,
+        )
+    } else {
+        None
+    }
+}
+
+fn inner_expression_reason<'a>(
+    module: &'a Module,
+    function: &Function,
+    known: Known<'a>,
+    fault: Fault,
+    handle: Handle<Expression>,
+) -> Option<Reason<'a>>
+    ensures { option_map shown result ≡ option_and_then (expression_reason «module».now
+        (Some function.now) (known_types known.entry) fault handle)
+        (slice_get function.now.expressions handle) }
+{
+    let expressions = &function.expressions;
+    if handle.index() < expressions.len() {
+        expression_reason(
+            module,
+            Some(function),
+            known,
+            fault,
+            handle,
+            &expressions[handle],
+        )
+    } else {
+        None
+    }
+}
+
+fn placed_reason<'a>(
+    module: &'a Module,
+    callees: usize,
+    function: &Function,
+    known: Known<'a>,
+    fault: Fault,
+    number: usize,
+) -> Option<Reason<'a>>
+    ensures { option_map shown result ≡ option_and_then (statement_reason «module».now callees
+        function.now (known_types known.entry) fault) (slice_get (text_order function.now.body)
+        number) }
+{
+    match statement_at(&function.body, number) {
+        Some(place) => statement_reason(module, callees, function, known, fault, place),
+        None => None,
+    }
+}
+
+/// Why a part of a function is at fault, where it may call the first `callees` functions.
+fn function_reason<'a>(
+    module: &'a Module,
+    callees: usize,
+    function: &Function,
+    known: Known<'a>,
+    fault: Fault,
+    place: FunctionPlace,
+) -> Option<Reason<'a>>
+    ensures { option_map shown result ≡ function_reason «module».now callees function.now
+        (known_types known.entry) fault place }
+{
+    match place {
+        FunctionPlace::Whole => whole_reason(module, function, known, fault),
+        FunctionPlace::Local(handle) => local_reason(module, function, known, fault, handle),
+        FunctionPlace::Expression(handle) => {
+            inner_expression_reason(module, function, known, fault, handle)
+        }
+        FunctionPlace::Statement(number) => {
+            placed_reason(module, callees, function, known, fault, number)
+        }
+    }
+}
+
+fn entry_point_reason<'a>(
+    module: &'a Module,
+    entry_point: &EntryPoint,
+    known: Known<'a>,
+    fault: Fault,
+    place: FunctionPlace,
+) -> Option<Reason<'a>>
+    ensures { option_map shown result ≡ entry_point_reason «module».now entry_point.now
+        (known_types known.entry) fault place }
+{
+    match (place, fault) {
+        (FunctionPlace::Whole, Fault::Names) => {
+            variables_reason(module.global_variables.len(), entry_point)
+        }
+        _ => {
+            let callees = module.functions.len();
+            function_reason(module, callees, &entry_point.function, known, fault, place)
+        }
+    }
+}
+
+/// What is known of the function of this number: nothing, if nothing is.
+fn known_at(infos: &[FunctionInfo], index: usize) -> Known<'_>
+    ensures { known_types result ≡ known_of infos.now index }
+{
+    match infos.get(index) {
+        Some(info) => Known::Function(info.expressions.as_slice()),
+        None => Known::Function(&[]),
+    }
+}
+
+fn function_reason_at<'a>(
+    module: &'a Module,
+    info: &'a ModuleInfo,
+    fault: Fault,
+    handle: Handle<Function>,
+    place: FunctionPlace,
+) -> Option<Reason<'a>>
+    ensures { option_map shown result
+        ≡ item_reason «module».now info.now fault (Item.Function handle place) }
+{
+    let index = handle.index();
+    if index < module.functions.len() {
+        let known = known_at(info.functions.as_slice(), index);
+        function_reason(
+            module,
+            index,
+            &module.functions[handle],
+            known,
+            fault,
+            place,
+        )
+    } else {
+        None
+    }
+}
+
+fn entry_point_reason_at<'a>(
+    module: &'a Module,
+    info: &'a ModuleInfo,
+    fault: Fault,
+    index: usize,
+    place: FunctionPlace,
+) -> Option<Reason<'a>>
+    ensures { option_map shown result
+        ≡ item_reason «module».now info.now fault (Item.EntryPoint index place) }
+{
+    match module.entry_points.get(index) {
+        Some(entry_point) => {
+            let known = known_at(info.entry_points.as_slice(), index);
+            entry_point_reason(module, entry_point, known, fault, place)
+        }
+        None => None,
+    }
+}
+
+// ---- the module
+
+fn sizes_reason<'a>(module: &Module, info: &ModuleInfo) -> Option<Reason<'a>>
+    ensures { option_map shown result ≡ sizes_reason «module».now info.now }
+{
+    let functions = number_reason(
+        Counted::Functions,
+        module.functions.len(),
+        info.functions.len(),
+    );
+    if functions.is_some() {
+        return functions;
+    }
+    let entry_points = number_reason(
+        Counted::EntryPoints,
+        module.entry_points.len(),
+        info.entry_points.len(),
+    );
+    if entry_points.is_some() {
+        return entry_points;
+    }
+    number_reason(
+        Counted::GlobalExpressions,
+        module.global_expressions.len(),
+        info.const_expression_types.len(),
+    )
+}
+
+fn module_reason<'a>(module: &Module, info: &ModuleInfo, fault: Fault) -> Option<Reason<'a>>
+    ensures { option_map shown result ≡ module_reason «module».now info.now fault }
+{
+    match fault {
+        Fault::InfoSize => sizes_reason(module, info),
+        Fault::SpecialTypes => special_reason(module.types.len(), &module.special_types),
+        _ => None,
+    }
+}
+
+fn made_reason<'a>(
+    module: &Module,
+    fault: Fault,
+    handle: Handle<Type_>,
+    inner: &TypeInner,
+) -> Option<Reason<'a>>
+    ensures { option_map shown result ≡ made_reason «module».now fault handle inner.now }
+{
+    match fault {
+        Fault::TypeParts => part_reason(handle.index(), module.types.len(), inner),
+        Fault::TypeLength => length_reason(module.overrides.len(), inner),
+        _ => None,
+    }
+}
+
+fn type_reason_at<'a>(module: &Module, fault: Fault, handle: Handle<Type_>) -> Option<Reason<'a>>
+    ensures { option_map shown result ≡ option_and_then
+        (made_reason «module».now fault handle) (inner_at «module».now.types handle) }
+{
+    match inner_at(&module.types, handle) {
+        Some(inner) => made_reason(module, fault, handle, inner),
+        None => None,
+    }
+}
+
+/// Why the module is not accepted at a place, for a fault of a kind: none where no more can be told
+/// than the kind, and where the fault is none of this module.
+pub(crate) fn fault_reason<'a>(
+    module: &'a Module,
+    info: &'a ModuleInfo,
+    unaccepted: Unaccepted,
+) -> Option<Reason<'a>>
+    ensures { option_map shown result ≡ fault_reason «module».now info.now unaccepted }
+{
+    let fault = unaccepted.fault;
+    match unaccepted.item {
+        Item::Module => module_reason(module, info, fault),
+        Item::Type(handle) => type_reason_at(module, fault, handle),
+        Item::Constant(handle) => constant_reason(module, info, fault, handle),
+        Item::Override(handle) => override_reason(module, info, fault, handle),
+        Item::GlobalVariable(handle) => variable_reason(module, info, fault, handle),
+        Item::GlobalExpression(handle) => global_expression_reason(module, info, fault, handle),
+        Item::Function(handle, place) => { function_reason_at(module, info, fault, handle, place) }
+        Item::EntryPoint(index, place) => {
+            entry_point_reason_at(module, info, fault, index, place)
+        }
+    }
+}

@@ -1,0 +1,444 @@
+//! What is named and is not there, or does not stand before what names it.
+
+ghost use Rattle.std.specs.Prelude.{◌≡◌, length};
+ghost use Rattle.std.specs.Option.{option_and_then, option_copied, option_map};
+ghost use Rattle.indexmap.specs.IndexMap.{keys, values};
+ghost use Rattle.naga_ir.specs.Operands.{expression_operands, own_operands};
+ghost use Rattle.naga_ir.specs.StatementViews.{tree_of};
+ghost use Rattle.fault_details.specs.Reasons.{absent, emitted_reason, first_reason};
+ghost use Rattle.fault_details.specs.Reasons.{initialiser_reason, known_reason, length_reason};
+ghost use Rattle.fault_details.specs.Reasons.{name_reason, names_reason, not_before, order_reason};
+ghost use Rattle.fault_details.specs.Reasons.{own_name_reason, part_reason, size_reason};
+ghost use Rattle.fault_details.specs.Reasons.{signature_reason, special_reason};
+ghost use Rattle.fault_details.specs.Reasons.{statement_name_reason};
+ghost use Rattle.fault_details.specs.Reasons.{variables_reason};
+ghost use Rattle.fault_details.specs.Shown.{shown};
+
+use crate::reasons::{Reason, absent, not_before};
+use crate::words::ListName;
+use indexmap::IndexMap;
+use naga_info::TypeResolution;
+use naga_ir::{
+    ArraySize, EntryPoint, Expression, Function, FunctionArgument, FunctionResult, Handle, Module,
+    Place, PredeclaredType, SpecialTypes, Statement, StructMember, Type_, TypeInner,
+};
+
+/// An item that is not there, if one is named.
+pub(crate) fn absent_if<'a, M>(
+    list: ListName,
+    count: usize,
+    named: Option<Place<M>>,
+) -> Option<Reason<'a>>
+    ensures { option_map shown result ≡ option_and_then (absent list count) named }
+{
+    match named {
+        Some(handle) => absent(list, count, handle.index()),
+        None => None,
+    }
+}
+
+// ---- types
+
+fn members_reason<'a>(here: usize, count: usize, members: &[StructMember]) -> Option<Reason<'a>>
+    ensures { option_map shown result
+        ≡ first_reason (λ member. not_before ListName.Types here count member.ty) members.now }
+{
+    for member in members {
+        let found = not_before(ListName::Types, here, count, member.ty.index());
+        if found.is_some() {
+            return found;
+        }
+    }
+    None
+}
+
+/// A type that a type is made of, and that does not stand before it.
+pub(crate) fn part_reason<'a>(here: usize, count: usize, inner: &TypeInner) -> Option<Reason<'a>>
+    ensures { option_map shown result ≡ part_reason here count inner.now }
+{
+    match inner {
+        TypeInner::Pointer { base, .. }
+        | TypeInner::Array { base, .. }
+        | TypeInner::BindingArray { base, .. } => {
+            not_before(ListName::Types, here, count, base.index())
+        }
+        TypeInner::Struct { members, .. } => members_reason(here, count, members),
+        _ => None,
+    }
+}
+
+fn size_reason<'a>(overrides: usize, size: ArraySize) -> Option<Reason<'a>>
+    ensures { option_map shown result ≡ size_reason overrides size }
+{
+    match size {
+        ArraySize::Pending(handle) => absent(ListName::Overrides, overrides, handle.index()),
+        ArraySize::Constant(_) => None,
+        ArraySize::Dynamic => None,
+    }
+}
+
+/// The override of a type's length, if it is not there.
+pub(crate) fn length_reason<'a>(overrides: usize, inner: &TypeInner) -> Option<Reason<'a>>
+    ensures { option_map shown result ≡ length_reason overrides inner.now }
+{
+    match inner {
+        TypeInner::Array { size, .. } | TypeInner::BindingArray { size, .. } => {
+            size_reason(overrides, *size)
+        }
+        _ => None,
+    }
+}
+
+/// What a known type names and is not there.
+pub(crate) fn known_reason<'a>(
+    overrides: usize,
+    types: usize,
+    ty: &TypeResolution,
+) -> Option<Reason<'a>>
+    ensures { option_map shown result ≡ known_reason overrides types ty.now }
+{
+    match ty {
+        TypeResolution::Handle(handle) => absent(ListName::Types, types, handle.index()),
+        TypeResolution::Value(inner) => {
+            let found = part_reason(types, types, inner);
+            if found.is_some() {
+                return found;
+            }
+            length_reason(overrides, inner)
+        }
+    }
+}
+
+// ---- expressions
+
+/// The first operand of an expression, among so many of a list, that does not stand before it.
+fn operands_reason<'a>(
+    list: ListName,
+    here: usize,
+    count: usize,
+    expression: &Expression,
+) -> Option<Reason<'a>>
+    ensures { option_map shown result
+        ≡ first_reason (not_before list here count) (expression_operands expression.now) }
+{
+    for operand in expression.operands() {
+        let found = not_before(list, here, count, operand.index());
+        if found.is_some() {
+            return found;
+        }
+    }
+    None
+}
+
+/// The first operand of an expression of this function, or of the module itself, that does not
+/// stand before it.
+pub(crate) fn order_reason<'a>(
+    module: &Module,
+    function: Option<&Function>,
+    here: usize,
+    expression: &Expression,
+) -> Option<Reason<'a>>
+    ensures { option_map shown result
+        ≡ order_reason «module».now (option_copied function.entry) here expression.now }
+{
+    match function {
+        Some(function) => {
+            let count = function.expressions.len();
+            operands_reason(ListName::Expressions, here, count, expression)
+        }
+        None => {
+            let count = module.global_expressions.len();
+            operands_reason(ListName::GlobalExpressions, here, count, expression)
+        }
+    }
+}
+
+/// What an expression names beside its operands and is not there, in a function that has so many
+/// arguments and locals.
+fn name_reason<'a>(
+    module: &Module,
+    arguments: usize,
+    locals: usize,
+    expression: &Expression,
+) -> Option<Reason<'a>>
+    ensures { option_map shown result
+        ≡ name_reason «module».now arguments locals expression.now }
+{
+    match expression {
+        Expression::Constant(handle) => {
+            absent(ListName::Constants, module.constants.len(), handle.index())
+        }
+        Expression::Override(handle) => {
+            absent(ListName::Overrides, module.overrides.len(), handle.index())
+        }
+        Expression::ZeroValue(ty)
+        | Expression::Compose { ty, .. }
+        | Expression::AtomicResult { ty, .. }
+        | Expression::WorkGroupUniformLoadResult { ty }
+        | Expression::SubgroupOperationResult { ty } => {
+            absent(ListName::Types, module.types.len(), ty.index())
+        }
+        Expression::FunctionArgument(number) => {
+            absent(ListName::Arguments, arguments, *number as usize)
+        }
+        Expression::GlobalVariable(handle) => {
+            absent(
+                ListName::GlobalVariables,
+                module.global_variables.len(),
+                handle.index(),
+            )
+        }
+        Expression::LocalVariable(handle) => {
+            absent(ListName::LocalVariables, locals, handle.index())
+        }
+        Expression::CallResult(function) => {
+            absent(
+                ListName::Functions,
+                module.functions.len(),
+                function.index(),
+            )
+        }
+        _ => None,
+    }
+}
+
+/// The same in this function, or in the module itself.
+pub(crate) fn names_reason<'a>(
+    module: &Module,
+    function: Option<&Function>,
+    expression: &Expression,
+) -> Option<Reason<'a>>
+    ensures { option_map shown result
+        ≡ names_reason «module».now (option_copied function.entry) expression.now }
+{
+    match function {
+        Some(function) => name_reason(
+            module,
+            function.arguments.len(),
+            function.local_variables.len(),
+            expression,
+        ),
+        None => name_reason(module, 0, 0, expression),
+    }
+}
+
+/// The initialiser of the constant or the override that a global expression names, if it does not
+/// stand before it.
+pub(crate) fn initialiser_reason<'a>(
+    module: &Module,
+    here: usize,
+    expression: &Expression,
+) -> Option<Reason<'a>>
+    ensures { option_map shown result ≡ initialiser_reason «module».now here expression.now }
+{
+    let count = module.global_expressions.len();
+    match expression {
+        Expression::Constant(handle) => {
+            if handle.index() < module.constants.len() {
+                let init = module.constants[*handle].init;
+                not_before(ListName::GlobalExpressions, here, count, init.index())
+            } else {
+                None
+            }
+        }
+        Expression::Override(handle) => {
+            if handle.index() < module.overrides.len() {
+                match module.overrides[*handle].init {
+                    Some(init) => {
+                        not_before(ListName::GlobalExpressions, here, count, init.index())
+                    }
+                    None => None,
+                }
+            } else {
+                None
+            }
+        }
+        _ => None,
+    }
+}
+
+// ---- statements
+
+fn statement_operands_reason<'a>(expressions: usize, statement: &Statement) -> Option<Reason<'a>>
+    ensures { option_map shown result
+        ≡ first_reason (absent ListName.Expressions expressions)
+        (own_operands (tree_of statement.now)) }
+{
+    for operand in statement.operands() {
+        let found = absent(ListName::Expressions, expressions, operand.index());
+        if found.is_some() {
+            return found;
+        }
+    }
+    None
+}
+
+/// The end of what an `Emit` names, if it is past all expressions, or its beginning.
+fn emitted_reason<'a>(expressions: usize, first: usize, end: usize) -> Option<Reason<'a>>
+    ensures { option_map shown result ≡ emitted_reason expressions first end }
+{
+    let index = if first > expressions {
+        first
+    } else if end > expressions {
+        end - 1
+    } else {
+        return None;
+    };
+    Some(Reason::Absent {
+        list: ListName::Expressions,
+        index,
+        count: expressions,
+    })
+}
+
+/// What a statement names beside its operands and its result.
+fn own_name_reason<'a>(
+    module: &Module,
+    callees: usize,
+    expressions: usize,
+    statement: &Statement,
+) -> Option<Reason<'a>>
+    ensures { option_map shown result
+        ≡ own_name_reason «module».now callees expressions (tree_of statement.now) }
+{
+    match statement {
+        Statement::Emit(range) => emitted_reason(expressions, range.first, range.end),
+        Statement::Call { function, .. } => {
+            not_before(
+                ListName::Functions,
+                callees,
+                module.functions.len(),
+                function.index(),
+            )
+        }
+        _ => None,
+    }
+}
+
+/// What a statement names and is not there, where it may call the first `callees` functions.
+pub(crate) fn statement_name_reason<'a>(
+    module: &Module,
+    callees: usize,
+    expressions: usize,
+    statement: &Statement,
+) -> Option<Reason<'a>>
+    ensures { option_map shown result
+        ≡ statement_name_reason «module».now callees expressions (tree_of statement.now) }
+{
+    let operand = statement_operands_reason(expressions, statement);
+    if operand.is_some() {
+        return operand;
+    }
+    let outcome = absent_if(ListName::Expressions, expressions, statement.result());
+    if outcome.is_some() {
+        return outcome;
+    }
+    own_name_reason(module, callees, expressions, statement)
+}
+
+// ---- functions, entry points and the module itself
+
+fn arguments_reason<'a>(types: usize, arguments: &[FunctionArgument]) -> Option<Reason<'a>>
+    ensures { option_map shown result
+        ≡ first_reason (λ a. absent ListName.Types types a.ty) arguments.now }
+{
+    for argument in arguments {
+        let found = absent(ListName::Types, types, argument.ty.index());
+        if found.is_some() {
+            return found;
+        }
+    }
+    None
+}
+
+fn answer_reason<'a>(types: usize, answer: &Option<FunctionResult>) -> Option<Reason<'a>>
+    ensures { option_map shown result
+        ≡ option_and_then (λ answer. absent ListName.Types types answer.ty) answer.now }
+{
+    match answer {
+        Some(answer) => absent(ListName::Types, types, answer.ty.index()),
+        None => None,
+    }
+}
+
+/// A type of the signature that is not there.
+pub(crate) fn signature_reason<'a>(types: usize, function: &Function) -> Option<Reason<'a>>
+    ensures { option_map shown result ≡ signature_reason types function.now }
+{
+    let argument = arguments_reason(types, &function.arguments);
+    if argument.is_some() {
+        return argument;
+    }
+    answer_reason(types, &function.result)
+}
+
+/// The first of the expressions that have a front end's name and are not there.
+pub(crate) fn named_reason<'a>(function: &Function) -> Option<Reason<'a>>
+    ensures { option_map shown result
+        ≡ first_reason (absent ListName.Expressions (length function.now.expressions))
+        (keys function.now.named_expressions) }
+{
+    let count = function.expressions.len();
+    for handle in function.named_expressions.keys() {
+        let found = absent(ListName::Expressions, count, handle.index());
+        if found.is_some() {
+            return found;
+        }
+    }
+    None
+}
+
+/// The first variable of an entry point that is not there.
+pub(crate) fn variables_reason<'a>(variables: usize, entry_point: &EntryPoint) -> Option<Reason<'a>>
+    ensures { option_map shown result ≡ variables_reason variables entry_point.now }
+{
+    let list = ListName::GlobalVariables;
+    let output = match &entry_point.mesh_info {
+        Some(mesh_info) => Some(mesh_info.output_variable),
+        None => None,
+    };
+    let found = absent_if(list, variables, output);
+    if found.is_some() {
+        return found;
+    }
+    let payload = absent_if(list, variables, entry_point.task_payload);
+    if payload.is_some() {
+        return payload;
+    }
+    absent_if(list, variables, entry_point.incoming_ray_payload)
+}
+
+fn predeclared_reason<'a>(
+    types: usize,
+    predeclared: &IndexMap<PredeclaredType, Handle<Type_>>,
+) -> Option<Reason<'a>>
+    ensures { option_map shown result
+        ≡ first_reason (absent ListName.Types types) (values predeclared.now) }
+{
+    for handle in predeclared.values() {
+        let found = absent(ListName::Types, types, handle.index());
+        if found.is_some() {
+            return found;
+        }
+    }
+    None
+}
+
+/// The first special type that is not there.
+pub(crate) fn special_reason<'a>(types: usize, special: &SpecialTypes) -> Option<Reason<'a>>
+    ensures { option_map shown result ≡ special_reason types special.now }
+{
+    let predeclared = predeclared_reason(types, &special.predeclared_types);
+    if predeclared.is_some() {
+        return predeclared;
+    }
+    let params = absent_if(ListName::Types, types, special.external_texture_params);
+    if params.is_some() {
+        return params;
+    }
+    absent_if(
+        ListName::Types,
+        types,
+        special.external_texture_transfer_function,
+    )
+}

@@ -1,0 +1,364 @@
+//! Why a statement does not get what it wants.
+
+ghost use Rattle.std.specs.Prelude.{◌≡◌, length, slice_get};
+ghost use Rattle.std.specs.Option.{option_and_then, option_map, option_or};
+ghost use Rattle.naga_ir.specs.StatementViews.{cases_of, tree_of};
+ghost use Rattle.naga_acceptance.specs.KnownTypes.{known_types};
+ghost use Rattle.module_meaning.specs.StatementsFit.{is_atomic_result, is_ballot_result};
+ghost use Rattle.module_meaning.specs.StatementsFit.{is_subgroup_result, is_uniform_load_result};
+ghost use Rattle.fault_details.specs.Reasons.{answer_reason, call_reason, class_reason};
+ghost use Rattle.fault_details.specs.Reasons.{label_reason, own_reason, passed_reason};
+ghost use Rattle.fault_details.specs.Reasons.{result_reason, return_reason, store_reason};
+ghost use Rattle.fault_details.specs.Reasons.{statement_reason, switch_reason};
+ghost use Rattle.fault_details.specs.Shown.{placed, shown};
+
+use crate::names::statement_name_reason;
+use crate::reasons::{Reason, need_unless, number_reason};
+use crate::types::{class_reason, type_reason};
+use crate::walk::Placed;
+use crate::words::{Counted, Need, TypeClass};
+use naga_acceptance::Fault;
+use naga_acceptance::expression_types::pointee_at;
+use naga_acceptance::parts::{InferredType, Known, known_inner, known_type};
+use naga_acceptance::statements::{
+    has_label, is_atomic_result, is_ballot_result, is_call_result, is_subgroup_result,
+    is_uniform_load_result, labels_are_of, labels_differ, last_falls_through,
+};
+use naga_ir::{
+    Expression, Function, FunctionArgument, FunctionResult, Handle, Module, Scalar, Statement,
+    SwitchCase, SwitchValue, Type_, TypeInner, UniqueArena,
+};
+
+/// A condition that is no `bool`, if there is one.
+fn condition_reason<'a>(
+    types: &'a UniqueArena<Type_>,
+    known: Known<'a>,
+    condition: Option<Handle<Expression>>,
+) -> Option<Reason<'a>>
+    ensures { option_map shown result ≡ option_and_then
+        (class_reason types.now (known_types known.entry) TypeClass.Bool) condition }
+{
+    match condition {
+        Some(condition) => class_reason(types, known, TypeClass::Bool, condition),
+        None => None,
+    }
+}
+
+// ---- switches
+
+fn scalar_label_reason<'a>(scalar: Scalar, cases: &[SwitchCase]) -> Option<Reason<'a>>
+    ensures { option_map shown result
+        ≡ label_reason (cases_of cases.now) (TypeInner.Scalar scalar) }
+{
+    if !labels_are_of(scalar, cases) {
+        return Some(Reason::Needs { need: Need::Labels });
+    }
+    if !labels_differ(cases) {
+        return Some(Reason::Needs {
+            need: Need::DistinctLabels,
+        });
+    }
+    if !has_label(SwitchValue::Default, cases) {
+        return Some(Reason::Needs {
+            need: Need::Default,
+        });
+    }
+    need_unless(!last_falls_through(cases), Need::End)
+}
+
+fn label_reason<'a>(cases: &[SwitchCase], inner: &TypeInner) -> Option<Reason<'a>>
+    ensures { option_map shown result ≡ label_reason (cases_of cases.now) inner.now }
+{
+    match inner {
+        TypeInner::Scalar(scalar) => scalar_label_reason(*scalar, cases),
+        _ => None,
+    }
+}
+
+fn switch_reason<'a>(
+    types: &'a UniqueArena<Type_>,
+    known: Known<'a>,
+    selector: Handle<Expression>,
+    cases: &[SwitchCase],
+) -> Option<Reason<'a>>
+    ensures { option_map shown result
+        ≡ switch_reason types.now (known_types known.entry) selector (cases_of cases.now) }
+{
+    let found = class_reason(types, known, TypeClass::Selector, selector);
+    if found.is_some() {
+        return found;
+    }
+    match known_inner(types, known, selector) {
+        Some(inner) => label_reason(cases, inner),
+        None => None,
+    }
+}
+
+// ---- values that are stored, returned and passed
+
+fn store_reason<'a>(
+    types: &'a UniqueArena<Type_>,
+    known: Known<'a>,
+    pointer: Handle<Expression>,
+    value: Handle<Expression>,
+) -> Option<Reason<'a>>
+    ensures { option_map shown result
+        ≡ store_reason types.now (known_types known.entry) pointer value }
+{
+    match pointee_at(types, known, pointer) {
+        Some(wanted) => type_reason(types, known, wanted, value),
+        None => class_reason(types, known, TypeClass::Pointer, pointer),
+    }
+}
+
+fn return_reason<'a>(
+    types: &'a UniqueArena<Type_>,
+    known: Known<'a>,
+    answer: &Option<FunctionResult>,
+    value: Option<Handle<Expression>>,
+) -> Option<Reason<'a>>
+    ensures { option_map shown result
+        ≡ return_reason types.now (known_types known.entry) answer.now value }
+{
+    match (answer, value) {
+        (Some(answer), Some(value)) => {
+            type_reason(types, known, InferredType::Handle(answer.ty), value)
+        }
+        (Some(answer), None) => Some(Reason::NoValue {
+            wanted: InferredType::Handle(answer.ty),
+        }),
+        (None, Some(value)) => match known_type(known, value) {
+            Some(got) => Some(Reason::Unwanted { got }),
+            None => None,
+        },
+        (None, None) => None,
+    }
+}
+
+/// The first value of another type than its argument, where there are as many of both.
+fn passed_reason<'a>(
+    types: &'a UniqueArena<Type_>,
+    known: Known<'a>,
+    arguments: &[FunctionArgument],
+    values: &[Handle<Expression>],
+) -> Option<Reason<'a>>
+    requires { length arguments.now ≡ length values.now }
+    ensures { option_map shown result
+        ≡ passed_reason types.now (known_types known.entry) arguments.now values.now }
+{
+    for index in 0..values.len() {
+        let wanted = InferredType::Handle(arguments[index].ty);
+        let found = type_reason(types, known, wanted, values[index]);
+        if found.is_some() {
+            return found;
+        }
+    }
+    None
+}
+
+/// Why what is taken for the result of a call is none.
+fn answer_reason<'a>(
+    callee: &Function,
+    callee_handle: Handle<Function>,
+    function: &Function,
+    outcome: Handle<Expression>,
+) -> Option<Reason<'a>>
+    ensures { option_map shown result
+        ≡ answer_reason callee.now callee_handle function.now outcome }
+{
+    if callee.result.is_none() {
+        return Some(Reason::Needs {
+            need: Need::CalleeResult,
+        });
+    }
+    need_unless(
+        is_call_result(callee_handle, function, outcome),
+        Need::OwnResult,
+    )
+}
+
+fn call_reason<'a>(
+    types: &'a UniqueArena<Type_>,
+    known: Known<'a>,
+    function: &Function,
+    callee_handle: Handle<Function>,
+    arguments: &[Handle<Expression>],
+    outcome: Option<Handle<Expression>>,
+    callee: &Function,
+) -> Option<Reason<'a>>
+    ensures { option_map shown result ≡ call_reason types.now (known_types known.entry)
+        function.now callee_handle arguments.now outcome callee.now }
+{
+    let wanted = callee.arguments.len();
+    if wanted != arguments.len() {
+        return number_reason(Counted::Arguments, wanted, arguments.len());
+    }
+    let found = passed_reason(types, known, &callee.arguments, arguments);
+    if found.is_some() {
+        return found;
+    }
+    match outcome {
+        Some(outcome) => answer_reason(callee, callee_handle, function, outcome),
+        None => None,
+    }
+}
+
+fn call_reason_at<'a>(
+    module: &'a Module,
+    function: &Function,
+    known: Known<'a>,
+    callee: Handle<Function>,
+    arguments: &[Handle<Expression>],
+    outcome: Option<Handle<Expression>>,
+) -> Option<Reason<'a>>
+    ensures { option_map shown result ≡ option_and_then
+        (call_reason «module».now.types (known_types known.entry) function.now callee arguments.now
+        outcome) (slice_get «module».now.functions callee) }
+{
+    if callee.index() < module.functions.len() {
+        call_reason(
+            &module.types,
+            known,
+            function,
+            callee,
+            arguments,
+            outcome,
+            &module.functions[callee],
+        )
+    } else {
+        None
+    }
+}
+
+// ---- results
+
+fn atomic_reason<'a>(
+    types: &'a UniqueArena<Type_>,
+    known: Known<'a>,
+    function: &Function,
+    pointer: Handle<Expression>,
+    outcome: Option<Handle<Expression>>,
+) -> Option<Reason<'a>>
+    ensures { option_map shown result ≡ option_or
+        (class_reason types.now (known_types known.entry) TypeClass.AtomicPointer pointer)
+        (option_and_then (result_reason is_atomic_result function.now) outcome) }
+{
+    let found = class_reason(types, known, TypeClass::AtomicPointer, pointer);
+    if found.is_some() {
+        return found;
+    }
+    match outcome {
+        Some(outcome) => need_unless(is_atomic_result(function, outcome), Need::OwnResult),
+        None => None,
+    }
+}
+
+fn subgroup_reason<'a>(function: &Function, outcome: Handle<Expression>) -> Option<Reason<'a>>
+    ensures { option_map shown result ≡ result_reason is_subgroup_result function.now outcome }
+{
+    need_unless(is_subgroup_result(function, outcome), Need::OwnResult)
+}
+
+fn ballot_reason<'a>(function: &Function, outcome: Handle<Expression>) -> Option<Reason<'a>>
+    ensures { option_map shown result ≡ result_reason is_ballot_result function.now outcome }
+{
+    need_unless(is_ballot_result(function, outcome), Need::OwnResult)
+}
+
+fn uniform_load_reason<'a>(function: &Function, outcome: Handle<Expression>) -> Option<Reason<'a>>
+    ensures { option_map shown result
+        ≡ result_reason is_uniform_load_result function.now outcome }
+{
+    need_unless(is_uniform_load_result(function, outcome), Need::OwnResult)
+}
+
+// ---- statements
+
+/// Why a statement by itself, its blocks left out, does not get what it wants, where it may leave
+/// the nearest loop or switch if it `breaks`, and go on with the nearest loop's `continuing` if it
+/// `continues`.
+fn own_reason<'a>(
+    module: &'a Module,
+    function: &Function,
+    known: Known<'a>,
+    breaks: bool,
+    continues: bool,
+    statement: &Statement,
+) -> Option<Reason<'a>>
+    ensures { option_map shown result ≡ own_reason «module».now function.now
+        (known_types known.entry) breaks continues (tree_of statement.now) }
+{
+    let types = &module.types;
+    match statement {
+        Statement::If { condition, .. } => {
+            class_reason(types, known, TypeClass::Bool, *condition)
+        }
+        Statement::Switch { selector, cases } => switch_reason(types, known, *selector, cases),
+        Statement::Loop { break_if, .. } => condition_reason(types, known, *break_if),
+        Statement::Break => need_unless(breaks, Need::LoopOrSwitch),
+        Statement::Continue => need_unless(continues, Need::Loop),
+        Statement::Return { value } => return_reason(types, known, &function.result, *value),
+        Statement::Store { pointer, value } => store_reason(types, known, *pointer, *value),
+        Statement::Atomic {
+            pointer,
+            result: outcome,
+            ..
+        } => atomic_reason(types, known, function, *pointer, *outcome),
+        Statement::WorkGroupUniformLoad {
+            result: outcome,
+            ..
+        } => uniform_load_reason(function, *outcome),
+        Statement::Call {
+            function: callee,
+            arguments,
+            result: outcome,
+        } => call_reason_at(module, function, known, *callee, arguments, *outcome),
+        Statement::SubgroupBallot {
+            result: outcome,
+            ..
+        } => ballot_reason(function, *outcome),
+        Statement::SubgroupGather {
+            result: outcome,
+            ..
+        }
+        | Statement::SubgroupCollectiveOperation {
+            result: outcome,
+            ..
+        } => subgroup_reason(function, *outcome),
+        Statement::CooperativeStore { data_, .. } => {
+            class_reason(types, known, TypeClass::ComponentsPointer, data_.pointer)
+        }
+        _ => None,
+    }
+}
+
+/// Why a statement is at fault, in a function that may call the first `callees` functions.
+pub(crate) fn statement_reason<'a>(
+    module: &'a Module,
+    callees: usize,
+    function: &Function,
+    known: Known<'a>,
+    fault: Fault,
+    place: Placed<'_>,
+) -> Option<Reason<'a>>
+    ensures { option_map shown result ≡ statement_reason «module».now callees function.now
+        (known_types known.entry) fault (placed place.entry) }
+{
+    match fault {
+        Fault::Names => statement_name_reason(
+            module,
+            callees,
+            function.expressions.len(),
+            place.statement,
+        ),
+        Fault::Unsatisfied => own_reason(
+            module,
+            function,
+            known,
+            place.breaks,
+            place.continues,
+            place.statement,
+        ),
+        _ => None,
+    }
+}

@@ -1,0 +1,252 @@
+//! Types that are not those that are wanted.
+
+ghost use Rattle.std.specs.Prelude.{◌≡◌, [], false};
+ghost use Rattle.std.specs.Option.{option_and_then, option_copied, option_map, option_map_or};
+ghost use Rattle.std.specs.Option.{option_or};
+ghost use Rattle.module_meaning.specs.TypeParts.{known_inner, part_count};
+ghost use Rattle.naga_acceptance.specs.KnownTypes.{inferred, known_types, wanted};
+ghost use Rattle.naga_info.specs.Resolution.{inner_of};
+ghost use Rattle.fault_details.specs.Reasons.{class_reason, index_reason, is_in_class};
+ghost use Rattle.fault_details.specs.Reasons.{operand_reason, own_type_reason, type_reason};
+ghost use Rattle.fault_details.specs.Reasons.{typeless_reason, unlike, wanted_reason};
+ghost use Rattle.fault_details.specs.Shown.{shown};
+
+use crate::reasons::Reason;
+use crate::words::TypeClass;
+use module_meaning::type_parts::inner_of;
+use naga_acceptance::alike::is_like;
+use naga_acceptance::demands::{is_components, is_integer, is_pointer, points_to_components};
+use naga_acceptance::expression_types::{Wanted, is_bool, wanted_type};
+use naga_acceptance::parts::{
+    InferredType, Known, has_computed_parts, known_inner, known_type, part_count, vector_scalar,
+};
+use naga_acceptance::statements::{points_to_atomic, selects};
+use naga_info::TypeResolution;
+use naga_ir::{Expression, Function, Handle, Module, Type_, TypeInner, UniqueArena};
+
+fn is_selector(inner: &TypeInner) -> bool
+    ensures { result ≡ is_in_class [] TypeClass.Selector inner.now }
+{
+    match inner {
+        TypeInner::Scalar(scalar) => selects(*scalar),
+        _ => false,
+    }
+}
+
+/// Whether a type is of a class.
+fn is_in_class(types: &UniqueArena<Type_>, class: TypeClass, inner: &TypeInner) -> bool
+    ensures { result ≡ is_in_class types.now class inner.now }
+{
+    match class {
+        TypeClass::Bool => is_bool(inner),
+        TypeClass::Integer => is_integer(inner),
+        TypeClass::Selector => is_selector(inner),
+        TypeClass::Components => is_components(inner),
+        TypeClass::Vector => vector_scalar(inner).is_some(),
+        TypeClass::Composite => has_computed_parts(types, inner),
+        TypeClass::Pointer => is_pointer(types, inner),
+        TypeClass::ComponentsPointer => points_to_components(types, inner),
+        TypeClass::AtomicPointer => points_to_atomic(types, inner),
+    }
+}
+
+fn is_of_class(types: &UniqueArena<Type_>, class: TypeClass, ty: &TypeResolution) -> bool
+    ensures { result ≡ option_map_or (is_in_class types.now class) (inner_of ty.now types.now)
+        false }
+{
+    match inner_of(types, ty) {
+        Some(inner) => is_in_class(types, class, inner),
+        None => false,
+    }
+}
+
+/// The type of an expression, if it is of none of a class.
+pub(crate) fn class_reason<'a>(
+    types: &'a UniqueArena<Type_>,
+    known: Known<'a>,
+    class: TypeClass,
+    handle: Handle<Expression>,
+) -> Option<Reason<'a>>
+    ensures { option_map shown result
+        ≡ class_reason types.now (known_types known.entry) class handle }
+{
+    match known_type(known, handle) {
+        Some(got) => {
+            if is_of_class(types, class, got) {
+                None
+            } else {
+                Some(Reason::OtherClass { class, got })
+            }
+        }
+        None => None,
+    }
+}
+
+/// A type, if it is not like the one that is wanted.
+fn unlike<'a>(
+    types: &UniqueArena<Type_>,
+    wanted: InferredType,
+    got: &'a TypeResolution,
+) -> Option<Reason<'a>>
+    ensures { option_map shown result ≡ unlike types.now (inferred wanted) got.now }
+{
+    if is_like(types, got, &wanted) {
+        None
+    } else {
+        Some(Reason::OtherType { wanted, got })
+    }
+}
+
+/// The type of an expression, if it is another than the one that is wanted.
+pub(crate) fn type_reason<'a>(
+    types: &'a UniqueArena<Type_>,
+    known: Known<'a>,
+    wanted: InferredType,
+    handle: Handle<Expression>,
+) -> Option<Reason<'a>>
+    ensures { option_map shown result
+        ≡ type_reason types.now (known_types known.entry) (inferred wanted) handle }
+{
+    match known_type(known, handle) {
+        Some(got) => unlike(types, wanted, got),
+        None => None,
+    }
+}
+
+/// Why an expression stands for nothing that has a type.
+fn typeless_reason<'a>(
+    types: &'a UniqueArena<Type_>,
+    known: Known<'a>,
+    own: &'a TypeResolution,
+    expression: &Expression,
+) -> Option<Reason<'a>>
+    ensures { option_map shown result
+        ≡ typeless_reason types.now (known_types known.entry) own.now expression.now }
+{
+    match expression {
+        Expression::Access { base, .. } => {
+            class_reason(types, known, TypeClass::Composite, *base)
+        }
+        Expression::Splat { value, .. } => {
+            class_reason(types, known, TypeClass::Components, *value)
+        }
+        Expression::Swizzle { vector, .. } => {
+            class_reason(types, known, TypeClass::Vector, *vector)
+        }
+        Expression::Load { pointer } => class_reason(types, known, TypeClass::Pointer, *pointer),
+        Expression::CallResult(_) => Some(Reason::Unwanted { got: own }),
+        _ => None,
+    }
+}
+
+fn wanted_reason<'a>(
+    types: &'a UniqueArena<Type_>,
+    known: Known<'a>,
+    own: &'a TypeResolution,
+    expression: &Expression,
+    demand: Wanted,
+) -> Option<Reason<'a>>
+    ensures { option_map shown result ≡ wanted_reason types.now (known_types known.entry) own.now
+        expression.now (wanted demand) }
+{
+    match demand {
+        Wanted::LikeThis(wanted) => unlike(types, wanted, own),
+        Wanted::Anything => None,
+        Wanted::Nothing => typeless_reason(types, known, own, expression),
+    }
+}
+
+/// The type that is known of an expression, if it is another than what it stands for has.
+pub(crate) fn own_type_reason<'a>(
+    module: &'a Module,
+    function: Option<&Function>,
+    known: Known<'a>,
+    handle: Handle<Expression>,
+    expression: &Expression,
+) -> Option<Reason<'a>>
+    ensures { option_map shown result ≡ own_type_reason «module».now (option_copied function.entry)
+        (known_types known.entry) handle expression.now }
+{
+    match known_type(known, handle) {
+        Some(own) => {
+            let demand = wanted_type(module, function, known, expression);
+            wanted_reason(&module.types, known, own, expression, demand)
+        }
+        None => None,
+    }
+}
+
+fn index_reason<'a>(index: u32, count: usize) -> Option<Reason<'a>>
+    ensures { option_map shown result ≡ index_reason index count }
+{
+    let got = index as usize;
+    if got < count {
+        None
+    } else {
+        Some(Reason::PastParts { count, got })
+    }
+}
+
+fn part_number_reason<'a>(
+    types: &'a UniqueArena<Type_>,
+    known: Known<'a>,
+    base: Handle<Expression>,
+    index: u32,
+) -> Option<Reason<'a>>
+    ensures { option_map shown result ≡ option_and_then (index_reason index)
+        (option_and_then (part_count types.now)
+        (known_inner types.now (known_types known.entry) base)) }
+{
+    match known_inner(types, known, base) {
+        Some(inner) => match part_count(types, inner) {
+            Some(count) => index_reason(index, count),
+            None => None,
+        },
+        None => None,
+    }
+}
+
+fn access_reason<'a>(
+    types: &'a UniqueArena<Type_>,
+    known: Known<'a>,
+    base: Handle<Expression>,
+    index: Handle<Expression>,
+) -> Option<Reason<'a>>
+    ensures { option_map shown result
+        ≡ option_or (class_reason types.now (known_types known.entry) TypeClass.Composite base)
+        (class_reason types.now (known_types known.entry) TypeClass.Integer index) }
+{
+    let found = class_reason(types, known, TypeClass::Composite, base);
+    if found.is_some() {
+        return found;
+    }
+    class_reason(types, known, TypeClass::Integer, index)
+}
+
+/// What an expression asks of its operands and does not get.
+pub(crate) fn operand_reason<'a>(
+    types: &'a UniqueArena<Type_>,
+    known: Known<'a>,
+    expression: &Expression,
+) -> Option<Reason<'a>>
+    ensures { option_map shown result
+        ≡ operand_reason types.now (known_types known.entry) expression.now }
+{
+    match expression {
+        Expression::Access { base, index } => access_reason(types, known, *base, *index),
+        Expression::AccessIndex { base, index } => {
+            part_number_reason(types, known, *base, *index)
+        }
+        Expression::Splat { value, .. } => {
+            class_reason(types, known, TypeClass::Components, *value)
+        }
+        Expression::Swizzle { vector, .. } => {
+            class_reason(types, known, TypeClass::Vector, *vector)
+        }
+        Expression::Load { pointer } => class_reason(types, known, TypeClass::Pointer, *pointer),
+        Expression::CooperativeLoad { data_, .. } => {
+            class_reason(types, known, TypeClass::ComponentsPointer, data_.pointer)
+        }
+        _ => None,
+    }
+}

@@ -1,0 +1,151 @@
+//! What is told by a word: lists, classes of types, and what statements need.
+
+use std::fmt;
+
+/// A list of a module or of a function, of which an item is named by its number. It is shown by its
+/// name in the JSON of a module.
+#[derive(Debug, Clone, Copy, PartialEq, Eq)]
+pub enum ListName {
+    Types,
+    Constants,
+    Overrides,
+    GlobalVariables,
+    GlobalExpressions,
+    Functions,
+    /// The expressions of the function at the place.
+    Expressions,
+    /// The arguments of the function at the place.
+    Arguments,
+    /// The variables of the function at the place.
+    LocalVariables,
+}
+
+impl fmt::Display for ListName {
+    fn fmt<W: fmt::Write>(&self, f: &mut fmt::Formatter<W>) -> fmt::Result {
+        f.write_str(match self {
+            ListName::Types => "types",
+            ListName::Constants => "constants",
+            ListName::Overrides => "overrides",
+            ListName::GlobalVariables => "global_variables",
+            ListName::GlobalExpressions => "global_expressions",
+            ListName::Functions => "functions",
+            ListName::Expressions => "expressions",
+            ListName::Arguments => "arguments",
+            ListName::LocalVariables => "local_variables",
+        })
+    }
+}
+
+/// What there are as many of as are wanted, or not.
+#[derive(Debug, Clone, Copy, PartialEq, Eq)]
+pub enum Counted {
+    /// Values that a call passes.
+    Arguments,
+    /// Functions of which something is known.
+    Functions,
+    /// Entry points of which something is known.
+    EntryPoints,
+    /// Expressions of a function of which something is known.
+    Expressions,
+    /// Expressions of the module itself of which something is known.
+    GlobalExpressions,
+}
+
+impl Counted {
+    /// What one of these is called.
+    fn singular(self) -> &'static str {
+        match self {
+            Counted::Arguments => "argument",
+            Counted::Functions => "function",
+            Counted::EntryPoints => "entry point",
+            Counted::Expressions => "expression",
+            Counted::GlobalExpressions => "global expression",
+        }
+    }
+}
+
+/// So many of something, as words: `1 argument`, `2 arguments`.
+#[derive(Clone, Copy)]
+pub(crate) struct Many(pub usize, pub Counted);
+
+impl fmt::Display for Many {
+    fn fmt<W: fmt::Write>(&self, f: &mut fmt::Formatter<W>) -> fmt::Result {
+        let ending = if self.0 == 1 { "" } else { "s" };
+        write!(f, "{} {}{}", self.0, self.1.singular(), ending)
+    }
+}
+
+/// Types of which any is wanted.
+#[derive(Debug, Clone, Copy, PartialEq, Eq)]
+pub enum TypeClass {
+    /// `bool`
+    Bool,
+    /// Integers of whatever width.
+    Integer,
+    /// `i32` and `u32`.
+    Selector,
+    /// Scalars and vectors.
+    Components,
+    /// Vectors.
+    Vector,
+    /// What has parts at computed indexes: vectors, matrices, arrays, and pointers to these.
+    Composite,
+    /// Pointers.
+    Pointer,
+    /// Pointers to scalars and vectors.
+    ComponentsPointer,
+    /// Pointers to atomics.
+    AtomicPointer,
+}
+
+impl fmt::Display for TypeClass {
+    fn fmt<W: fmt::Write>(&self, f: &mut fmt::Formatter<W>) -> fmt::Result {
+        f.write_str(match self {
+            TypeClass::Bool => "bool",
+            TypeClass::Integer => "an integer",
+            TypeClass::Selector => "i32 or u32",
+            TypeClass::Components => "a scalar or a vector",
+            TypeClass::Vector => "a vector",
+            TypeClass::Composite => "a vector, a matrix, an array or a pointer to one of these",
+            TypeClass::Pointer => "a pointer",
+            TypeClass::ComponentsPointer => "a pointer to a scalar or a vector",
+            TypeClass::AtomicPointer => "a pointer to an atomic",
+        })
+    }
+}
+
+/// What a statement needs beside values of some types.
+#[derive(Debug, Clone, Copy, PartialEq, Eq)]
+pub enum Need {
+    /// A `Break` stands in a loop's body or in a case, and leaves no `continuing`.
+    LoopOrSwitch,
+    /// A `Continue` stands in a loop's body, and leaves no `continuing`.
+    Loop,
+    /// The labels of a switch are of its selector's type.
+    Labels,
+    /// No label of a switch stands twice.
+    DistinctLabels,
+    /// One label of a switch is the default.
+    Default,
+    /// The last case of a switch does not fall through.
+    End,
+    /// The callee gives something where the result of a call is used.
+    CalleeResult,
+    /// The result of a statement is an expression of its kind.
+    OwnResult,
+}
+
+impl fmt::Display for Need {
+    fn fmt<W: fmt::Write>(&self, f: &mut fmt::Formatter<W>) -> fmt::Result {
+        f.write_str(match self {
+            Need::LoopOrSwitch => "a loop or a switch to leave",
+            Need::Loop => "a loop to go on with",
+            Need::Labels => "labels of the selector's type",
+            Need::DistinctLabels => "labels that differ",
+            Need::Default => "a default label",
+            Need::End => "a last case that does not fall through",
+            Need::CalleeResult => "a callee with a result",
+            Need::OwnResult => "an expression that is its result",
+        })
+    }
+}

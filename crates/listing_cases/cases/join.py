@@ -1,0 +1,100 @@
+#!/usr/bin/env python3
+"""Makes the files stdin and stdout of listing_cases of the case files beside this script.
+
+`join.py` writes both, and `join.py --check` says whether they are what it would write. README.md tells how a case is
+written: modules as in the cases of wgsl_cases, whose scripts read them.
+"""
+
+import json
+import re
+import sys
+from pathlib import Path
+
+sys.dont_write_bytecode = True
+HERE = Path(__file__).resolve().parent
+CRATE = HERE.parent
+sys.path.insert(0, str(CRATE.parent / "wgsl_cases" / "cases"))
+from importlib import util  # noqa: E402
+
+spec = util.spec_from_file_location("wgsl_join", CRATE.parent / "wgsl_cases" / "cases" / "join.py")
+wgsl = util.module_from_spec(spec)
+spec.loader.exec_module(wgsl)
+from notation import CaseError, Module  # noqa: E402
+
+LISTED = re.compile(r"(declarations|function (\d+)|entry point (\d+))(?:, ([a-z ]+?) (\d+))?(?:, beside ([a-z ]+?) (\d+))?")
+
+
+def place_of(case, head):
+    """What a line `shows PLACE` asks for."""
+    match = LISTED.fullmatch(head.text[len("shows "):])
+    if not match:
+        raise case.error("a place is `function 0, expression 3`, and so on", head)
+    whole, function, entry_point, spot, index, beside, beside_index = match.groups()
+    number = function or entry_point
+    told = {"listed": whole.rsplit(" ", 1)[0] if number else whole, "number": int(number or 0)}
+    if spot:
+        told |= {"spot": spot, "index": int(index)}
+    if beside:
+        told |= {"beside": beside, "beside_index": int(beside_index)}
+    return told
+
+
+def text_of(lines):
+    """The listing: its lines without the indentation of the first."""
+    depth = min(line.indent for line in lines if line.text)
+    return "".join(line.raw[depth:] + "\n" for line in lines if line.text)
+
+
+def joined():
+    """What the program reads, and what it must print."""
+    modules, read, printed = {}, [], []
+    for file in sorted(HERE.glob("*.cases")):
+        for made in wgsl.cases_of(file):
+            for case in wgsl.rows_of(wgsl.with_definitions(made)):
+                module, listings, likes, edits = [], [], [], []
+                for head, lines in wgsl.sections(case):
+                    if head.text.startswith("shows "):
+                        listings.append((head, lines))
+                    elif head.text.startswith("like "):
+                        likes.append((head, head.text[len("like "):]))
+                    elif "=>" in head.text:
+                        edits.append(head)
+                    else:
+                        module += [head] + lines
+                for head, name in likes:
+                    if name not in modules:
+                        raise case.error(f"no case `{name}` stands before", head)
+                    module = wgsl.edited(case, modules[name], edits) + module
+                if not listings:
+                    raise case.error("nothing is shown")
+                modules[case.name] = module
+                told, _ = Module.of(module, case)
+                for head, lines in listings:
+                    name = f"{case.name}: {head.text[len('shows '):]}"
+                    line = {"name": name, **place_of(case, head), **told}
+                    read.append(json.dumps(line, ensure_ascii=False, separators=(",", ":")) + "\n")
+                    printed.append(f"== {name}\n{text_of(lines)}")
+    return {"stdin": "".join(read), "stdout": "".join(printed)}
+
+
+def main(words):
+    try:
+        wanted = joined()
+    except CaseError as error:
+        print(error, file=sys.stderr)
+        return 1
+    if words == ["--check"]:
+        stale = [name for name, text in wanted.items() if wgsl.read(CRATE / name) != text]
+        for name in stale:
+            print(f"{CRATE / name} is not what the case files say: run {__file__}", file=sys.stderr)
+        return 1 if stale else 0
+    if words:
+        print(f"usage: {sys.argv[0]} [--check]", file=sys.stderr)
+        return 2
+    for name, text in wanted.items():
+        (CRATE / name).write_text(text, encoding="utf-8")
+    return 0
+
+
+if __name__ == "__main__":
+    sys.exit(main(sys.argv[1:]))

@@ -1,0 +1,82 @@
+//! The listing of a case.
+
+use naga_ir::Place as Handle;
+use naga_json::{Known, known_of};
+use naga_listing::{Listed, Place, Spot, explain};
+use serde_json::Value;
+use std::alloc::Global;
+use std::io;
+use std::io::Write;
+
+/// Prints the listing of the case in this line.
+pub fn answer_line<W: Write>(alloc: Global, line: &str, out: &mut W) -> io::Result<()> {
+    match Value::from_str(alloc, line) {
+        Ok(case) => answer_case(alloc, &case, out),
+        Err(error) => writeln!(out, "no JSON: {error}"),
+    }
+}
+
+fn answer_case<W: Write>(alloc: Global, case: &Value, out: &mut W) -> io::Result<()> {
+    let name = text_in(case, "name").unwrap_or("");
+    match known_of(alloc, case) {
+        Ok(known) => answer_known(alloc, name, &known, place_in(case), out),
+        Err(error) => writeln!(out, "== {name}\nnot read: {error}"),
+    }
+}
+
+fn answer_known<W: Write>(
+    alloc: Global,
+    name: &str,
+    known: &Known,
+    place: Place,
+    out: &mut W,
+) -> io::Result<()> {
+    let listing = explain(alloc, &known.module, &known.info, &place, "here")?;
+    write!(out, "== {name}\n{listing}")
+}
+
+fn place_in(case: &Value) -> Place {
+    Place {
+        listed: listed_in(case),
+        spot: spot_of(text_in(case, "spot"), number_in(case, "index")),
+        beside: match text_in(case, "beside") {
+            Some(kind) => Some(spot_of(Some(kind), number_in(case, "beside_index"))),
+            None => None,
+        },
+    }
+}
+
+fn listed_in(case: &Value) -> Listed {
+    let number = number_in(case, "number");
+    match text_in(case, "listed") {
+        Some("function") => Listed::Function(Handle::from_index(number)),
+        Some("entry point") => Listed::EntryPoint(number),
+        _ => Listed::Declarations,
+    }
+}
+
+fn spot_of(kind: Option<&str>, index: usize) -> Spot {
+    match kind {
+        Some("type") => Spot::Type_(Handle::from_index(index)),
+        Some("constant") => Spot::Constant(Handle::from_index(index)),
+        Some("override") => Spot::Override(Handle::from_index(index)),
+        Some("global variable") => Spot::GlobalVariable(Handle::from_index(index)),
+        Some("global expression") => Spot::GlobalExpression(Handle::from_index(index)),
+        Some("local") => Spot::Local(Handle::from_index(index)),
+        Some("expression") => Spot::Expression(Handle::from_index(index)),
+        Some("statement") => Spot::Statement(index),
+        _ => Spot::Whole,
+    }
+}
+
+fn text_in<'a>(case: &'a Value, member: &str) -> Option<&'a str> {
+    case.get(member).and_then(Value::as_str)
+}
+
+/// The number that a member has, and 0 where there is no such member.
+fn number_in(case: &Value, member: &str) -> usize {
+    match case.get(member).and_then(Value::as_u64) {
+        Some(number) => usize::try_from(number).unwrap_or(0),
+        None => 0,
+    }
+}

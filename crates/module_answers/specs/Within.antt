@@ -1,0 +1,42 @@
+-- What is told of a module that is not written, since it is too deep, not accepted or too long.
+--
+-- Throughout, given is the module before the call and m after it, old is what is known of it before
+-- the call and new after it, and levels is how deep it may be nested.
+use Rattle.std.specs.Prelude.{◌≡◌, ◌<◌, ⊤, ⊥, ℕ, IsTrue, None, Some, length}
+use Rattle.module_answers.specs.declared.within.Unwritten.{Unwritten}
+use Rattle.module_answers.specs.declared.within.Unwritten.TheVariants as unwritten
+use Rattle.module_limits.specs.Nesting.{nested_past}
+use Rattle.module_limits.specs.declared.limits.Limits.{Limits}
+use Rattle.module_meaning.specs.Accepted.{is_accepted}
+use Rattle.naga_acceptance.specs.Faults.{Fails}
+use Rattle.naga_back.specs.declared.flags.WriterFlags.{WriterFlags}
+use Rattle.naga_info.specs.declared.info.ModuleInfo.{ModuleInfo}
+use Rattle.naga_ir.specs.declared.module.Module.{Module}
+use Rattle.naga_wgsl_out.specs.Checked.{IsCounted}
+use Rattle.naga_wgsl_out.specs.Writing.{written_text}
+
+-- what of it is nested deeper, unless memory was wanting for the question
+abbrev pub TellsDepth : (levels : ℕ) → Module → Unwritten → Type 0
+TellsDepth levels m (unwritten.TooDeep nested) = nested_past levels m ≡ Some nested
+TellsDepth levels m (unwritten.NotAccepted fault) = ⊥
+TellsDepth levels m unwritten.TooLong = ⊥
+TellsDepth levels m (unwritten.Memory error) = ⊤
+
+-- It is nested no deeper than it may be and accepted, and with its uses counted it has a text that
+-- is too long.
+pub record IsTooLong (flags : WriterFlags) (limits : Limits) (given m : Module)
+    (old new : ModuleInfo) : Type 0 where
+  pub nested : nested_past limits.nesting given ≡ None
+  pub accepted : IsTrue (is_accepted given old)
+  pub counted : IsCounted m old new
+  pub longer : limits.text < length (written_text m new flags)
+
+abbrev pub IsUnwritten : WriterFlags → Limits → (given m : Module) → (old new : ModuleInfo) →
+    Unwritten → Type 0
+IsUnwritten flags limits given m old new (unwritten.TooDeep nested) =
+    (nested_past limits.nesting given ≡ Some nested) × (m ≡ given) × (new ≡ old)
+IsUnwritten flags limits given m old new (unwritten.NotAccepted fault) =
+    (nested_past limits.nesting given ≡ None) × Fails given old fault × (m ≡ given)
+IsUnwritten flags limits given m old new unwritten.TooLong =
+    IsTooLong flags limits given m old new
+IsUnwritten flags limits given m old new (unwritten.Memory error) = (m ≡ given) × (new ≡ old)

@@ -1,0 +1,36 @@
+//! Where a module is not accepted, why, and what was wanted there.
+
+use crate::places::JsonPlace;
+use naga_info::ModuleInfo;
+use naga_wgsl_out::info::{Unaccepted, explain};
+use naga_wgsl_out::ir::Module;
+use std::alloc::{AllocError, Global};
+
+/// A fault of the module as one line: its place in the JSON, its kind, and what was wanted there, if
+/// more can be told than the kind.
+///
+/// `module.functions[0].expressions[3]: the known type is another: wanted vec4<f32>, got f32`
+pub fn fault_line(
+    alloc: Global,
+    module: &Module,
+    info: &ModuleInfo,
+    unaccepted: Unaccepted,
+) -> Result<String, AllocError> {
+    let place = JsonPlace(unaccepted.item);
+    let fault = fault_text(alloc, module, info, unaccepted)?;
+    format!(in alloc; "{place}: {fault}")
+}
+
+/// The same without the place.
+pub fn fault_text(
+    alloc: Global,
+    module: &Module,
+    info: &ModuleInfo,
+    unaccepted: Unaccepted,
+) -> Result<String, AllocError> {
+    let fault = unaccepted.fault;
+    match explain(alloc, module, info, unaccepted)? {
+        Some(wanted) => format!(in alloc; "{fault}: {wanted}"),
+        None => format!(in alloc; "{fault}"),
+    }
+}

@@ -1,0 +1,145 @@
+//! What the writer does with a module that others made, within limits.
+
+ghost use Rattle.std.specs.Prelude.{◌≡◌, ◌<◌, ◌≤◌, ℕ, [], IfErr, IfNone, IfOk, IfSome, IsTrue};
+ghost use Rattle.std.specs.Prelude.{None, OnOk, length};
+ghost use Rattle.std.specs.Prelude.{string_bytes};
+ghost use Rattle.module_answers.specs.Within.{IsUnwritten, TellsDepth};
+ghost use Rattle.module_limits.specs.Nesting.{nested_past};
+ghost use Rattle.module_meaning.specs.Accepted.{is_accepted};
+ghost use Rattle.naga_wgsl_out.specs.Checked.{IsCounted};
+ghost use Rattle.naga_back.specs.Flags.{annotates_types};
+ghost use Rattle.naga_wgsl_out.specs.Headline.{FaithfulWriting};
+ghost use Rattle.naga_wgsl_out.specs.Unwritable.{StandsIn};
+ghost use Rattle.naga_wgsl_out.specs.Writing.{AppendsItsText};
+ghost use Rattle.told_floats.specs.Told.{IsToldModule};
+
+use crate::writing::{Written, write, write_told};
+use naga_info::ModuleInfo;
+use naga_wgsl_out::info::Unaccepted;
+use naga_wgsl_out::ir::Module;
+use naga_wgsl_out::sinks::BoundedText;
+use naga_wgsl_out::wgsl::{Limits, Nested, WriterFlags, nested_past};
+use std::alloc::{AllocError, Global};
+use thiserror::Error as DisplayedError;
+
+/// Why the writer was not asked for a module, or was stopped at it.
+#[derive(Debug, Drop, DisplayedError)]
+pub enum Unwritten {
+    /// This of the module is nested deeper than the limit.
+    #[error("{0}")]
+    TooDeep(Nested),
+    /// The module is not accepted, at this place, for a fault of this kind.
+    #[error("not accepted: {0}")]
+    NotAccepted(Unaccepted),
+    /// The module's text has more bytes than the limit.
+    #[error("text too long")]
+    TooLong,
+    /// There was no memory for the question how deep it is nested.
+    #[error("out of memory")]
+    Memory(AllocError),
+}
+
+/// Does with a module what [`write`] does, within limits: it is asked first how deep it is nested,
+/// and its text is cut where it gets too long.
+pub fn write_within(
+    alloc: Global,
+    module: &Module,
+    info: &mut ModuleInfo,
+    flags: WriterFlags,
+    limits: Limits,
+) -> Result<Written<String>, Unwritten>
+    ensures nested { IfOk result (λ _. nested_past limits.nesting «module».now ≡ None) }
+    ensures accepted { IfOk result (λ _. IsTrue (is_accepted «module».now info.old)) }
+    ensures counted { IfOk result (λ _. IsCounted «module».now info.old info.new) }
+    ensures faithful { IfOk result (λ w. (failures : ℕ) × FaithfulWriting flags «module».now
+        info.new w.answer [] (string_bytes w.sink) 0 failures) }
+    ensures text { IfOk result (λ w. AppendsItsText «module».now info.new flags w.answer []
+        (string_bytes w.sink)) }
+    ensures refusal { IfOk result (λ w. IfSome w.refusal
+        (StandsIn (annotates_types flags) «module».now info.new)) }
+    ensures within { IfOk result (λ w. length (string_bytes w.sink) ≤ limits.text) }
+    ensures unwritten { IfErr result (IsUnwritten flags limits «module».now «module».now info.old
+        info.new) }
+{
+    let empty = BoundedText::new(alloc, limits.text);
+    look_into(alloc, module, limits.nesting)?;
+    match write(alloc, module, info, flags, empty) {
+        Ok(written) => match kept(written, limits.text) {
+            Some(whole) => Ok(whole),
+            None => Err(Unwritten::TooLong),
+        },
+        Err(fault) => Err(Unwritten::NotAccepted(fault)),
+    }
+}
+
+/// Does with a module what [`write_told`] does, within limits. One that is nested too deep or not
+/// accepted is left as it is.
+pub fn write_told_within(
+    alloc: Global,
+    module: &mut Module,
+    info: &mut ModuleInfo,
+    flags: WriterFlags,
+    limits: Limits,
+) -> Result<Written<String>, Unwritten>
+    ensures nested { IfOk result (λ _. nested_past limits.nesting «module».old ≡ None) }
+    ensures accepted { IfOk result (λ _. IsTrue (is_accepted «module».old info.old)) }
+    ensures told { IfOk result (λ _. IsToldModule «module».old «module».new) }
+    ensures counted { IfOk result (λ _. IsCounted «module».new info.old info.new) }
+    ensures faithful { IfOk result (λ w. (failures : ℕ) × FaithfulWriting flags «module».new
+        info.new w.answer [] (string_bytes w.sink) 0 failures) }
+    ensures text { IfOk result (λ w. AppendsItsText «module».new info.new flags w.answer []
+        (string_bytes w.sink)) }
+    ensures refusal { IfOk result (λ w. IfSome w.refusal
+        (StandsIn (annotates_types flags) «module».new info.new)) }
+    ensures within { IfOk result (λ w. length (string_bytes w.sink) ≤ limits.text) }
+    ensures unwritten { IfErr result (IsUnwritten flags limits «module».old «module».new info.old
+        info.new) }
+    ensures too_long { IfErr result (λ e. e ≡ Unwritten.TooLong →
+        IsToldModule «module».old «module».new) }
+{
+    let empty = BoundedText::new(alloc, limits.text);
+    look_into(alloc, module, limits.nesting)?;
+    match write_told(alloc, module, info, flags, empty) {
+        Ok(written) => match kept(written, limits.text) {
+            Some(whole) => Ok(whole),
+            None => Err(Unwritten::TooLong),
+        },
+        Err(fault) => Err(Unwritten::NotAccepted(fault)),
+    }
+}
+
+/// Says what of the module is nested too deep, if anything is.
+pub fn look_into(alloc: Global, module: &Module, levels: usize) -> Result<(), Unwritten>
+    ensures flat { OnOk result (nested_past levels «module».now ≡ None) }
+    ensures deep { IfErr result (TellsDepth levels «module».now) }
+{
+    match nested_past(alloc, module, levels) {
+        Ok(None) => Ok(()),
+        Ok(Some(nested)) => Err(Unwritten::TooDeep(nested)),
+        Err(error) => Err(Unwritten::Memory(error)),
+    }
+}
+
+/// What was written, if its text has no more than so many bytes.
+fn kept(written: Written<BoundedText>, bound: usize) -> Option<Written<String>>
+    ensures answer { IfSome result (λ w. w.answer ≡ written.answer) }
+    ensures refusal { IfSome result (λ w. w.refusal ≡ written.refusal) }
+    ensures text { IfSome result (λ w. string_bytes w.sink ≡ written.sink.text) }
+    ensures within { IfSome result (λ w. length (string_bytes w.sink) ≤ bound) }
+    ensures too_long { IfNone result (bound < length written.sink.text) }
+{
+    let Written {
+        answer,
+        refusal,
+        sink,
+    } = written;
+    if sink.text().len() > bound {
+        return None;
+    }
+    let sink = sink.finish();
+    Some(Written {
+        answer,
+        refusal,
+        sink,
+    })
+}

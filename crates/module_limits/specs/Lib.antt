@@ -1,0 +1,4 @@
+pub mod Depths
+pub mod Blocks
+pub mod Nesting
+pub mod BoundedText

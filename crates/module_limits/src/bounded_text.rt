@@ -1,0 +1,115 @@
+//! A text that does not grow without end.
+
+ghost use Rattle.std.specs.Prelude.{◌≡◌, ◌<◌, ◌≤◌, ◌++◌, OnOk, OnErr, IsErrOf, [], length};
+
+use naga_words::{SinkError, TextSink};
+use std::alloc::{AllocError, Global};
+use std::marker::Model;
+
+/// A text that takes pieces as long as it has no more bytes than its bound, and refuses all after
+/// the piece that took it past. So one that refused a piece has more bytes than its bound, of which
+/// the caller can tell that the whole text has more; and one whose last piece took it past has,
+/// too, though it refused none.
+///
+/// Contracts see its text, its bound and the number of its failures.
+///
+/// ```text
+/// let mut sink = BoundedText::new(alloc, 3);
+/// sink.write_str("ab")?;
+/// sink.write_str("cd")?; // abcd, which is past
+/// let refused = sink.write_str("e"); // Err(SinkError::Failed)
+/// ```
+#[derive(Drop)]
+pub struct BoundedText {
+    text: String,
+    bound: usize,
+    failures: u64,
+}
+
+impl Model for BoundedText {
+    ghost use Rattle.std.specs.Prelude.{string_bytes};
+    ghost use Rattle.module_limits.specs.BoundedText.{BoundedText as Bounded};
+
+    ghost Value = { Bounded };
+
+    ghost view = { λ s.
+        record { text = string_bytes s.text; bound = s.bound; failures = s.failures } };
+}
+
+impl BoundedText {
+    ghost use Rattle.std.specs.Prelude.{nat_lt};
+    ghost use Rattle.std.specs.Prelude.{string_bytes};
+
+    /// The empty text, with a bound in bytes. It takes no memory.
+    pub fn new(alloc: Global, bound: usize) -> Self
+        ensures { result ≡ record { text = []; bound = bound; failures = 0 } }
+    {
+        BoundedText {
+            text: String::new(alloc),
+            bound,
+            failures: 0,
+        }
+    }
+
+    /// What it has taken.
+    pub fn text(&self) -> &str
+        ensures { result.now ≡ self.now.text }
+    {
+        self.text.as_str()
+    }
+
+    /// Whether it has more bytes than its bound, so that it takes no more.
+    fn is_past(&self) -> bool
+        ensures { result ≡ nat_lt self.now.bound (length self.now.text) }
+    {
+        self.text.len() > self.bound
+    }
+
+    /// What it has taken, as a string.
+    pub fn finish(self) -> String
+        ensures { string_bytes result ≡ self.text }
+    {
+        let BoundedText { text, .. } = self;
+        text
+    }
+
+    /// Counts a failure, and tells it.
+    fn fail(&mut self) -> SinkError
+        ensures text { self.new.text ≡ self.old.text }
+        ensures bound { self.new.bound ≡ self.old.bound }
+        ensures failed { result ≡ SinkError.Failed → self.old.failures < self.new.failures }
+    {
+        match self.failures.checked_add(1) {
+            Some(failures) => {
+                self.failures = failures;
+                SinkError::Failed
+            }
+            None => SinkError::Memory(AllocError),
+        }
+    }
+}
+
+/// It takes all of a piece or nothing. After 2^64 failures each further one is told as want of
+/// memory.
+impl TextSink for BoundedText {
+    ghost text = { λ s. s.text };
+
+    ghost failures = { λ s. s.failures };
+
+    fn write_str(&mut self, piece: &str) -> Result<(), SinkError>
+        ensures text_ok { OnOk result (self.new.text ≡ self.old.text ++ piece.now) }
+        ensures text_err { OnErr result (self.new.text ≡ self.old.text) }
+        ensures bound { self.new.bound ≡ self.old.bound }
+        ensures taken { OnOk result (length self.old.text ≤ self.old.bound) }
+        ensures refused { IsErrOf result SinkError.Failed →
+            self.old.bound < length self.old.text }
+        ensures failures_ok { OnOk result (self.new.failures ≡ self.old.failures) }
+        ensures failed { IsErrOf result SinkError.Failed → self.old.failures < self.new.failures }
+    {
+        if self.is_past() {
+            return Err(self.fail());
+        }
+        self.text.push_str(piece)?;
+        Ok(())
+    }
+}

@@ -1,0 +1,4 @@
+pub mod AddedLines
+pub mod Choosing
+pub mod FittingTypes
+pub mod Seeking

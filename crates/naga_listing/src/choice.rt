@@ -1,0 +1,256 @@
+//! Which lines are shown.
+
+ghost use Rattle.std.specs.Prelude.{◌≡◌, ◌||◌, false, if◌then◌else◌, IfOk, OnOk};
+ghost use Rattle.naga_listing.specs.Choice.{after_gap, begins_with_gap, is_about, is_gap};
+ghost use Rattle.naga_listing.specs.Choice.{is_named, is_near};
+ghost use Rattle.naga_listing.specs.Choice.{is_shown, is_title, kept_from, marked_line};
+ghost use Rattle.naga_listing.specs.Choice.{place_lines, shown_lines, with_any, with_line};
+ghost use Rattle.naga_listing.specs.Choice.{with_marked};
+
+use crate::lines::all_lines;
+use crate::named::named_spots;
+use crate::places::{Line, Place, Row, Spot};
+use naga_ir::Module;
+use std::alloc::{AllocError, Global};
+use std::marker::Model;
+
+/// So many lines before the marked one and after it are shown.
+const RADIUS: usize = 5;
+
+/// The lines of a place, some forty at most: the first of what is listed, those near the place's
+/// own line, those of statements around it, those that it names, and the titles of their lists. A
+/// mark follows its own line, and a gap stands in the place of lines that are left out.
+///
+/// Where the module has no such place, the first line is marked.
+///
+/// ```text
+/// let place = Place::of(Listed::Function(double), Spot::Expression(sum));
+/// let lines = listing(alloc, &module, &place)?;
+/// ```
+pub fn listing(alloc: Global, module: &Module, place: &Place) -> Result<Vec<Line>, AllocError>
+    ensures { IfOk result (λ lines. lines.items ≡ place_lines «module».now place.now) }
+{
+    let lines = all_lines(alloc, module, &place.listed)?;
+    let spots = named_spots(alloc, module, place)?;
+    shown_lines(alloc, &place.spot, &spots, &lines)
+}
+
+fn shown_lines(
+    alloc: Global,
+    spot: &Spot,
+    spots: &[Spot],
+    lines: &[Line],
+) -> Result<Vec<Line>, AllocError>
+    ensures { IfOk result (λ shown. shown.items ≡ shown_lines spot.now spots.now lines.now) }
+{
+    let marked = marked_line(spot, lines);
+    let kept = kept_lines(alloc, marked, spots, lines)?;
+    let Kept { lines, .. } = kept;
+    Ok(lines)
+}
+
+/// The number of the line that is about this, or that of the first line.
+fn marked_line(spot: &Spot, lines: &[Line]) -> usize
+    ensures { result ≡ marked_line spot.now lines.now }
+{
+    lines
+        .iter()
+        .position(|line| is_about(spot, &line.row))
+        .unwrap_or(0)
+}
+
+#[tactic(auto, using(crate::proofs::Choosing::kept_next))]
+fn kept_lines(
+    alloc: Global,
+    marked: usize,
+    spots: &[Spot],
+    lines: &[Line],
+) -> Result<Kept, AllocError>
+    ensures { IfOk result (λ kept. kept ≡ kept_from marked spots.now 0 lines.now) }
+{
+    let mut kept = Kept::new(alloc);
+    for index in (0..lines.len()).rev() {
+        kept.add(marked, spots, index, &lines[index])?;
+    }
+    Ok(kept)
+}
+
+fn is_about(spot: &Spot, row: &Row) -> bool
+    ensures { result ≡ is_about spot.now row.now }
+{
+    match row {
+        Row::Item(item) => *item == *spot,
+        _ => false,
+    }
+}
+
+fn is_named(spots: &[Spot], row: &Row) -> bool
+    ensures { result ≡ is_named spots.now row.now }
+{
+    spots.iter().any(|spot| is_about(spot, row))
+}
+
+fn is_title(row: &Row) -> bool
+    ensures { result ≡ is_title row.now }
+{
+    matches!(row, Row::Title(_))
+}
+
+fn is_gap(row: &Row) -> bool
+    ensures { result ≡ is_gap row.now }
+{
+    matches!(row, Row::Gap)
+}
+
+fn begins_with_gap(lines: &[Line]) -> bool
+    ensures { result ≡ begins_with_gap lines.now }
+{
+    match lines.first() {
+        Some(line) => is_gap(&line.row),
+        None => false,
+    }
+}
+
+/// Whether a line of the list is shown that begins with this row, by whether one is after it.
+fn opens(row: &Row, shown: bool, opened: bool) -> bool
+    ensures { result ≡ (if is_title row.now then false else (shown || opened)) }
+{
+    if is_title(row) {
+        false
+    } else {
+        shown || opened
+    }
+}
+
+fn is_near(marked: usize, index: usize) -> bool
+    ensures { result ≡ is_near marked index }
+{
+    index.saturating_sub(marked) <= RADIUS && marked.saturating_sub(index) <= RADIUS
+}
+
+/// What is kept of the last lines.
+#[derive(Drop)]
+struct Kept {
+    /// The lines that are shown, with gaps.
+    lines: Vec<Line>,
+    /// The level of the first line that encloses the marked one, and 0 before that is met.
+    level: usize,
+    /// Whether a line is shown of the list that they begin in.
+    opened: bool,
+}
+
+impl Model for Kept {
+    ghost use Rattle.naga_listing.specs.Choice.{Kept as KeptLines};
+
+    ghost Value = { KeptLines };
+
+    ghost view = { λ k. record { lines = k.lines.items; level = k.level; opened = k.opened } };
+}
+
+impl Kept {
+    ghost use Rattle.std.specs.Prelude.{[], ◌∷◌};
+
+    fn new(alloc: Global) -> Self
+        ensures { result ≡ record { lines = []; level = 0; opened = false } }
+    {
+        Kept {
+            lines: Vec::new(alloc),
+            level: 0,
+            opened: false,
+        }
+    }
+
+    /// Puts a line before those that were kept.
+    fn put(&mut self, line: Line) -> Result<(), AllocError>
+        ensures { OnOk result (self.new ≡ record self.old { lines = line ∷ self.old.lines }) }
+    {
+        self.lines.insert(0, line)?;
+        Ok(())
+    }
+
+    /// Leaves a line out.
+    fn leave_out(&mut self) -> Result<(), AllocError>
+        ensures { OnOk result (self.new
+            ≡ record self.old { lines = after_gap self.old.lines }) }
+    {
+        if begins_with_gap(&self.lines) {
+            Ok(())
+        } else {
+            self.put(Line {
+                level: 0,
+                row: Row::Gap,
+            })
+        }
+    }
+
+    fn shows(&self, marked: usize, spots: &[Spot], index: usize, line: &Line) -> bool
+        ensures { result ≡ is_shown marked spots.now index line.now self.now }
+    {
+        if is_title(&line.row) {
+            self.opened
+        } else {
+            is_near(marked, index)
+                || line.level < self.level
+                || index == 0
+                || is_named(spots, &line.row)
+        }
+    }
+
+    /// Puts the marked line before those that were kept, with the line that says what is wrong.
+    fn add_marked(&mut self, line: &Line) -> Result<(), AllocError>
+        ensures { OnOk result (self.new ≡ with_marked line.now self.old) }
+    {
+        let level = line.level;
+        self.put(Line {
+            level,
+            row: Row::Mark,
+        })?;
+        self.put(*line)?;
+        self.level = level;
+        self.opened = true;
+        Ok(())
+    }
+
+    /// Puts a line before those that were kept if it is shown, and else leaves it out.
+    fn put_or_leave_out(&mut self, shown: bool, line: &Line) -> Result<(), AllocError>
+        ensures { OnOk result (self.new ≡ record self.old {
+          lines = if shown then line.now ∷ self.old.lines else after_gap self.old.lines;
+        }) }
+    {
+        if shown {
+            self.put(*line)
+        } else {
+            self.leave_out()
+        }
+    }
+
+    /// Goes on with a line that is not marked.
+    fn add_line(&mut self, shown: bool, line: &Line) -> Result<(), AllocError>
+        ensures { OnOk result (self.new ≡ with_line shown line.now self.old) }
+    {
+        self.put_or_leave_out(shown, line)?;
+        let level = line.level;
+        let before = self.level;
+        self.level = before.min(level);
+        let opened = self.opened;
+        self.opened = opens(&line.row, shown, opened);
+        Ok(())
+    }
+
+    /// Goes on with the line of this number.
+    fn add(
+        &mut self,
+        marked: usize,
+        spots: &[Spot],
+        index: usize,
+        line: &Line,
+    ) -> Result<(), AllocError>
+        ensures { OnOk result (self.new ≡ with_any marked spots.now index line.now self.old) }
+    {
+        if index == marked {
+            return self.add_marked(line);
+        }
+        let shown = self.shows(marked, spots, index, line);
+        self.add_line(shown, line)
+    }
+}

@@ -1,0 +1,449 @@
+//! Expressions, each in a line: what it is, its operands by their names, and what it names beside.
+
+use crate::lookup::item_at;
+use crate::operands::{push_list, push_numbered, push_operands};
+use float_numerals::{push_double, push_half, push_single};
+use naga_ir::{
+    Constant, Expression, Function, GlobalVariable, Handle, ImageQuery, Literal, LocalVariable,
+    Module, Override, SampleLevel, SwizzleComponent, Type_, VectorSize,
+};
+use std::alloc::AllocError;
+
+/// Appends what an expression is: `Binary Add left: [0], right: [2]`. The function is the one that
+/// it belongs to, if it is none of the module's own.
+pub(crate) fn push_expression(
+    module: &Module,
+    function: Option<&Function>,
+    expression: &Expression,
+    out: &mut String,
+) -> Result<(), AllocError> {
+    out.push_str(expression_name(expression))?;
+    push_named(module, function, expression, out)?;
+    push_choice(expression, out)?;
+    push_of_expression(expression, out)
+}
+
+/// The name of the variant.
+fn expression_name(expression: &Expression) -> &'static str {
+    match expression {
+        Expression::Literal(_) => "Literal",
+        Expression::Constant(_) => "Constant",
+        Expression::Override(_) => "Override",
+        Expression::ZeroValue(_) => "ZeroValue",
+        Expression::Compose { .. } => "Compose",
+        Expression::Access { .. } => "Access",
+        Expression::AccessIndex { .. } => "AccessIndex",
+        Expression::Splat { .. } => "Splat",
+        Expression::Swizzle { .. } => "Swizzle",
+        Expression::FunctionArgument(_) => "FunctionArgument",
+        Expression::GlobalVariable(_) => "GlobalVariable",
+        Expression::LocalVariable(_) => "LocalVariable",
+        Expression::Load { .. } => "Load",
+        Expression::ImageSample { .. } => "ImageSample",
+        Expression::ImageLoad { .. } => "ImageLoad",
+        Expression::ImageQuery { .. } => "ImageQuery",
+        Expression::Unary { .. } => "Unary",
+        Expression::Binary { .. } => "Binary",
+        Expression::Select { .. } => "Select",
+        Expression::Derivative { .. } => "Derivative",
+        Expression::Relational { .. } => "Relational",
+        Expression::Math { .. } => "Math",
+        Expression::As { .. } => "As",
+        Expression::CallResult(_) => "CallResult",
+        Expression::AtomicResult { .. } => "AtomicResult",
+        Expression::WorkGroupUniformLoadResult { .. } => "WorkGroupUniformLoadResult",
+        Expression::ArrayLength(_) => "ArrayLength",
+        Expression::RayQueryProceedResult => "RayQueryProceedResult",
+        Expression::RayQueryGetIntersection { .. } => "RayQueryGetIntersection",
+        Expression::RayQueryVertexPositions { .. } => "RayQueryVertexPositions",
+        Expression::SubgroupBallotResult => "SubgroupBallotResult",
+        Expression::SubgroupOperationResult { .. } => "SubgroupOperationResult",
+        Expression::CooperativeLoad { .. } => "CooperativeLoad",
+        Expression::CooperativeMultiplyAdd { .. } => "CooperativeMultiplyAdd",
+    }
+}
+
+// ---- what it names beside its operands
+
+/// Appends what the expression names that is no expression.
+fn push_named(
+    module: &Module,
+    function: Option<&Function>,
+    expression: &Expression,
+    out: &mut String,
+) -> Result<(), AllocError> {
+    match expression {
+        Expression::Literal(literal) => push_literal(*literal, out),
+        Expression::Constant(handle) => push_constant(module, *handle, out),
+        Expression::Override(handle) => push_override(module, *handle, out),
+        Expression::GlobalVariable(handle) => push_global(module, *handle, out),
+        Expression::CallResult(handle) => push_function(module, *handle, out),
+        Expression::FunctionArgument(number) => push_argument(function, *number, out),
+        Expression::LocalVariable(handle) => push_local(function, *handle, out),
+        Expression::ZeroValue(ty) => push_type_number(*ty, out),
+        Expression::Compose { ty, .. } => push_type_number(*ty, out),
+        Expression::AtomicResult { ty, .. } => push_type_number(*ty, out),
+        Expression::WorkGroupUniformLoadResult { ty } => push_type_number(*ty, out),
+        Expression::SubgroupOperationResult { ty } => push_type_number(*ty, out),
+        _ => Ok(()),
+    }
+}
+
+/// Appends a literal: a float that is told by a numeral as in a text, any other as it is held.
+fn push_literal(literal: Literal, out: &mut String) -> Result<(), AllocError> {
+    match literal {
+        Literal::DecimalF64(decimal) => {
+            out.push_str(" DecimalF64 ")?;
+            push_double(decimal, out)
+        }
+        Literal::DecimalF32(decimal) => {
+            out.push_str(" DecimalF32 ")?;
+            push_single(decimal, out)
+        }
+        Literal::DecimalF16(decimal) => {
+            out.push_str(" DecimalF16 ")?;
+            push_half(decimal, out)
+        }
+        _ => write!(out, " {literal:?}"),
+    }
+}
+
+fn push_constant(
+    module: &Module,
+    handle: Handle<Constant>,
+    out: &mut String,
+) -> Result<(), AllocError> {
+    let label = match item_at(&module.constants, handle) {
+        Some(constant) => constant.name.as_ref(),
+        None => None,
+    };
+    push_numbered(handle.index(), label, out)
+}
+
+fn push_override(
+    module: &Module,
+    handle: Handle<Override>,
+    out: &mut String,
+) -> Result<(), AllocError> {
+    let label = match item_at(&module.overrides, handle) {
+        Some(item) => item.name.as_ref(),
+        None => None,
+    };
+    push_numbered(handle.index(), label, out)
+}
+
+fn push_global(
+    module: &Module,
+    handle: Handle<GlobalVariable>,
+    out: &mut String,
+) -> Result<(), AllocError> {
+    let label = match item_at(&module.global_variables, handle) {
+        Some(variable) => variable.name.as_ref(),
+        None => None,
+    };
+    push_numbered(handle.index(), label, out)
+}
+
+/// Appends the number of a function and its label, if it has one: ` 2 "double"`.
+pub(crate) fn push_function(
+    module: &Module,
+    handle: Handle<Function>,
+    out: &mut String,
+) -> Result<(), AllocError> {
+    let label = match item_at(&module.functions, handle) {
+        Some(function) => function.name.as_ref(),
+        None => None,
+    };
+    push_numbered(handle.index(), label, out)
+}
+
+fn push_argument(
+    function: Option<&Function>,
+    number: u32,
+    out: &mut String,
+) -> Result<(), AllocError> {
+    let label = match function {
+        Some(function) => argument_label(function, number as usize),
+        None => None,
+    };
+    push_numbered(number as usize, label, out)
+}
+
+fn argument_label(function: &Function, number: usize) -> Option<&String> {
+    function.arguments.get(number)?.name.as_ref()
+}
+
+fn push_local(
+    function: Option<&Function>,
+    handle: Handle<LocalVariable>,
+    out: &mut String,
+) -> Result<(), AllocError> {
+    let label = match function {
+        Some(function) => local_label(function, handle),
+        None => None,
+    };
+    push_numbered(handle.index(), label, out)
+}
+
+fn local_label(function: &Function, handle: Handle<LocalVariable>) -> Option<&String> {
+    item_at(&function.local_variables, handle)?.name.as_ref()
+}
+
+fn push_type_number(ty: Handle<Type_>, out: &mut String) -> Result<(), AllocError> {
+    write!(out, " type {}", ty.index())
+}
+
+// ---- which of its kind it is
+
+/// Appends which operator, query or part is meant.
+fn push_choice(expression: &Expression, out: &mut String) -> Result<(), AllocError> {
+    match expression {
+        Expression::Splat { size, .. } => write!(out, " {size:?}"),
+        Expression::Swizzle { size, pattern, .. } => push_pattern(*size, pattern, out),
+        Expression::ImageSample {
+            gather,
+            level,
+            clamp_to_edge,
+            ..
+        } => push_sampling(*gather, *level, *clamp_to_edge, out),
+        Expression::ImageQuery { query, .. } => out.push_str(query_name(*query)),
+        Expression::Unary { op, .. } => write!(out, " {op:?}"),
+        Expression::Binary { op, .. } => write!(out, " {op:?}"),
+        Expression::Derivative { axis, ctrl, .. } => write!(out, " {axis:?} {ctrl:?}"),
+        Expression::Relational { fun, .. } => write!(out, " {fun:?}"),
+        Expression::Math { fun, .. } => write!(out, " {fun:?}"),
+        Expression::As { kind, convert, .. } => match convert {
+            Some(width) => write!(out, " {kind:?} of {width} bytes"),
+            None => write!(out, " {kind:?} of the same bits"),
+        },
+        Expression::AtomicResult { comparison, .. } if *comparison => { out.push_str(" compared") }
+        Expression::RayQueryGetIntersection { committed, .. } => {
+            out.push_str(hit_name(*committed))
+        }
+        Expression::RayQueryVertexPositions { committed, .. } => {
+            out.push_str(hit_name(*committed))
+        }
+        Expression::CooperativeLoad {
+            columns,
+            rows,
+            role,
+            data_,
+        } => {
+            write!(out, " {columns:?} {rows:?} {role:?}")?;
+            out.push_str(order_name(data_.row_major))
+        }
+        _ => Ok(()),
+    }
+}
+
+/// Appends the components of a swizzle, as far as they count: ` zyx`.
+fn push_pattern(
+    size: VectorSize,
+    pattern: &[SwizzleComponent; 4],
+    out: &mut String,
+) -> Result<(), AllocError> {
+    out.push_str(" ")?;
+    for component in pattern.iter().take(size as usize) {
+        out.push_str(component_name(*component))?;
+    }
+    Ok(())
+}
+
+fn component_name(component: SwizzleComponent) -> &'static str {
+    match component {
+        SwizzleComponent::X => "x",
+        SwizzleComponent::Y => "y",
+        SwizzleComponent::Z => "z",
+        SwizzleComponent::W => "w",
+    }
+}
+
+fn push_sampling(
+    gather: Option<SwizzleComponent>,
+    level: SampleLevel,
+    clamp_to_edge: bool,
+    out: &mut String,
+) -> Result<(), AllocError> {
+    if let Some(component) = gather {
+        out.push_str(" gather ")?;
+        out.push_str(component_name(component))?;
+    }
+    out.push_str(level_name(level))?;
+    if clamp_to_edge {
+        out.push_str(" clamp_to_edge")?;
+    }
+    Ok(())
+}
+
+fn level_name(level: SampleLevel) -> &'static str {
+    match level {
+        SampleLevel::Auto => " Auto",
+        SampleLevel::Zero => " Zero",
+        SampleLevel::Exact(_) => " Exact",
+        SampleLevel::Bias(_) => " Bias",
+        SampleLevel::Gradient { .. } => " Gradient",
+    }
+}
+
+fn query_name(query: ImageQuery) -> &'static str {
+    match query {
+        ImageQuery::Size { .. } => " Size",
+        ImageQuery::NumLevels => " NumLevels",
+        ImageQuery::NumLayers => " NumLayers",
+        ImageQuery::NumSamples => " NumSamples",
+    }
+}
+
+fn hit_name(committed: bool) -> &'static str {
+    if committed {
+        " committed"
+    } else {
+        " candidate"
+    }
+}
+
+/// How a cooperative matrix lies in memory.
+pub(crate) fn order_name(row_major: bool) -> &'static str {
+    if row_major { " by rows" } else { " by columns" }
+}
+
+// ---- its operands
+
+/// Appends the operands by their names, and behind them the index that is known.
+fn push_of_expression(expression: &Expression, out: &mut String) -> Result<(), AllocError> {
+    match expression {
+        Expression::Compose { components, .. } => push_list("components", components, out),
+        Expression::Access { base, index } => {
+            push_operands(&[("base", Some(*base)), ("index", Some(*index))], out)
+        }
+        Expression::AccessIndex { base, index } => {
+            push_operands(&[("base", Some(*base))], out)?;
+            write!(out, ", index: {index}")
+        }
+        Expression::Splat { value, .. } => push_operands(&[("value", Some(*value))], out),
+        Expression::Swizzle { vector, .. } => push_operands(&[("vector", Some(*vector))], out),
+        Expression::Load { pointer } => push_operands(&[("pointer", Some(*pointer))], out),
+        Expression::Unary { expr, .. } => push_operands(&[("expr", Some(*expr))], out),
+        Expression::Derivative { expr, .. } => push_operands(&[("expr", Some(*expr))], out),
+        Expression::As { expr, .. } => push_operands(&[("expr", Some(*expr))], out),
+        Expression::Binary { left, right, .. } => {
+            push_operands(&[("left", Some(*left)), ("right", Some(*right))], out)
+        }
+        Expression::Select {
+            condition,
+            accept,
+            reject,
+        } => push_operands(
+            &[
+                ("condition", Some(*condition)),
+                ("accept", Some(*accept)),
+                ("reject", Some(*reject)),
+            ],
+            out,
+        ),
+        Expression::Relational { argument, .. } => {
+            push_operands(&[("argument", Some(*argument))], out)
+        }
+        Expression::Math {
+            arg,
+            arg1,
+            arg2,
+            arg3,
+            ..
+        } => push_operands(
+            &[
+                ("arg", Some(*arg)),
+                ("arg1", *arg1),
+                ("arg2", *arg2),
+                ("arg3", *arg3),
+            ],
+            out,
+        ),
+        Expression::ArrayLength(array) => push_operands(&[("array", Some(*array))], out),
+        Expression::RayQueryGetIntersection { query, .. } => {
+            push_operands(&[("query", Some(*query))], out)
+        }
+        Expression::RayQueryVertexPositions { query, .. } => {
+            push_operands(&[("query", Some(*query))], out)
+        }
+        Expression::CooperativeLoad { data_, .. } => push_operands(
+            &[
+                ("pointer", Some(data_.pointer)),
+                ("stride", Some(data_.stride)),
+            ],
+            out,
+        ),
+        Expression::CooperativeMultiplyAdd { a, b, c } => push_operands(
+            &[("a", Some(*a)), ("b", Some(*b)), ("c", Some(*c))],
+            out,
+        ),
+        _ => push_of_image(expression, out),
+    }
+}
+
+/// The same of what asks an image.
+fn push_of_image(expression: &Expression, out: &mut String) -> Result<(), AllocError> {
+    match expression {
+        Expression::ImageSample {
+            image,
+            sampler,
+            coordinate,
+            array_index,
+            offset,
+            level,
+            depth_ref,
+            ..
+        } => {
+            push_operands(
+                &[
+                    ("image", Some(*image)),
+                    ("sampler", Some(*sampler)),
+                    ("coordinate", Some(*coordinate)),
+                    ("array_index", *array_index),
+                    ("offset", *offset),
+                    ("depth_ref", *depth_ref),
+                ],
+                out,
+            )?;
+            push_level(*level, out)
+        }
+        Expression::ImageLoad {
+            image,
+            coordinate,
+            array_index,
+            sample,
+            level,
+        } => push_operands(
+            &[
+                ("image", Some(*image)),
+                ("coordinate", Some(*coordinate)),
+                ("array_index", *array_index),
+                ("sample", *sample),
+                ("level", *level),
+            ],
+            out,
+        ),
+        Expression::ImageQuery { image, query } => push_operands(
+            &[("image", Some(*image)), ("level", query_level(*query))],
+            out,
+        ),
+        _ => Ok(()),
+    }
+}
+
+fn push_level(level: SampleLevel, out: &mut String) -> Result<(), AllocError> {
+    match level {
+        SampleLevel::Auto | SampleLevel::Zero => Ok(()),
+        SampleLevel::Exact(handle) | SampleLevel::Bias(handle) => {
+            push_operands(&[("level", Some(handle))], out)
+        }
+        SampleLevel::Gradient { x, y } => { push_operands(&[("x", Some(x)), ("y", Some(y))], out) }
+    }
+}
+
+fn query_level(query: ImageQuery) -> Option<Handle<Expression>> {
+    match query {
+        ImageQuery::Size { level } => level,
+        _ => None,
+    }
+}

@@ -1,0 +1,24 @@
+//! A picture of a place in a module: the lines of a numbered listing around what is wrong there.
+//!
+//! [`listing`] chooses the lines, and [`explain`] writes them as a text, with a message under the
+//! line of the place. Whether the module is accepted does not matter: what it names and has not is
+//! told by its number.
+#![tactic(auto)]
+
+mod choice;
+mod declarations;
+mod expressions;
+mod items;
+mod lines;
+mod lookup;
+mod named;
+mod numbers;
+mod operands;
+mod places;
+mod statement_words;
+mod text;
+mod types;
+
+pub use choice::listing;
+pub use places::{Line, Listed, Place, Row, Spot, Title};
+pub use text::explain;

@@ -1,0 +1,16 @@
+use Rattle.naga_wgsl_fns.proofs.FormlessConstants.{constant_named, initialiser_fails}
+use Rattle.naga_wgsl_fns.proofs.formless_constants.formless_constant.Goals as goal
+
+pub formless_global-requires-clause-there : goal.formless_global-requires-clause-there
+formless_global-requires-clause-there c =
+    c.requires.ordered.initialised c.args.constant c.index.result.now c.index.ensures
+
+pub formless_global-requires-clause-formless : goal.formless_global-requires-clause-formless
+formless_global-requires-clause-formless c =
+    initialiser_fails c.args.«module».now c.args.constant c.index.result.now c.index.ensures
+    c.requires.formless
+
+pub returns : goal.returns
+returns c =
+    λ e told. constant_named c.args.«module».now e c.args.constant c.index.result.now c.index.ensures
+    (c.formless_global.ensures e told)

@@ -1,0 +1,61 @@
+use Rattle.std.proofs.Common.{length, subst}
+use Rattle.std.specs.Prelude.{IfOk}
+use Rattle.module_meaning.specs.FunctionNumbers.{function_number}
+use Rattle.module_meaning.specs.Written.{OfFunctionAt}
+use Rattle.naga_form.proofs.AcceptedGroups.{fits_in_range, known_is_fit}
+use Rattle.naga_scope.proofs.Planned.{of_the_ok}
+use Rattle.naga_scope.proofs.WrittenConstants.{globals_in_order}
+use Rattle.naga_scope.specs.Plans.{IsPlanOf}
+use Rattle.naga_wgsl_fns.proofs.PlanRefusals.{is_of_plan, items_there}
+use Rattle.naga_wgsl_fns.specs.Constructs.{Tells}
+use Rattle.naga_wgsl_fns.specs.Refusals.{TellsPlanError}
+use Rattle.naga_wgsl_fns.specs.Unplanned.{IsRefusedFor}
+use Rattle.naga_wgsl_fns.proofs.plans.plan_or_refusal.Goals as goal
+
+pub construct_of_plan-requires-clause-known : goal.construct_of_plan-requires-clause-known
+construct_of_plan-requires-clause-known c =
+    let m = c.args.«module».now in
+    λ h k at. fits_in_range (length m.overrides) m.types k.ty
+    (known_is_fit m c.args.info.now c.requires.accepted (function_number c.args.«module».now c.args.ty.now) c.function_of.result.1.now
+    c.function_of.ensures.known h k at)
+
+pub construct_of_plan-requires-clause-formless : goal.construct_of_plan-requires-clause-formless
+construct_of_plan-requires-clause-formless c =
+    is_of_plan c.annotates_types.result c.args.«module».now c.args.info.now c.requires.accepted
+    (function_number c.args.«module».now c.args.ty.now) c.function_of.result.0.now c.function_of.ensures.function c.function_of.result.1.now c.function_of.ensures.known
+    _ c.in-Err.error c.in-Err.ensures.err
+
+pub construct_of_plan-requires-clause-ordered : goal.construct_of_plan-requires-clause-ordered
+construct_of_plan-requires-clause-ordered c =
+    globals_in_order c.args.«module».now c.args.info.now c.requires.accepted
+
+pub construct_of_plan-requires-clause-named : goal.construct_of_plan-requires-clause-named
+construct_of_plan-requires-clause-named c =
+    items_there c.args.«module».now c.args.info.now c.requires.accepted (function_number c.args.«module».now c.args.ty.now)
+    c.function_of.result.0.now c.function_of.ensures.function c.function_of.result.1.now c.function_of.ensures.known
+
+pub returns-in-Ok-clause-ok : goal.returns-in-Ok-clause-ok
+returns-in-Ok-clause-ok c =
+    subst (λ explicit. IsPlanOf explicit c.args.«module».now c.args.info.now (function_number c.args.«module».now c.args.ty.now) c.in-Ok.plan)
+    c.annotates_types.ensures c.in-Ok.ensures.ok
+
+pub returns-in-Ok-construct_of_plan-clause-err : goal.returns-in-Ok-construct_of_plan-clause-err
+returns-in-Ok-construct_of_plan-clause-err c =
+    let m = c.args.«module».now in
+    let info = c.args.info.now in
+    let number = function_number m c.args.ty.now in
+    subst (λ explicit. IsRefusedFor explicit m info number c.args.namer.now c.in-Ok-construct_of_plan.construct c.part_of-part.result)
+    c.annotates_types.ensures
+    (record {
+      error = c.in-Err.error;
+      refused = c.in-Err.ensures.err;
+      first = c.in-Err.ensures.first;
+      told = subst
+          (λ r. IfOk r (λ it. OfFunctionAt m info number (λ f es. Tells it (TellsPlanError m f es c.in-Err.error))))
+          c.in-Ok-construct_of_plan.is
+          (of_the_ok (λ f es it. Tells it (TellsPlanError m f es c.in-Err.error)) m info number
+          c.function_of.result.0.now c.function_of.result.1.now c.function_of.ensures.function c.function_of.ensures.known
+          c.construct_of_plan.result c.construct_of_plan.ensures.ok);
+      part = c.part_of-part.ensures;
+      other = c.in-Ok-construct_of_plan.ensures.refused;
+    })

@@ -1,0 +1,63 @@
+-- Why there is no plan of a function, and where that stands.
+use Rattle.std.specs.Prelude.{◌≡◌, ℕ, Bool, true, false, IsFalse}
+use Rattle.naga_ir.specs.declared.module.Module.{Module}
+use Rattle.naga_info.specs.declared.info.ModuleInfo.{ModuleInfo}
+use Rattle.module_meaning.specs.Written.{OfFunctionAt}
+use Rattle.naga_names.specs.Naming.{Names}
+use Rattle.naga_names.specs.declared.error.NamerError.{NamerError}
+use Rattle.naga_names.specs.declared.error.NamerError.TheVariants as namer_error
+use Rattle.naga_scope.specs.Plans.{IsFirstToPlanOf, IsRefusalToPlanOf}
+use Rattle.naga_scope.specs.declared.plan.PlanError.{PlanError}
+use Rattle.naga_scope.specs.declared.plan.PlanError.TheVariants as plan_error
+use Rattle.naga_wgsl_fns.specs.Constructs.{IsToldAs, Tells}
+use Rattle.naga_wgsl_fns.specs.Refusals.{TellsPlanError}
+use Rattle.naga_wgsl_fns.specs.declared.construct.Construct.{Construct}
+use Rattle.naga_wgsl_fns.specs.declared.error.Error.{Error}
+use Rattle.naga_wgsl_fns.specs.declared.error.Error.TheVariants.{Memory}
+use Rattle.naga_wgsl_fns.specs.declared.plans.FunctionPart.{FunctionPart}
+use Rattle.naga_wgsl_fns.specs.declared.plans.FunctionPart.TheVariants as part
+use Rattle.naga_wgsl_fns.specs.declared.plans.Unplanned.{Unplanned}
+use Rattle.naga_wgsl_fns.specs.declared.plans.Unplanned.TheVariants as unplanned
+
+-- the part of a function that an error of a plan tells of
+abbrev pub part_of : PlanError → FunctionPart
+part_of (plan_error.OutOfScope fault) = part.Scope fault
+part_of (plan_error.StatementWithoutForm number statement) = part.Statement number
+part_of (plan_error.WithoutForm handle) = part.Expression handle
+part_of (plan_error.TypeWithoutForm ty) = part.Type_ ty
+part_of (plan_error.LetWithoutForm handle) = part.Let handle
+part_of (plan_error.Unnamed error) = part.Labels
+part_of (plan_error.Memory error) = part.Labels
+
+-- memory ran out
+abbrev pub is_names_want : NamerError → Bool
+is_names_want (namer_error.Memory e) = true
+is_names_want _ = false
+
+abbrev pub is_want : PlanError → Bool
+is_want (plan_error.Unnamed error) = is_names_want error
+is_want (plan_error.Memory e) = true
+is_want _ = false
+
+-- the function with this number has no plan where the namer was this: for a construct at a part of
+-- it, which is the first that is found
+pub record IsRefusedFor (explicit : Bool) (m : Module) (info : ModuleInfo) (number : ℕ)
+    (namer : Names) (it : Construct) (at : FunctionPart) : Type 0 where
+  pub error : PlanError
+  pub refused : IsRefusalToPlanOf explicit m info number namer error
+  pub first : IsFirstToPlanOf explicit m info number error
+  pub told : OfFunctionAt m info number (λ f known. Tells it (TellsPlanError m f known error))
+  pub part : at ≡ part_of error
+  pub other : IsFalse (is_want error)
+
+-- so it is, or memory ran out
+abbrev pub IsUnplanned : (explicit : Bool) → Module → ModuleInfo → (number : ℕ) → Names →
+    Unplanned → Type 0
+IsUnplanned explicit m info number namer (unplanned.Refused it at) =
+    IsRefusedFor explicit m info number namer it at
+IsUnplanned explicit m info number namer (unplanned.Memory e) = Unit {0}
+
+-- the error that is told of that
+abbrev pub TellsUnplanned : Unplanned → Error → Type 0
+TellsUnplanned (unplanned.Refused it at) error = IsToldAs it error
+TellsUnplanned (unplanned.Memory e) error = error ≡ Memory e

@@ -1,0 +1,21 @@
+use Rattle.naga_scope.proofs.FilledTables.{items_in_order}
+use Rattle.naga_wgsl_out.proofs.Unwritable.{labels_stand}
+use Rattle.naga_wgsl_out.proofs.unwritable.unwritable.Goals as goal
+
+pub of-requires : goal.of-requires
+of-requires c = record {
+  ordered = items_in_order c.args.«module».now c.args.info.now c.requires.accepted;
+}
+
+pub returns-in-Some-clause-stands : goal.returns-in-Some-clause-stands
+returns-in-Some-clause-stands c =
+    let found = c.in-Some.ensures in
+    (c.in-Some.declaration, found.place, c.formless_construct.ensures)
+
+pub returns-in-Some-clause-first : goal.returns-in-Some-clause-first
+returns-in-Some-clause-first c = c.in-Some.ensures.first
+
+pub returns-in-Err-clause-stands : goal.returns-in-Err-clause-stands
+returns-in-Err-clause-stands c =
+    labels_stand c.args.«module».now c.in-Err.error c.in_ok-construct.construct c.in-Err.ensures.err
+    c.in_ok-construct.ensures.ok c.in_ok-construct.ensures.refused

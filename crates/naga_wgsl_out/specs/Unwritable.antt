@@ -1,0 +1,163 @@
+-- Which construct a module is refused for, and where it stands.
+--
+-- Throughout, m is the module, info what is known of it, f is a function, known what is known of its
+-- expressions, number that of a function or an entry point, explicit says whether `let`s tell types,
+-- it is a construct and at is where it stands.
+use Rattle.std.specs.Prelude.{◌≡◌, ℕ, ◌+◌, ◌<◌, ◌⊎◌, Bool, List, Option, Some, IsFalse, IsSomeAnd}
+use Rattle.std.specs.Prelude.{codes, length, slice_get}
+use Rattle.module_meaning.specs.DeclarationForms.{DeclarationsHaveForms}
+use Rattle.module_meaning.specs.ExpressionForms.{expression_has_form}
+use Rattle.module_meaning.specs.FunctionNumbers.{all_functions, all_infos, function_number}
+use Rattle.module_meaning.specs.FunctionShapes.{function_shape}
+use Rattle.module_meaning.specs.Names.{labels_before}
+use Rattle.module_meaning.specs.Undeclared.{is_spellable}
+use Rattle.module_meaning.specs.Written.{IsSpelledIn, IsWrittenIn}
+use Rattle.naga_back.specs.declared.context.FunctionType.{FunctionType}
+use Rattle.naga_back.specs.declared.context.FunctionType.TheVariants as item
+use Rattle.naga_info.specs.declared.info.ExpressionInfo.{ExpressionInfo}
+use Rattle.naga_info.specs.declared.info.ModuleInfo.{ModuleInfo}
+use Rattle.naga_info.specs.declared.info.TypeResolution.{TypeResolution}
+use Rattle.naga_info.specs.declared.info.TypeResolution.TheVariants.{Handle}
+use Rattle.naga_ir.specs.declared.module.Function.{Function}
+use Rattle.naga_ir.specs.declared.module.Module.{Module}
+use Rattle.naga_names.specs.Naming.{Names}
+use Rattle.naga_scope.specs.Declarations.{HaveFormsBefore, IsFormlessIn}
+use Rattle.naga_scope.specs.FormlessStatements.{IsFormlessAt}
+use Rattle.naga_scope.specs.Plans.{IsFirstToPlan}
+use Rattle.naga_scope.specs.ScopeFaults.{IsScopeFault}
+use Rattle.naga_scope.specs.declared.declarations.DeclarationPlace.{DeclarationPlace}
+use Rattle.naga_scope.specs.declared.declarations.FormlessDeclaration.{FormlessDeclaration}
+use Rattle.naga_scope.specs.declared.plan.PlanError.{PlanError}
+use Rattle.naga_scope.specs.declared.statements.FormlessStatement.{FormlessStatement}
+use Rattle.naga_wgsl_fns.specs.Constructs.{Tells}
+use Rattle.naga_wgsl_fns.specs.DeclarationRefusals.{NamesFormlessDeclaration}
+use Rattle.naga_wgsl_fns.specs.Errors.{IsCustom}
+use Rattle.naga_wgsl_fns.specs.Refusals.{ExpressionNamesAreFullIn, NamesExpression, NamesStatement}
+use Rattle.naga_wgsl_fns.specs.Refusals.{NamesType}
+use Rattle.naga_wgsl_fns.specs.Unplanned.{part_of}
+use Rattle.naga_wgsl_fns.specs.declared.construct.Construct.{Construct}
+use Rattle.naga_wgsl_fns.specs.declared.plans.FunctionPart.{FunctionPart}
+use Rattle.naga_wgsl_fns.specs.declared.plans.FunctionPart.TheVariants as part
+use Rattle.naga_wgsl_fns.specs.declared.plans.Unplanned.{Unplanned}
+use Rattle.naga_wgsl_fns.specs.declared.plans.Unplanned.TheVariants as unplanned
+use Rattle.naga_wgsl_out.specs.ModuleRefusals.{HasNamedBefore, ItemsAreFull, KeyIsOutOfRange}
+use Rattle.naga_wgsl_out.specs.Writing.{HasPlan}
+use Rattle.naga_wgsl_out.specs.declared.unwritable.Refusal.{Refusal}
+use Rattle.naga_wgsl_out.specs.declared.unwritable.RefusalPlace.{RefusalPlace}
+use Rattle.naga_wgsl_out.specs.declared.unwritable.RefusalPlace.TheVariants as place
+
+-- the construct is told so
+abbrev pub TellsCustom : Construct → (message : List ℕ) → Type 0
+TellsCustom it message = Tells it (IsCustom message)
+
+-- ---- functions
+-- it is a type that no text can spell
+abbrev pub IsUnspelled : (explicit : Bool) → Module → ModuleInfo → Function →
+    (known : List ExpressionInfo) → TypeResolution → Construct → Type 0
+IsUnspelled explicit m info f known ty it =
+    IsSpelledIn explicit m info f known ty × IsFalse (is_spellable m ty) × Tells it (NamesType m ty)
+
+-- It stands at this part of the function with this number: a fault of scope, a statement or a written
+-- expression without a form, a type without one that the function declares or that a `let` tells, or
+-- labels that front ends gave, of which one gets no name after all labels in front of the function.
+abbrev pub StandsAtPart : (explicit : Bool) → Module → ModuleInfo → (number : ℕ) → Function →
+    (known : List ExpressionInfo) → FunctionPart → Construct → Type 0
+StandsAtPart explicit m info number f known (part.Scope fault) it =
+    IsScopeFault (function_shape m info f known) fault
+    × TellsCustom it (codes "operand out of scope")
+StandsAtPart explicit m info number f known (part.Statement n) it =
+    (statement : FormlessStatement) × IsFormlessAt f.body n statement
+    × Tells it (NamesStatement statement)
+StandsAtPart explicit m info number f known (part.Expression h) it =
+    IsWrittenIn m info f known h
+    × IsSomeAnd (slice_get f.expressions h) (λ e.
+    IsFalse (expression_has_form m known f.expressions e)
+    × Tells it (NamesExpression m known f.expressions e))
+StandsAtPart explicit m info number f known (part.Type_ ty) it =
+    IsUnspelled explicit m info f known (Handle ty) it
+StandsAtPart explicit m info number f known (part.Let h) it =
+    IsSomeAnd (slice_get known h) (λ k. IsUnspelled explicit m info f known k.ty it)
+StandsAtPart explicit m info number f known part.Labels it =
+    ExpressionNamesAreFullIn m (labels_before m number) number
+    × TellsCustom it (codes "namer is full")
+
+-- so it is with a function that there is, and nothing in front of it keeps the function from having a
+-- plan
+pub record StandsInFunction (explicit : Bool) (m : Module) (info : ModuleInfo) (number : ℕ)
+    (found : Construct × FunctionPart) : Type 0 where
+  pub function : Function
+  pub known : List ExpressionInfo
+  pub stands : slice_get (all_functions m) number ≡ Some function
+  pub is_known : slice_get (all_infos info) number ≡ Some known
+  pub at : StandsAtPart explicit m info number function known found.1 found.0
+  pub first : (error : PlanError) × (found.1 ≡ part_of error)
+      × IsFirstToPlan explicit m info function known error
+
+-- ---- declarations
+-- it is what has no form in this declaration
+abbrev pub StandsInDeclaration : Module → DeclarationPlace → Construct → Type 0
+StandsInDeclaration m at it =
+    (lack : FormlessDeclaration) × IsFormlessIn m at lack
+    × Tells it (NamesFormlessDeclaration m lack)
+
+-- ---- labels
+-- an item gets no name, or its key is out of range
+abbrev pub StandsInLabels : Module → Construct → Type 0
+StandsInLabels m it =
+    (ItemsAreFull m × TellsCustom it (codes "namer is full"))
+    ⊎ (KeyIsOutOfRange m × TellsCustom it (codes "name key out of range"))
+
+-- ---- modules
+-- the construct stands at its place in the module; the entry points are numbered after the functions
+abbrev pub StandsAt : (explicit : Bool) → Module → ModuleInfo → RefusalPlace → Construct → Type 0
+StandsAt explicit m info place.Labels it = StandsInLabels m it
+StandsAt explicit m info (place.Declaration at) it = StandsInDeclaration m at it
+StandsAt explicit m info (place.Function h at) it = StandsInFunction explicit m info h (it, at)
+StandsAt explicit m info (place.EntryPoint i at) it =
+    StandsInFunction explicit m info (length m.functions + i) (it, at)
+
+abbrev pub StandsIn : (explicit : Bool) → Module → ModuleInfo → Refusal → Type 0
+StandsIn explicit m info refusal = StandsAt explicit m info refusal.place refusal.construct
+
+-- ---- which one is told
+-- each declaration has a form, each item a name, and each function and entry point in front of the one
+-- with this number a plan
+pub record AreWritableBefore (explicit : Bool) (m : Module) (info : ModuleInfo)
+    (number : ℕ) : Type 0 where
+  pub declarations : DeclarationsHaveForms m
+  pub nameable : ItemsAreFull m → ⊥
+  pub planned : (i : ℕ) → i < number → HasPlan explicit m info i
+
+-- a module is looked at by its declarations, by the labels of its items, and by its functions and
+-- entry points: nothing stands in front of this place for which it is refused
+abbrev pub IsFirst : (explicit : Bool) → Module → ModuleInfo → RefusalPlace → Type 0
+IsFirst explicit m info (place.Declaration at) = HaveFormsBefore m at
+IsFirst explicit m info place.Labels = DeclarationsHaveForms m
+IsFirst explicit m info (place.Function h at) = AreWritableBefore explicit m info h
+IsFirst explicit m info (place.EntryPoint i at) =
+    AreWritableBefore explicit m info (length m.functions + i)
+
+-- ---- on the way
+-- the place of this part of a function or an entry point
+abbrev pub place_at : FunctionType → FunctionPart → RefusalPlace
+place_at (item.Function h) at = place.Function h at
+place_at (item.EntryPoint i) at = place.EntryPoint i at
+
+-- that is found where it has no plan
+abbrev pub IsFoundOf : FunctionType → Unplanned → Option Refusal → Type 0
+IsFoundOf ty (unplanned.Refused it at) found =
+    found ≡ Some (record { construct = it; place = place_at ty at })
+IsFoundOf ty (unplanned.Memory e) found = ⊥
+
+-- it is refused for this, which stands at a part of it
+abbrev pub IsRefusalOf : (explicit : Bool) → Module → ModuleInfo → FunctionType → Refusal → Type 0
+IsRefusalOf explicit m info ty refusal =
+    (at : FunctionPart) × (refusal.place ≡ place_at ty at)
+    × StandsInFunction explicit m info (function_number m ty) (refusal.construct, at)
+
+-- the function with this number has a plan, and the namer has named its labels after all in front of
+-- them
+pub record IsWritable (explicit : Bool) (m : Module) (info : ModuleInfo) (number : ℕ)
+    (namer : Names) : Type 0 where
+  pub planned : HasPlan explicit m info number
+  pub named : HasNamedBefore m (number + 1) namer

@@ -1,0 +1,92 @@
+-- What a call answers that writes a module within limits.
+--
+-- Throughout, m is the module, old is what is known of it before the call, new after it, and info
+-- is what is known of it with its uses counted; bound is how many bytes a text may have.
+use Rattle.std.specs.Prelude.{◌≡◌, ◌<◌, ◌≤◌, ◌⊎◌, ℕ, List, [], Result, Ok, Err, None, Some}
+use Rattle.std.specs.Prelude.{IsTrue, alloc_error, length, string_bytes}
+use Rattle.std.specs.declared.string.String.{String}
+use Rattle.module_limits.specs.Nesting.{nested_past}
+use Rattle.module_limits.specs.declared.limits.Limits.{Limits}
+use Rattle.module_meaning.specs.Accepted.{is_accepted}
+use Rattle.module_meaning.specs.Bindings.{BindsAs}
+use Rattle.module_meaning.specs.Layouts.{KeepsLayouts}
+use Rattle.module_meaning.specs.Resolution.{ResolvesAs}
+use Rattle.naga_acceptance.specs.Faults.{Fails}
+use Rattle.naga_back.specs.Flags.{annotates_types}
+use Rattle.naga_back.specs.declared.flags.WriterFlags.{WriterFlags}
+use Rattle.naga_info.specs.declared.info.ModuleInfo.{ModuleInfo}
+use Rattle.naga_ir.specs.declared.module.Module.{Module}
+use Rattle.naga_wgsl_fns.specs.declared.error.Error.{Error}
+use Rattle.naga_wgsl_fns.specs.declared.error.Error.TheVariants.{Memory}
+use Rattle.naga_wgsl_out.specs.Checked.{IsCounted}
+use Rattle.naga_wgsl_out.specs.Headline.{EachReading, FaithfulWriting}
+use Rattle.naga_wgsl_out.specs.Writing.{written_text}
+use Rattle.naga_wgsl_out.specs.declared.within.LimitedError.{LimitedError}
+use Rattle.naga_wgsl_out.specs.declared.within.LimitedError.TheVariants as limited
+
+-- the text is that of the module, as the writer promises it, and no longer than it may be
+pub record IsTextWithin (flags : WriterFlags) (bound : ℕ) (m : Module) (info : ModuleInfo)
+    (text : List ℕ) : Type 0 where
+  pub is : text ≡ written_text m info flags
+  pub within : length text ≤ bound
+  pub faithful : FaithfulWriting flags m info (Ok tt) [] text 0 0
+  pub resolution : EachReading [] text (ResolvesAs m info)
+  pub bindings : EachReading [] text (BindsAs m info (annotates_types flags))
+  pub layouts : EachReading [] text (KeepsLayouts m)
+
+-- the writer refused the module, or memory was wanting, behind a text that was not too long
+pub record IsRefusedWithin (flags : WriterFlags) (bound : ℕ) (m : Module) (info : ModuleInfo)
+    (error : Error) : Type 0 where
+  pub beginning : List ℕ
+  pub failures : ℕ
+  pub within : length beginning ≤ bound
+  pub faithful : FaithfulWriting flags m info (Err error) [] beginning 0 failures
+
+-- what is answered of an accepted module; in particular a text is too long only where the module's
+-- is
+abbrev pub AnswersBounded : {Y : Type 0} → WriterFlags → (bound : ℕ) → Module → ModuleInfo →
+    Result (String Y) LimitedError → Type 0
+AnswersBounded flags bound m info (Ok text) =
+    IsTextWithin flags bound m info (string_bytes text)
+AnswersBounded flags bound m info (Err limited.TooLong) =
+    bound < length (written_text m info flags)
+AnswersBounded flags bound m info (Err (limited.Refused error)) =
+    IsRefusedWithin flags bound m info error
+AnswersBounded flags bound m info (Err _) = ⊥
+
+-- the same by the writer's answer and what its sink holds
+abbrev pub TellsBounded : {Y : Type 0} → (bound : ℕ) → Result Unit Error → (content : List ℕ) →
+    Result (String Y) LimitedError → Type 0
+TellsBounded bound answer content (Ok text) =
+    (answer ≡ Ok tt) × (string_bytes text ≡ content) × (length content ≤ bound)
+TellsBounded bound answer content (Err limited.TooLong) = bound < length content
+TellsBounded bound answer content (Err (limited.Refused error)) =
+    (answer ≡ Err error) × (length content ≤ bound)
+TellsBounded bound answer content (Err _) = ⊥
+
+-- The module is nested no deeper than it may be, and accepted; its uses were counted, and then this
+-- was answered of it.
+pub record IsLookedInto {Y : Type 0} (flags : WriterFlags) (limits : Limits) (m : Module)
+    (old new : ModuleInfo) (answer : Result (String Y) LimitedError) : Type 0 where
+  pub nested : nested_past limits.nesting m ≡ None
+  pub accepted : IsTrue (is_accepted m old)
+  pub counted : IsCounted m old new
+  pub answers : AnswersBounded flags limits.text m new answer
+
+-- memory was wanting for the question how deep the module is nested
+abbrev pub IsUnasked : (old new : ModuleInfo) → Error → Type 0
+IsUnasked old new error = (error ≡ Memory alloc_error) × (new ≡ old)
+
+abbrev pub AnswersWithin : {Y : Type 0} → WriterFlags → Limits → Module → (old new : ModuleInfo) →
+    Result (String Y) LimitedError → Type 0
+AnswersWithin flags limits m old new (Err (limited.TooDeep nested)) =
+    (nested_past limits.nesting m ≡ Some nested) × (new ≡ old)
+AnswersWithin flags limits m old new (Err (limited.NotAccepted fault)) =
+    (nested_past limits.nesting m ≡ None) × Fails m old fault × (new ≡ old)
+AnswersWithin flags limits m old new (Err (limited.Refused error)) =
+    IsUnasked old new error
+    ⊎ IsLookedInto flags limits m old new (Err (limited.Refused error))
+AnswersWithin flags limits m old new (Err limited.TooLong) =
+    IsLookedInto flags limits m old new (Err limited.TooLong)
+AnswersWithin flags limits m old new (Ok text) =
+    IsLookedInto flags limits m old new (Ok text)

@@ -1,0 +1,193 @@
+//! Why a module is refused, and where.
+
+ghost use Rattle.std.specs.Prelude.{IfOk, IfSome, IsTrue, MatchOption};
+ghost use Rattle.module_meaning.specs.Accepted.{is_accepted};
+ghost use Rattle.module_meaning.specs.DeclarationForms.{DeclarationsHaveForms};
+ghost use Rattle.module_meaning.specs.FunctionNumbers.{IsFunctionOf, function_number};
+ghost use Rattle.module_meaning.specs.Names.{HasNamesOf};
+ghost use Rattle.naga_back.specs.Flags.{annotates_types};
+ghost use Rattle.naga_names.specs.Keys.{names_in};
+ghost use Rattle.naga_scope.specs.Tables.{AreTablesOf};
+ghost use Rattle.naga_wgsl_out.specs.ModuleRefusals.{HasAllNames, HasNamedBefore, NothingIsRefused};
+ghost use Rattle.naga_wgsl_out.specs.Unwritable.{IsFirst, IsFoundOf, IsRefusalOf, IsWritable};
+ghost use Rattle.naga_wgsl_out.specs.Unwritable.{StandsIn, place_at};
+
+use crate::writer::items_named;
+use naga_back::{FunctionType, WriterFlags};
+use naga_info::ModuleInfo;
+use naga_ir::{Function, Handle, Module, Place};
+use naga_names::NameKey;
+use naga_names::namer::Namer;
+use naga_scope::{DeclarationPlace, ModuleTables, formless_declaration};
+use naga_wgsl_fns::{
+    Construct, FunctionPart, Unplanned, construct_of_names, formless_construct, plan_or_refusal,
+};
+use std::alloc::{AllocError, Global};
+use std::collections::HashMap;
+
+/// Where a construct stands for which a module is refused.
+#[derive(Clone, Copy, Debug, PartialEq, Eq)]
+pub enum RefusalPlace {
+    /// Among the labels of the module's items.
+    Labels,
+    /// In a declaration.
+    Declaration(DeclarationPlace),
+    /// In the function with this handle.
+    Function(Handle<Function>, FunctionPart),
+    /// In the entry point with this index.
+    EntryPoint(usize, FunctionPart),
+}
+
+/// A construct for which a module is refused, and where it stands.
+#[derive(Clone, Copy, Debug, PartialEq, Eq)]
+pub struct Refusal {
+    pub construct: Construct,
+    pub place: RefusalPlace,
+}
+
+/// A construct for which a module is refused that is accepted with what is known of it, and where
+/// it stands; none exactly where nothing stands in it for which [`Writer::write`] refuses it, with
+/// these flags.
+///
+/// Where several stand, it is the first that the writer finds, and the error that `write` answers
+/// names this construct: first of the declarations, in the order of the text; then of the labels of
+/// items; then of the functions and the entry points, in the order of the text, and in each of its
+/// labels, its scope, its statements, its expressions from the last to the first, and the types that
+/// it declares and that its `let`s tell.
+///
+/// It takes the time of `write` without the text.
+///
+/// ```text
+/// match unwritable(alloc, &shader.module, &shader.info, no_flags())? {
+///     Some(refusal) => println!(rt; "refused: {}", refusal.construct)?,
+///     None => println!(rt; "nothing is refused")?,
+/// }
+/// ```
+///
+/// [`Writer::write`]: crate::wgsl::Writer::write
+pub fn unwritable(
+    alloc: Global,
+    module: &Module,
+    info: &ModuleInfo,
+    flags: WriterFlags,
+) -> Result<Option<Refusal>, AllocError>
+    requires accepted { IsTrue (is_accepted «module».now info.now) }
+    ensures stands { IfOk result (λ found. MatchOption found
+        (NothingIsRefused (annotates_types flags) «module».now info.now)
+        (StandsIn (annotates_types flags) «module».now info.now)) }
+    ensures first { IfOk result (λ found. IfSome found (λ refusal.
+        IsFirst (annotates_types flags) «module».now info.now refusal.place)) }
+{
+    let tables = ModuleTables::of(alloc, module)?;
+    if let Some((place, declaration)) = formless_declaration(module, &tables) {
+        return Ok(Some(Refusal {
+            construct: formless_construct(module, &tables, declaration),
+            place: RefusalPlace::Declaration(place),
+        }));
+    }
+    match items_named(alloc, module) {
+        Ok((names, mut namer)) => {
+            unwritable_function(alloc, module, info, &tables, &names, &mut namer, flags)
+        }
+        Err(error) => {
+            let construct = construct_of_names(error)?;
+            Ok(Some(Refusal {
+                construct,
+                place: RefusalPlace::Labels,
+            }))
+        }
+    }
+}
+
+/// The same of a module whose declarations have forms and whose items have names, by its functions
+/// and its entry points.
+fn unwritable_function(
+    alloc: Global,
+    module: &Module,
+    info: &ModuleInfo,
+    tables: &ModuleTables,
+    names: &HashMap<NameKey, String>,
+    namer: &mut Namer,
+    flags: WriterFlags,
+) -> Result<Option<Refusal>, AllocError>
+    requires accepted { IsTrue (is_accepted «module».now info.now) }
+    requires declared { DeclarationsHaveForms «module».now }
+    requires tables { AreTablesOf «module».now tables.now }
+    requires names { HasAllNames «module».now (names_in names.now) }
+    requires namer { HasNamedBefore «module».now 0 namer.old }
+    ensures stands { IfOk result (λ found. MatchOption found
+        (NothingIsRefused (annotates_types flags) «module».now info.now)
+        (StandsIn (annotates_types flags) «module».now info.now)) }
+    ensures first { IfOk result (λ found. IfSome found (λ refusal.
+        IsFirst (annotates_types flags) «module».now info.now refusal.place)) }
+{
+    for index in 0..module.functions.len() {
+        let ty = FunctionType::Function(Place::from_index(index));
+        let found = refused_in(alloc, module, info, &ty, tables, names, namer, flags)?;
+        if let Some(refusal) = found {
+            return Ok(Some(refusal));
+        }
+    }
+    for index in 0..module.entry_points.len() {
+        let ty = FunctionType::EntryPoint(index as u16);
+        let found = refused_in(alloc, module, info, &ty, tables, names, namer, flags)?;
+        if let Some(refusal) = found {
+            return Ok(Some(refusal));
+        }
+    }
+    Ok(None)
+}
+
+/// The first construct for which this function is refused, and where it stands. Where there is none,
+/// the namer has named its labels too.
+fn refused_in(
+    alloc: Global,
+    module: &Module,
+    info: &ModuleInfo,
+    ty: &FunctionType,
+    tables: &ModuleTables,
+    names: &HashMap<NameKey, String>,
+    namer: &mut Namer,
+    flags: WriterFlags,
+) -> Result<Option<Refusal>, AllocError>
+    requires accepted { IsTrue (is_accepted «module».now info.now) }
+    requires there { IsFunctionOf ty.now «module».now }
+    requires tables { AreTablesOf «module».now tables.now }
+    requires names { HasNamesOf «module».now (names_in names.now) }
+    requires namer { HasNamedBefore «module».now (function_number «module».now ty.now) namer.old }
+    ensures { IfOk result (λ found. MatchOption found
+        (IsWritable (annotates_types flags) «module».now info.now
+        (function_number «module».now ty.now) namer.new)
+        (IsRefusalOf (annotates_types flags) «module».now info.now ty.now)) }
+{
+    match plan_or_refusal(alloc, module, info, ty, tables, names, flags, namer) {
+        Ok(plan) => {
+            drop(plan);
+            Ok(None)
+        }
+        Err(unplanned) => refusal_of(*ty, unplanned),
+    }
+}
+
+/// The refusal of a function without a plan, if memory has not run out.
+fn refusal_of(ty: FunctionType, unplanned: Unplanned) -> Result<Option<Refusal>, AllocError>
+    ensures { IfOk result (IsFoundOf ty unplanned) }
+{
+    match unplanned {
+        Unplanned::Refused(construct, part) => {
+            let place = place_at(ty, part);
+            Ok(Some(Refusal { construct, place }))
+        }
+        Unplanned::Memory(error) => Err(error),
+    }
+}
+
+/// The place of this part of a function or an entry point.
+fn place_at(ty: FunctionType, part: FunctionPart) -> RefusalPlace
+    ensures { result ≡ place_at ty part }
+{
+    match ty {
+        FunctionType::Function(handle) => RefusalPlace::Function(handle, part),
+        FunctionType::EntryPoint(index) => RefusalPlace::EntryPoint(index as usize, part),
+    }
+}

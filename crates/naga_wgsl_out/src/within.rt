@@ -1,0 +1,117 @@
+//! The writer, for modules that others made: within limits that the caller sets.
+
+ghost use Rattle.std.specs.Prelude.{◌≡◌, IsTrue, None};
+ghost use Rattle.module_limits.specs.Nesting.{nested_past};
+ghost use Rattle.module_meaning.specs.Accepted.{is_accepted};
+ghost use Rattle.naga_wgsl_out.specs.Within.{AnswersBounded, AnswersWithin, TellsBounded};
+
+use crate::writer::Writer;
+use module_limits::{BoundedText, Limits, Nested, nested_past};
+use naga_acceptance::{Unaccepted, count, unaccepted};
+use naga_back::WriterFlags;
+use naga_info::ModuleInfo;
+use naga_ir::Module;
+use naga_wgsl_fns::Error;
+use std::alloc::Global;
+use thiserror::Error as DisplayedError;
+
+/// Why [`write_checked_within`] gives no text.
+#[derive(Debug, Drop, DisplayedError)]
+pub enum LimitedError {
+    /// This of the module is nested deeper than the limit.
+    #[error("{0}")]
+    TooDeep(Nested),
+    /// The module is not accepted: at this place, for a fault of this kind.
+    #[error("not accepted: {0}")]
+    NotAccepted(Unaccepted),
+    /// The module's text has more bytes than the limit.
+    #[error("text too long")]
+    TooLong,
+    /// The module is accepted, and the writer refuses it; or memory was wanting.
+    #[error("{0}")]
+    Refused(Error),
+}
+
+/// Does with a module what [`write_checked`](crate::wgsl::write_checked) does, within limits: for a
+/// module that others made, of which nothing is known.
+///
+/// [`LimitedError::TooDeep`] comes exactly where something of the module is nested deeper than
+/// `limits.nesting`, by [`nested_past`], before anything else is asked of it and before the stack
+/// is taken. [`LimitedError::TooLong`] comes only where the module's text has more than
+/// `limits.text` bytes, and a text that has more never comes: it is cut as soon as it has passed
+/// the limit, so that no more memory than that and a piece more is taken for it, and no more time.
+/// What is known of the module is as it was where it is nested too deep or not accepted; else its
+/// uses are counted, but where memory was wanting before.
+///
+/// ```text
+/// let limits = Limits { nesting: 4_000, text: 16_777_216 };
+/// match write_checked_within(alloc, &shader.module, &mut shader.info, no_flags(), limits) {
+///     Ok(text) => println!(rt; "{text}")?,
+///     Err(error) => println!(rt; "no text: {error}")?, // as `nested too deep: operands`
+/// }
+/// ```
+pub fn write_checked_within(
+    alloc: Global,
+    module: &Module,
+    info: &mut ModuleInfo,
+    flags: WriterFlags,
+    limits: Limits,
+) -> Result<String, LimitedError>
+    ensures { AnswersWithin flags limits «module».now info.old info.new result }
+{
+    match nested_past(alloc, module, limits.nesting) {
+        Ok(None) => write_flat(alloc, module, info, flags, limits),
+        Ok(Some(nested)) => Err(LimitedError::TooDeep(nested)),
+        Err(error) => Err(LimitedError::Refused(Error::Memory(error))),
+    }
+}
+
+/// The same with a module that is nested no deeper than it may be.
+#[tactic(auto, using(crate::proofs::Within::answers_within))]
+fn write_flat(
+    alloc: Global,
+    module: &Module,
+    info: &mut ModuleInfo,
+    flags: WriterFlags,
+    limits: Limits,
+) -> Result<String, LimitedError>
+    requires flat { nested_past limits.nesting «module».now ≡ None }
+    ensures { AnswersWithin flags limits «module».now info.old info.new result }
+{
+    if let Some(fault) = unaccepted(module, info) {
+        return Err(LimitedError::NotAccepted(fault));
+    }
+    count(info, module);
+    write_bounded(alloc, module, info, flags, limits.text)
+}
+
+/// Writes an accepted module, up to so many bytes and a piece more.
+fn write_bounded(
+    alloc: Global,
+    module: &Module,
+    info: &ModuleInfo,
+    flags: WriterFlags,
+    bound: usize,
+) -> Result<String, LimitedError>
+    requires accepted { IsTrue (is_accepted «module».now info.now) }
+    ensures { AnswersBounded flags bound «module».now info.now result }
+{
+    let empty = BoundedText::new(alloc, bound);
+    let mut writer = Writer::new(alloc, empty, flags);
+    let answer = writer.write(module, info);
+    let sink = writer.finish();
+    told(answer, sink, bound)
+}
+
+/// What is told of the writer's answer, by the length of what its sink took.
+fn told(answer: Result<(), Error>, sink: BoundedText, bound: usize) -> Result<String, LimitedError>
+    ensures { TellsBounded bound answer sink.text result }
+{
+    if sink.text().len() > bound {
+        return Err(LimitedError::TooLong);
+    }
+    match answer {
+        Ok(()) => Ok(sink.finish()),
+        Err(error) => Err(LimitedError::Refused(error)),
+    }
+}

@@ -1,0 +1,148 @@
+//! Rules, and sinks that refuse a write.
+ghost use Rattle.naga_words.specs.Rules.{AllFit, FitsConclusion};
+ghost use Rattle.naga_words.specs.Spelling.{IsInOrder};
+ghost use Rattle.word_tests.specs.Rules.{FitsAmong};
+
+use super::*;
+
+const DOT_TEXT: &str = "fn dot(vec3<f32>, vec3<f32>) -> f32";
+
+fn dot_rule(rt: &impl Abort, alloc: Global) -> Rule
+    ensures { FitsAmong 0 result }
+{
+    let first = TypeResolution::Value(TypeInner::Vector {
+        size: VectorSize::Tri,
+        scalar: Scalar::F32,
+    });
+    let second = TypeResolution::Value(TypeInner::Vector {
+        size: VectorSize::Tri,
+        scalar: Scalar::F32,
+    });
+    Rule {
+        arguments: vec![in alloc; first, second].expect(rt, "memory"),
+        conclusion: Conclusion::Value(TypeInner::Scalar(Scalar::F32)),
+    }
+}
+
+const MODF_TEXT: &str = "fn modf(f32) -> __modf_result_f32";
+
+fn modf_rule(rt: &impl Abort, alloc: Global) -> Rule
+    ensures { FitsAmong 0 result }
+{
+    let number = TypeResolution::Value(TypeInner::Scalar(Scalar::F32));
+    Rule {
+        arguments: vec![in alloc; number].expect(rt, "memory"),
+        conclusion: Conclusion::Predeclared(PredeclaredType::ModfResult {
+            size: None,
+            scalar: Scalar::F32,
+        }),
+    }
+}
+
+/// The text by numbers.
+const COUNT_TEXT: &str = "fn count(array<T0, O0>) -> u32";
+
+/// A rule that names the type at index 1.
+fn count_rule(rt: &impl Abort, alloc: Global) -> Rule
+    ensures { FitsAmong 2 result }
+{
+    let array = TypeResolution::Handle(Place::from_index(1));
+    Rule {
+        arguments: vec![in alloc; array].expect(rt, "memory"),
+        conclusion: Conclusion::Value(TypeInner::Scalar(Scalar::U32)),
+    }
+}
+
+/// Whether the text is as much of the rule's as has room.
+fn is_within(text: &str, want: &str, limit: usize, is_whole: bool) -> bool {
+    if is_whole {
+        text == want
+    } else {
+        text.len() <= limit && want.starts_with(text)
+    }
+}
+
+/// A sink with room for the rule's text holds it, and one with less fails and holds a beginning of
+/// it.
+fn written_within<C: TypeContext>(
+    rt: &impl Abort,
+    alloc: Global,
+    context: &C,
+    name: &str,
+    rule: &Rule,
+    want: &str,
+    limit: usize,
+)
+    requires order { IsInOrder (C.context context.now) }
+    requires fits { AllFit (C.context context.now) rule.now.arguments.items }
+    requires gives { FitsConclusion (C.context context.now) rule.now.conclusion }
+{
+    let mut sink = Limited::new(alloc, limit);
+    let is_whole = match context.write_type_rule(alloc, name, rule, &mut sink) {
+        Ok(()) => true,
+        Err(TypeTextError::Sink(SinkError::Failed)) => false,
+        Err(error) => panic!(rt; "{error}"),
+    };
+    assert_eq!(rt;
+        is_whole,
+        limit == want.len(),
+        "with room for {limit} bytes"
+    );
+    assert!(rt;
+        is_within(sink.text(), want, limit, is_whole),
+        "with room for {limit} bytes"
+    );
+}
+
+/// The rule has this text, and in a sink of each limit up to the text's length what has room of it.
+fn rule_holds<C: TypeContext>(
+    rt: &impl Abort,
+    alloc: Global,
+    context: &C,
+    name: &str,
+    rule: &Rule,
+    want: &str,
+)
+    requires order { IsInOrder (C.context context.now) }
+    requires fits { AllFit (C.context context.now) rule.now.arguments.items }
+    requires gives { FitsConclusion (C.context context.now) rule.now.conclusion }
+{
+    for limit in 0..=want.len() {
+        written_within(rt, alloc, context, name, rule, want, limit);
+    }
+    reads(
+        rt,
+        &context.type_rule_to_string(alloc, name, rule),
+        Some(want),
+    );
+}
+
+/// Rules that name no type of the context.
+fn rules_hold<C: TypeContext>(rt: &impl Abort, alloc: Global, context: &C)
+    requires order { IsInOrder (C.context context.now) }
+{
+    rule_holds(rt, alloc, context, "dot", &dot_rule(rt, alloc), DOT_TEXT);
+    rule_holds(rt, alloc, context, "modf", &modf_rule(rt, alloc), MODF_TEXT);
+}
+
+/// Rules by numbers.
+fn numbered_rules_hold(rt: &impl Abort, alloc: Global, context: &NumberedTypes<'_>) {
+    assert!(rt; context.is_in_order(0));
+    rules_hold(rt, alloc, context);
+}
+
+/// Rules where there are no types.
+pub fn rules_without_types(rt: &impl Abort, alloc: Global, types: &UniqueArena<Type_>) {
+    assert!(rt; types_in_order(types, 0));
+    rules_hold(rt, alloc, types);
+    let context = NumberedTypes::new(alloc, types).expect(rt, "memory");
+    numbered_rules_hold(rt, alloc, &context);
+}
+
+/// A rule that names a type, which has its number.
+pub fn handle_rule_holds(rt: &impl Abort, alloc: Global, context: &NumberedTypes<'_>) {
+    assert!(rt; context.is_in_order(2));
+    assert!(rt; 2 <= context.types.len());
+    let rule = count_rule(rt, alloc);
+    rule_holds(rt, alloc, context, "count", &rule, COUNT_TEXT);
+}

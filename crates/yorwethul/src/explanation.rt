@@ -1,0 +1,87 @@
+//! Why a module has no text, with a picture of the place.
+
+use crate::texts::{Style, write_in};
+use module_answers::{
+    JsonPlace, JsonRefusal, Unwritten, Written, fault_text, label_at, listed_place, refused_place,
+};
+use naga_json::Known;
+use naga_listing::explain;
+use naga_wgsl_out::info::Unaccepted;
+use naga_wgsl_out::wgsl::{Error, Refusal};
+use std::alloc::{AllocError, Global};
+
+/// What is told of a module.
+#[derive(Drop)]
+pub struct Explanation {
+    /// Why it has no text, or that it has one, with the lines around the place.
+    pub text: String,
+    /// Whether it has one.
+    pub is_written: bool,
+}
+
+/// Tells why a module has no text in this style, if it has none.
+pub fn explanation(
+    alloc: Global,
+    style: Style,
+    known: &mut Known,
+) -> Result<Explanation, AllocError> {
+    match write_in(alloc, style, known) {
+        Ok(written) => of_written(alloc, known, written),
+        Err(Unwritten::NotAccepted(fault)) => of_unaccepted(alloc, known, fault),
+        Err(Unwritten::Memory(error)) => Err(error),
+        Err(reason) => not_written(format!(in alloc; "refused: {reason}\n")),
+    }
+}
+
+fn of_written(
+    alloc: Global,
+    known: &Known,
+    written: Written<String>,
+) -> Result<Explanation, AllocError> {
+    let Written {
+        answer,
+        refusal,
+        sink: _,
+    } = written;
+    match (answer, refusal) {
+        (Ok(()), _) => Ok(Explanation {
+            text: String::from_str(alloc, "written\n")?,
+            is_written: true,
+        }),
+        (Err(Error::Memory(error)), _) => Err(error),
+        (Err(_), Some(refusal)) => of_refusal(alloc, known, refusal),
+        (Err(reason), None) => not_written(format!(in alloc; "refused: {reason}\n")),
+    }
+}
+
+/// Tells what a module is refused for and where, and shows the lines around.
+fn of_refusal(alloc: Global, known: &Known, refusal: Refusal) -> Result<Explanation, AllocError> {
+    let construct = format!(in alloc; "{}", refusal.construct)?;
+    let place = refused_place(refusal.place);
+    let listing = explain(alloc, &known.module, &known.info, &place, construct.as_str())?;
+    let told = JsonRefusal(refusal);
+    not_written(match label_at(&known.module, refusal.place) {
+        Some(label) => format!(in alloc; "refused: {told}, in {label:?}\n\n{listing}"),
+        None => format!(in alloc; "refused: {told}\n\n{listing}"),
+    })
+}
+
+/// Tells where a module is not accepted and why, and shows the lines around.
+fn of_unaccepted(
+    alloc: Global,
+    known: &Known,
+    unaccepted: Unaccepted,
+) -> Result<Explanation, AllocError> {
+    let fault = fault_text(alloc, &known.module, &known.info, unaccepted)?;
+    let place = listed_place(unaccepted.item);
+    let listing = explain(alloc, &known.module, &known.info, &place, fault.as_str())?;
+    let place = JsonPlace(unaccepted.item);
+    not_written(format!(in alloc; "not accepted: {place}: {fault}\n\n{listing}"))
+}
+
+fn not_written(text: Result<String, AllocError>) -> Result<Explanation, AllocError> {
+    Ok(Explanation {
+        text: text?,
+        is_written: false,
+    })
+}
