@@ -1,39 +1,109 @@
 //! Each public name from the module where users find it: that this is read is the test.
+use naga_wgsl_out::back::BakeRefCount;
+use naga_wgsl_out::back::Baked;
+use naga_wgsl_out::back::COMPONENTS;
+use naga_wgsl_out::back::FunctionCtx;
+use naga_wgsl_out::back::FunctionType;
+use naga_wgsl_out::back::INDENT;
+use naga_wgsl_out::back::IsHandle;
+use naga_wgsl_out::back::IsTerminator;
+use naga_wgsl_out::back::Level;
+use naga_wgsl_out::back::NeedBakeExpressions;
+use naga_wgsl_out::back::RayFlag;
+use naga_wgsl_out::back::RayIntersectionType;
+use naga_wgsl_out::back::binary_operation_str;
 use naga_wgsl_out::back::wgsl::write_string as _;
-use naga_wgsl_out::back::{
-    BakeRefCount, Baked, COMPONENTS, FunctionCtx, FunctionType, INDENT, IsHandle, IsTerminator,
-    Level, NeedBakeExpressions, RayFlag, RayIntersectionType, binary_operation_str,
-};
-use naga_wgsl_out::builder::{BlockBuilder, FunctionBuilder, ModuleBuilder, StageParts};
-use naga_wgsl_out::diagnostics::{
-    DisplayFilterableTriggeringRule, DisplayWgslIdent, FilterableTriggeringRule, FromWgslIdent,
-    Severity, StandardFilterableTriggeringRule, ToWgslIdent,
-};
-use naga_wgsl_out::info::{
-    Conclusion, ExpressionInfo, Fault, FunctionInfo, FunctionPlace, GlobalCtx, Item, ModuleInfo,
-    Rule, ToCtx, TypeResolution, Unaccepted, accepts, count, unaccepted,
-};
-use naga_wgsl_out::ir::{Arena, ExpressionKind, Module, Place, Range, StatementOperands, Type_};
-use naga_wgsl_out::keyword_set::{AsciiUniCase, CaseInsensitiveKeywordSet, KeywordSet};
-use naga_wgsl_out::keywords::{BUILTIN_IDENTIFIERS, RESERVED, RESERVED_PREFIXES};
+use naga_wgsl_out::builder::BlockBuilder;
+use naga_wgsl_out::builder::FunctionBuilder;
+use naga_wgsl_out::builder::ModuleBuilder;
+use naga_wgsl_out::builder::StageParts;
+use naga_wgsl_out::diagnostics::DisplayFilterableTriggeringRule;
+use naga_wgsl_out::diagnostics::DisplayWgslIdent;
+use naga_wgsl_out::diagnostics::FilterableTriggeringRule;
+use naga_wgsl_out::diagnostics::FromWgslIdent;
+use naga_wgsl_out::diagnostics::Severity;
+use naga_wgsl_out::diagnostics::StandardFilterableTriggeringRule;
+use naga_wgsl_out::diagnostics::ToWgslIdent;
+use naga_wgsl_out::info::Conclusion;
+use naga_wgsl_out::info::ExpressionInfo;
+use naga_wgsl_out::info::Fault;
+use naga_wgsl_out::info::FunctionInfo;
+use naga_wgsl_out::info::FunctionPlace;
+use naga_wgsl_out::info::GlobalCtx;
+use naga_wgsl_out::info::Item;
+use naga_wgsl_out::info::ModuleInfo;
+use naga_wgsl_out::info::Rule;
+use naga_wgsl_out::info::ToCtx;
+use naga_wgsl_out::info::TypeResolution;
+use naga_wgsl_out::info::Unaccepted;
+use naga_wgsl_out::info::accepts;
+use naga_wgsl_out::info::count;
+use naga_wgsl_out::info::unaccepted;
+use naga_wgsl_out::ir::Arena;
+use naga_wgsl_out::ir::ExpressionKind;
+use naga_wgsl_out::ir::Module;
+use naga_wgsl_out::ir::Place;
+use naga_wgsl_out::ir::Range;
+use naga_wgsl_out::ir::StatementOperands;
+use naga_wgsl_out::ir::Type_;
+use naga_wgsl_out::keyword_set::AsciiUniCase;
+use naga_wgsl_out::keyword_set::CaseInsensitiveKeywordSet;
+use naga_wgsl_out::keyword_set::KeywordSet;
+use naga_wgsl_out::keywords::BUILTIN_IDENTIFIERS;
+use naga_wgsl_out::keywords::RESERVED;
+use naga_wgsl_out::keywords::RESERVED_PREFIXES;
 use naga_wgsl_out::laws::texts_are_equal;
-use naga_wgsl_out::namer::{EntryPointIndex, ExternalTextureNameKey, NameKey, Namer, NamerError};
-use naga_wgsl_out::numerals::{Decimal, double_decimal, half_decimal, single_decimal};
+use naga_wgsl_out::namer::EntryPointIndex;
+use naga_wgsl_out::namer::ExternalTextureNameKey;
+use naga_wgsl_out::namer::NameKey;
+use naga_wgsl_out::namer::Namer;
+use naga_wgsl_out::namer::NamerError;
+use naga_wgsl_out::numerals::Decimal;
+use naga_wgsl_out::numerals::double_decimal;
+use naga_wgsl_out::numerals::half_decimal;
+use naga_wgsl_out::numerals::single_decimal;
 use naga_wgsl_out::predeclared::PredeclaredName;
 use naga_wgsl_out::proc::namer as _;
-use naga_wgsl_out::sinks::{BoundedText, IoSink, Limited};
-use naga_wgsl_out::to_wgsl::{
-    ToWgsl, TryToWgsl, address_space_str, image_access_str, space_access_str, space_str,
-    to_wgsl_if_implemented,
-};
-use naga_wgsl_out::types::{
-    SinkError, TextSink, TypeContext, TypeLayout, TypeTextError, WriterTypeContext,
-    names_undeclared, type_fits, type_layout, types_in_order,
-};
+use naga_wgsl_out::sinks::BoundedText;
+use naga_wgsl_out::sinks::IoSink;
+use naga_wgsl_out::sinks::Limited;
+use naga_wgsl_out::to_wgsl::ToWgsl;
+use naga_wgsl_out::to_wgsl::TryToWgsl;
+use naga_wgsl_out::to_wgsl::address_space_str;
+use naga_wgsl_out::to_wgsl::image_access_str;
+use naga_wgsl_out::to_wgsl::space_access_str;
+use naga_wgsl_out::to_wgsl::space_str;
+use naga_wgsl_out::to_wgsl::to_wgsl_if_implemented;
+use naga_wgsl_out::types::SinkError;
+use naga_wgsl_out::types::TextSink;
+use naga_wgsl_out::types::TypeContext;
+use naga_wgsl_out::types::TypeLayout;
+use naga_wgsl_out::types::TypeTextError;
+use naga_wgsl_out::types::WriterTypeContext;
+use naga_wgsl_out::types::names_undeclared;
+use naga_wgsl_out::types::type_fits;
+use naga_wgsl_out::types::type_layout;
+use naga_wgsl_out::types::types_in_order;
 use naga_wgsl_out::valid as _;
-use naga_wgsl_out::wgsl::{
-    CheckedError, Construct, Error, FunctionPart, LimitedError, Limits, Nested, Refusal,
-    RefusalPlace, ScopeFault, Writer, WriterFlags, names_of, nested_past, no_flags, unwritable,
-    write_binding, write_checked, write_checked_within, write_function, write_global_expression,
-    write_string as _,
-};
+use naga_wgsl_out::wgsl::CheckedError;
+use naga_wgsl_out::wgsl::Construct;
+use naga_wgsl_out::wgsl::Error;
+use naga_wgsl_out::wgsl::FunctionPart;
+use naga_wgsl_out::wgsl::LimitedError;
+use naga_wgsl_out::wgsl::Limits;
+use naga_wgsl_out::wgsl::Nested;
+use naga_wgsl_out::wgsl::Refusal;
+use naga_wgsl_out::wgsl::RefusalPlace;
+use naga_wgsl_out::wgsl::ScopeFault;
+use naga_wgsl_out::wgsl::Writer;
+use naga_wgsl_out::wgsl::WriterFlags;
+use naga_wgsl_out::wgsl::names_of;
+use naga_wgsl_out::wgsl::nested_past;
+use naga_wgsl_out::wgsl::no_flags;
+use naga_wgsl_out::wgsl::unwritable;
+use naga_wgsl_out::wgsl::write_binding;
+use naga_wgsl_out::wgsl::write_checked;
+use naga_wgsl_out::wgsl::write_checked_within;
+use naga_wgsl_out::wgsl::write_function;
+use naga_wgsl_out::wgsl::write_global_expression;
+use naga_wgsl_out::wgsl::write_string as _;

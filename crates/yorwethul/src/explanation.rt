@@ -58,7 +58,13 @@ fn of_written(
 fn of_refusal(alloc: Global, known: &Known, refusal: Refusal) -> Result<Explanation, AllocError> {
     let construct = format!(in alloc; "{}", refusal.construct)?;
     let place = refused_place(refusal.place);
-    let listing = explain(alloc, &known.module, &known.info, &place, construct.as_str())?;
+    let listing = explain(
+        alloc,
+        &known.module,
+        &known.info,
+        &place,
+        construct.as_str(),
+    )?;
     let told = JsonRefusal(refusal);
     not_written(match label_at(&known.module, refusal.place) {
         Some(label) => format!(in alloc; "refused: {told}, in {label:?}\n\n{listing}"),
