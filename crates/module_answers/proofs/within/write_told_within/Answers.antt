@@ -6,7 +6,7 @@ use Rattle.naga_wgsl_out.specs.Checked.{IsCounted}
 use Rattle.naga_wgsl_out.specs.Headline.{FaithfulWriting}
 use Rattle.naga_wgsl_out.specs.Writing.{AppendsItsText, written_text}
 use Rattle.told_floats.specs.Told.{IsToldModule}
-use Rattle.module_answers.proofs.Within.{depth_unwritten, is_too_long}
+use Rattle.module_answers.proofs.Bounded.{depth_unwritten, is_too_long}
 use Rattle.module_answers.proofs.within.write_told_within.Goals as goal
 
 pub returns-in_err-look_into-clause-unwritten : goal.returns-in_err-look_into-clause-unwritten

@@ -1,5 +1,5 @@
 use Rattle.naga_scope.proofs.FilledTables.{items_in_order}
-use Rattle.naga_wgsl_out.proofs.Unwritable.{labels_stand}
+use Rattle.naga_wgsl_out.proofs.Places.{labels_stand}
 use Rattle.naga_wgsl_out.proofs.unwritable.unwritable.Goals as goal
 
 pub of-requires : goal.of-requires

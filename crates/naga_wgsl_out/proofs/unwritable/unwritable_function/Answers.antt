@@ -2,8 +2,8 @@ use Rattle.std.proofs.Common.{◌≡◌, ◌+◌, arith, length, refl, subst, sy
 use Rattle.naga_back.specs.Flags.{annotates_types}
 use Rattle.naga_back.specs.declared.context.FunctionType.TheVariants as item
 use Rattle.naga_wgsl_out.proofs.Functions.{last_point, points_counted}
-use Rattle.naga_wgsl_out.proofs.Unwritable.{AreWritable, all_writable, before_writable, found_none, found_some, none_writable, one_writable}
-use Rattle.naga_wgsl_out.proofs.Unwritable.{refusal_first, refusal_stands}
+use Rattle.naga_wgsl_out.proofs.Places.{AreWritable, all_writable, before_writable, found_none, found_some, none_writable, one_writable}
+use Rattle.naga_wgsl_out.proofs.Places.{refusal_first, refusal_stands}
 use Rattle.naga_wgsl_out.specs.Unwritable.{AreWritableBefore}
 use Rattle.naga_wgsl_out.proofs.unwritable.unwritable_function.Goals as goal
 

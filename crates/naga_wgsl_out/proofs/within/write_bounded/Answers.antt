@@ -1,5 +1,5 @@
 use Rattle.std.proofs.Common.{◌∙◌, ap}
-use Rattle.naga_wgsl_out.proofs.Within.{answers_bounded}
+use Rattle.naga_wgsl_out.proofs.Bounded.{answers_bounded}
 use Rattle.naga_wgsl_out.proofs.within.write_bounded.Goals as goal
 
 pub returns : goal.returns

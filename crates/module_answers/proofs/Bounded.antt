@@ -11,7 +11,7 @@ use Rattle.module_limits.specs.declared.limits.Limits.{Limits}
 use Rattle.module_meaning.specs.Accepted.{is_accepted}
 use Rattle.naga_wgsl_out.specs.Checked.{IsCounted}
 use Rattle.naga_wgsl_out.specs.Writing.{AppendsItsText, written_text}
-use Rattle.naga_wgsl_out.proofs.Within.{whole_is_longer}
+use Rattle.naga_wgsl_out.proofs.Bounded.{whole_is_longer}
 use Rattle.module_answers.specs.Within.{IsTooLong, IsUnwritten, TellsDepth}
 use Rattle.module_answers.specs.declared.within.Unwritten.{Unwritten}
 use Rattle.module_answers.specs.declared.within.Unwritten.TheVariants as unwritten
