@@ -20,7 +20,7 @@ pub struct Explanation {
 }
 
 /// Tells why a module has no text in this style, if it has none.
-pub fn explanation(
+pub fn explained(
     alloc: Global,
     style: Style,
     known: &mut Known,

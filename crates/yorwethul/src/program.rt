@@ -1,6 +1,6 @@
 //! The program: its answers and its statuses.
 
-use crate::explanation::{Explanation, explanation};
+use crate::explanation::{Explanation, explained};
 use crate::failure::Failure;
 use crate::inputs::known_of;
 use crate::lines::answer_lines;
@@ -187,7 +187,7 @@ fn explain<O: Write, E: Write>(
     out: &mut O,
     err: &mut E,
 ) -> u8 {
-    match explanation(alloc, request.style, known) {
+    match explained(alloc, request.style, known) {
         Ok(Explanation { text, is_written }) => match print(text, out, err) {
             0 if !is_written => REFUSED,
             status => status,
