@@ -26,7 +26,8 @@ returns-in-Some-clause-stands c =
     let m = c.args.«module».now in
     let info = c.args.info.now in
     let ty = item.Function c.from_index.result in
-    refusal_stands e m info ty c.in-Some.refusal (found_some e m info ty _ _ c.in-Some.refusal c.in-Some.is c.in_ok-found.ensures)
+    refusal_stands e m info ty c.in-Some.refusal
+    (omega (arith, c.loop-index-test.true, c.len-index-end.ensures, c.from_index.ensures)) (found_some e m info ty _ _ c.in-Some.refusal c.in-Some.is c.in_ok-found.ensures)
 
 pub returns-in-Some-clause-first : goal.returns-in-Some-clause-first
 returns-in-Some-clause-first c =
@@ -69,7 +70,7 @@ returns-in-Some-2-clause-stands c =
     let m = c.args.«module».now in
     let info = c.args.info.now in
     let ty = item.EntryPoint c.loop-index-2.index in
-    refusal_stands e m info ty c.in-Some-2.refusal (found_some e m info ty _ _ c.in-Some-2.refusal c.in-Some-2.is c.in_ok-found-2.ensures)
+    refusal_stands e m info ty c.in-Some-2.refusal tt (found_some e m info ty _ _ c.in-Some-2.refusal c.in-Some-2.is c.in_ok-found-2.ensures)
 
 pub returns-in-Some-2-clause-first : goal.returns-in-Some-2-clause-first
 returns-in-Some-2-clause-first c =
