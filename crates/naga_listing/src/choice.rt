@@ -1,6 +1,6 @@
 //! Which lines are shown.
 
-ghost use Rattle.std.specs.Prelude.{◌≡◌, ◌||◌, false, if◌then◌else◌, IfOk, OnOk};
+ghost use Rattle.std.specs.Prelude.{◌≡◌, ◌∷◌, ◌||◌, false, if◌then◌else◌, IfOk, OnOk};
 ghost use Rattle.naga_listing.specs.Choice.{after_gap, begins_with_gap, is_about, is_gap};
 ghost use Rattle.naga_listing.specs.Choice.{is_named, is_near};
 ghost use Rattle.naga_listing.specs.Choice.{is_shown, is_title, kept_from, marked_line};
@@ -128,6 +128,14 @@ fn is_near(marked: usize, index: usize) -> bool
     index.saturating_sub(marked) <= RADIUS && marked.saturating_sub(index) <= RADIUS
 }
 
+/// Puts a line before these.
+fn put_first(lines: &mut Vec<Line>, line: Line) -> Result<(), AllocError>
+    ensures { OnOk result (lines.new.items ≡ line ∷ lines.old.items) }
+{
+    lines.insert(0, line)?;
+    Ok(())
+}
+
 /// What is kept of the last lines.
 #[derive(Drop)]
 struct Kept {
@@ -164,8 +172,7 @@ impl Kept {
     fn put(&mut self, line: Line) -> Result<(), AllocError>
         ensures { OnOk result (self.new ≡ record self.old { lines = line ∷ self.old.lines }) }
     {
-        self.lines.insert(0, line)?;
-        Ok(())
+        put_first(&mut self.lines, line)
     }
 
     /// Leaves a line out.
