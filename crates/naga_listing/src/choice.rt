@@ -1,6 +1,6 @@
 //! Which lines are shown.
 
-ghost use Rattle.std.specs.Prelude.{◌≡◌, ◌∷◌, ◌||◌, false, if◌then◌else◌, IfOk, OnOk};
+ghost use Rattle.std.specs.Prelude.{◌≡◌, ◌||◌, false, if◌then◌else◌, IfOk, OnOk};
 ghost use Rattle.naga_listing.specs.Choice.{after_gap, begins_with_gap, is_about, is_gap};
 ghost use Rattle.naga_listing.specs.Choice.{is_named, is_near};
 ghost use Rattle.naga_listing.specs.Choice.{is_shown, is_title, kept_from, marked_line};
@@ -128,14 +128,6 @@ fn is_near(marked: usize, index: usize) -> bool
     index.saturating_sub(marked) <= RADIUS && marked.saturating_sub(index) <= RADIUS
 }
 
-/// Puts a line before these.
-fn put_first(lines: &mut Vec<Line>, line: Line) -> Result<(), AllocError>
-    ensures { OnOk result (lines.new.items ≡ line ∷ lines.old.items) }
-{
-    lines.insert(0, line)?;
-    Ok(())
-}
-
 /// What is kept of the last lines.
 #[derive(Drop)]
 struct Kept {
@@ -169,10 +161,13 @@ impl Kept {
     }
 
     /// Puts a line before those that were kept.
-    fn put(&mut self, line: Line) -> Result<(), AllocError>
-        ensures { OnOk result (self.new ≡ record self.old { lines = line ∷ self.old.lines }) }
+    fn put(&mut self, level: usize, head: Row) -> Result<(), AllocError>
+        ensures { OnOk result (self.new ≡ record self.old {
+          lines = record { level = level; row = head } ∷ self.old.lines;
+        }) }
     {
-        put_first(&mut self.lines, line)
+        self.lines.insert(0, Line { level, row: head })?;
+        Ok(())
     }
 
     /// Leaves a line out.
@@ -183,10 +178,7 @@ impl Kept {
         if begins_with_gap(&self.lines) {
             Ok(())
         } else {
-            self.put(Line {
-                level: 0,
-                row: Row::Gap,
-            })
+            self.put(0, Row::Gap)
         }
     }
 
@@ -208,11 +200,8 @@ impl Kept {
         ensures { OnOk result (self.new ≡ with_marked line.now self.old) }
     {
         let level = line.level;
-        self.put(Line {
-            level,
-            row: Row::Mark,
-        })?;
-        self.put(*line)?;
+        self.put(level, Row::Mark)?;
+        self.put(level, line.row)?;
         self.level = level;
         self.opened = true;
         Ok(())
@@ -225,7 +214,7 @@ impl Kept {
         }) }
     {
         if shown {
-            self.put(*line)
+            self.put(line.level, line.row)
         } else {
             self.leave_out()
         }

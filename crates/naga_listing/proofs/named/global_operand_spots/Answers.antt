@@ -8,7 +8,7 @@ use Rattle.naga_listing.proofs.named.global_operand_spots.Goals as goal
 
 pub returns : goal.returns
 returns c =
-    let first = YieldsList-at c.take.ensures.source (YieldsList-from_first (λ s. s) (λ s. s) (expression_operands c.args.expression.now) c.operands.ensures) in
-    let taken = YieldsList-at c.map.ensures.source (YieldsList-from_take most_named first c.take.ensures.count) in
-    let named = YieldsList-from_map _ spot.GlobalExpression taken c.map.ensures.closure (λ x r q k. search (rules, tests)) in
-    items_from_collect _ c.collect.ensures.ran named
+    items_from_collect _ c.collect.ensures.ran (YieldsList-from_map _ spot.GlobalExpression
+    (YieldsList-at c.map.ensures.source (YieldsList-from_take most_named
+    (YieldsList-at c.take.ensures.source (YieldsList-from_first (λ x. x) (λ s. s) (expression_operands c.args.expression.now) c.operands.ensures)) c.take.ensures.count))
+    c.map.ensures.closure (λ x r q k. search (rules, tests)))

@@ -7,7 +7,7 @@ use Rattle.naga_listing.proofs.named.member_spots.Goals as goal
 
 pub returns : goal.returns
 returns c =
-    let first = YieldsList-at c.take.ensures.source (YieldsList-from_slice c.args.members.now c.iter.ensures.rest) in
-    let taken = YieldsList-at c.map.ensures.source (YieldsList-from_take most_named first c.take.ensures.count) in
-    let named = YieldsList-from_map _ (λ member. spot.Type_ member.ty) taken c.map.ensures.closure (λ x r q k. search (rules, tests)) in
-    items_from_collect _ c.collect.ensures.ran named
+    items_from_collect _ c.collect.ensures.ran (YieldsList-from_map _ (λ member. spot.Type_ member.ty)
+    (YieldsList-at c.map.ensures.source (YieldsList-from_take most_named
+    (YieldsList-at c.take.ensures.source (YieldsList-from_slice c.args.members.now c.iter.ensures.rest)) c.take.ensures.count))
+    c.map.ensures.closure (λ x r q k. search (rules, tests)))
