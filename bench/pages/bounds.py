@@ -1,8 +1,8 @@
 """What is asked of the pages that newcomers read first.
 
 README has at most 130 lines. DESIGN, DECISIONS and SPEED have at most so many words, and no sentence of PROVED more than 40.
-Every link leads to something. In the walk of READING to the promise no file uses one that comes later. bench/pages.sh runs
-this.
+Every link leads to something. No page says "behind": it is "after", or another word. In the walk of READING to the promise no
+file uses one that comes later. bench/pages.sh runs this.
 """
 
 import re
@@ -83,6 +83,9 @@ def faults():
             yield f"docs/PROVED.md: a sentence of {len(words(sentence))} words: {sentence[:70]}.."
     for page in (README, *sorted((TOP / "docs").glob("*.md"))):
         yield from link_faults(page)
+        for number, line in enumerate(page.read_text().splitlines(), 1):
+            if re.search(r"(?i)\bbehind\b", line):
+                yield f"{page.relative_to(TOP)}:{number}: `behind`"
     yield from walk_faults()
 
 
