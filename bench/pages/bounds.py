@@ -1,7 +1,8 @@
 """What is asked of the pages that newcomers read first.
 
-README has at most 150 lines and DESIGN at most 2,500 words. No sentence of PROVED has more than 40 words. What pages link to is
-there. In the walk of READING to the promise no file uses one that stands behind it. bench/pages.sh runs this.
+README has at most 130 lines. DESIGN, DECISIONS and SPEED have at most so many words, and no sentence of PROVED more than 40.
+Every link leads to something. No page says "behind": it is "after", or another word. In the walk of READING to the promise no
+file uses one that comes later. bench/pages.sh runs this.
 """
 
 import re
@@ -9,9 +10,10 @@ import sys
 from pathlib import Path
 
 TOP = Path.cwd()
-README, DESIGN, PROVED, READING = (TOP / page for page in ("README.md", "docs/DESIGN.md", "docs/PROVED.md", "docs/READING.md"))
+README, PROVED, READING = (TOP / page for page in ("README.md", "docs/PROVED.md", "docs/READING.md"))
 
-README_LINES, DESIGN_WORDS, SENTENCE_WORDS = 150, 2500, 40
+README_LINES, SENTENCE_WORDS = 130, 40
+PAGE_WORDS = {"DESIGN": 2500, "DECISIONS": 4500, "SPEED": 1500}
 
 # The end of a sentence, with what closes around it.
 END = re.compile(r"(?<=[.?!])[)`*]*\s+")
@@ -55,7 +57,7 @@ def link_faults(page):
 
 
 def walk_faults():
-    """Files of the first table of READING that use one that stands behind them. The two that begin use all others."""
+    """Files of the first table of READING that use one that comes later. The two that begin use all others."""
     table = READING.read_text().split("\n## ")[1]
     rows = [line for line in table.splitlines() if re.match(r"\| \d", line)]
     paths = [path for row in rows for path, _ in LINK.findall(row)][2:]
@@ -64,7 +66,7 @@ def walk_faults():
     for number, path in enumerate(files):
         for used in USE.findall(path.read_text()):
             if used in modules[number + 1:]:
-                yield f"docs/READING.md: {modules[number]} uses {used}, which stands behind it"
+                yield f"docs/READING.md: {modules[number]} uses {used}, which comes later"
 
 
 def faults():
@@ -72,14 +74,18 @@ def faults():
     lines = len(README.read_text().splitlines())
     if lines > README_LINES:
         yield f"README.md has {lines} lines, more than {README_LINES}"
-    count = len(words(DESIGN.read_text()))
-    if count > DESIGN_WORDS:
-        yield f"docs/DESIGN.md has {count} words, more than {DESIGN_WORDS}"
+    for page, most in PAGE_WORDS.items():
+        count = len(words((TOP / "docs" / f"{page}.md").read_text()))
+        if count > most:
+            yield f"docs/{page}.md has {count} words, more than {most}"
     for sentence in sentences(PROVED.read_text()):
         if len(words(sentence)) > SENTENCE_WORDS:
             yield f"docs/PROVED.md: a sentence of {len(words(sentence))} words: {sentence[:70]}.."
     for page in (README, *sorted((TOP / "docs").glob("*.md"))):
         yield from link_faults(page)
+        for number, line in enumerate(page.read_text().splitlines(), 1):
+            if re.search(r"(?i)\bbehind\b", line):
+                yield f"{page.relative_to(TOP)}:{number}: `behind`"
     yield from walk_faults()
 
 

@@ -53,7 +53,7 @@ class Tree:
         self.of_file = {}
         self.of_crate = {}
         self.words = set((HERE / "elsewhere.txt").read_text().split())
-        self.words.update(word for path in (TOP / "docs").iterdir() for word in ("docs", path.stem, "md"))
+        self.words.update(word for path in (TOP / "docs").rglob("*") for word in ("docs", path.stem, path.suffix[1:]))
         for path in files():
             if path.parent == HERE:
                 continue
