@@ -2,7 +2,7 @@
 --
 -- Throughout, given is the module before the call and m after it, old is what is known of it before
 -- the call and new after it, and levels is how deep it may be nested.
-use Rattle.std.specs.Prelude.{◌≡◌, ◌<◌, ⊤, ⊥, ℕ, IsTrue, None, Some, length}
+use Rattle.std.specs.Prelude.{◌≡◌, ◌<◌, ⊤, ℕ, IsTrue, None, Some, length}
 use Rattle.module_answers.specs.declared.within.Unwritten.{Unwritten}
 use Rattle.module_answers.specs.declared.within.Unwritten.TheVariants as unwritten
 use Rattle.module_limits.specs.Nesting.{nested_past}

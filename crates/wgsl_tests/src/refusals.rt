@@ -4,7 +4,6 @@ use naga_wgsl_out::ir::Place;
 use naga_wgsl_out::wgsl::{
     Construct, FunctionPart, Refusal, RefusalPlace, ScopeFault, no_flags, unwritable,
 };
-use std::process::HostRuntime;
 
 /// `return (x + x);`, where no `Emit` gave the sum.
 const NOT_EMITTED: &str = r#"{
