@@ -270,20 +270,20 @@ labels_told explicit m info _ declarations is of = absurd is
 
 -- ---- no refusal
 -- a call that ends early for want of memory or of the sink tells nothing
-pub stopped_told : {X : Error → Type 0} (r : Result Unit Error) (error : Error) {content text now : List ℕ} {failed failures : ℕ} →
+pub stopped_told : (X : Error → Type 0) (r : Result Unit Error) (error : Error) {content text now : List ℕ} {failed failures : ℕ} →
     IsErrAnd r (λ e. e ≡ error) → StoppedWithin content failed text now failures error →
     IfErr r (λ e. TellsOfModule e → X e)
-stopped_told (Ok x) error reported stopped = tt
-stopped_told (Err e) error {failed = failed} {failures = failures} reported stopped =
+stopped_told X (Ok x) error reported stopped = tt
+stopped_told X (Err e) error {failed = failed} {failures = failures} reported stopped =
     λ of. absurd (want_tells_nothing error failed failures stopped.reason (subst TellsOfModule reported of))
 
-pub appended_told : {X : Error → Type 0} (r : Result Unit Error) {content text now : List ℕ} {failed failures : ℕ} →
+pub appended_told : (X : Error → Type 0) (r : Result Unit Error) (content : List ℕ) (failed : ℕ) (text now : List ℕ) (failures : ℕ) →
     Appends r content failed text now failures → IfErr r (λ e. TellsOfModule e → X e)
-appended_told (Ok x) appends = tt
-appended_told (Err e) appends = stopped_told (Err e) e refl appends
+appended_told X (Ok x) content failed text now failures appends = tt
+appended_told X (Err e) content failed text now failures appends = stopped_told X (Err e) e refl appends
 
 -- the error of a call is that of another
-pub as_told : {X : Error → Type 0} (r : Result Unit Error) (error : Error) → IsErrAnd r (λ e. e ≡ error) →
+pub as_told : {T : Type 0} (X : Error → Type 0) (r : Result T Error) (error : Error) → IsErrAnd r (λ e. e ≡ error) →
     (TellsOfModule error → X error) → IfErr r (λ e. TellsOfModule e → X e)
-as_told (Ok x) error reported tells = tt
-as_told {X} (Err e) error reported tells = subst (λ e. TellsOfModule e → X e) (sym reported) tells
+as_told X (Ok x) error reported tells = tt
+as_told X (Err e) error reported tells = subst (λ e. TellsOfModule e → X e) (sym reported) tells

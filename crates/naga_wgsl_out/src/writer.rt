@@ -400,6 +400,8 @@ pub fn write_string(
         (KeepsLayouts «module».now)) }
     ensures text { IfOk result (λ text.
         string_bytes text ≡ written_text «module».now info.now flags) }
+    ensures told { IfErr result (λ e. TellsOfModule e →
+        TellsFirst (annotates_types flags) «module».now info.now e) }
 {
     let mut writer = Writer::new(alloc, String::new(alloc), flags);
     writer.write(module, info)?;

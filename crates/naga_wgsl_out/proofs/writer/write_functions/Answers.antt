@@ -100,7 +100,7 @@ returns-in_err-write_next-clause-told g c =
     let info = c.args.info.now in
     let ty = item.Function c.from_index.result in
     let before = up_to_before m info c.args.flags c.requires.declared c.requires.names c.loop-index.invariant in
-    as_told {λ error. TellsFirst e m info error} c.from_residual.result _ c.from_residual.ensures.1
+    as_told (λ error. TellsFirst e m info error) c.from_residual.result _ c.from_residual.ensures.1
     (λ of. told_first e m info ty _
     (omega (arith, c.loop-index-test.true, c.len-index-end.ensures, c.from_index.ensures))
     (subst (AreWritableBefore e m info) (sym c.from_index.ensures) before)
@@ -117,7 +117,7 @@ returns-in_err-write_next-2-clause-told g c =
     up_to_before m info c.args.flags c.requires.declared c.requires.names
     (c.loop-index-2.invariant (g.W.TextSink.text c.args.out.now) (g.W.TextSink.failures c.args.out.now)
     (up_to_as all c.loop-index.invariant)) in
-    as_told {λ error. TellsFirst e m info error} c.from_residual-in_err-write_next-2.result _
+    as_told (λ error. TellsFirst e m info error) c.from_residual-in_err-write_next-2.result _
     c.from_residual-in_err-write_next-2.ensures.1
     (λ of. told_first e m info (item.EntryPoint c.loop-index-2.index) _ tt before
     (c.in_err-write_next-2.ensures.told of))

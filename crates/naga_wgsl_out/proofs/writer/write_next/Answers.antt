@@ -48,7 +48,7 @@ returns-in_err-plan-clause-told g c =
     let number = function_number m c.args.ty.now in
     let here = element (all_functions m) number (number_within m c.args.ty.now c.requires.there) in
     let known = known_at m info c.requires.accepted number here.0 here.1 in
-    as_told {λ error. TellsRefusalOf e m info c.args.ty.now error} c.from_residual.result _
+    as_told (λ error. TellsRefusalOf e m info c.args.ty.now error) c.from_residual.result _
     c.from_residual.ensures.1
     (told_of e m info c.requires.accepted number here.0 here.1 known.0 known.1 c.args.namer.now
     c.requires.namer c.args.ty.now refl _ c.in_err-plan.ensures.told)
@@ -56,5 +56,5 @@ returns-in_err-plan-clause-told g c =
 pub returns-clause-told : goal.returns-clause-told
 returns-clause-told g c =
     let m = c.args.«module».now in
-    appended_told {λ error. TellsRefusalOf (annotates_types c.args.flags) m c.args.info.now c.args.ty.now error}
-    c.write_with_line.result c.write_with_line.ensures
+    appended_told (λ error. TellsRefusalOf (annotates_types c.args.flags) m c.args.info.now c.args.ty.now error)
+    c.write_with_line.result _ _ _ _ _ c.write_with_line.ensures

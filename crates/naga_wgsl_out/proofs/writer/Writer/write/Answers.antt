@@ -75,7 +75,7 @@ returns-in_err-write_front g c =
       written_before = ends.written_before;
       unfailed = ends.unfailed;
       told =
-          stopped_told {λ e. TellsFirst _ m info e} r _ c.from_residual-in_err-write_front.ensures.1
+          stopped_told (λ e. TellsFirst _ m info e) r _ c.from_residual-in_err-write_front.ensures.1
           c.in_err-write_front.ensures;
       flags = ap (λ w. w.flags) c.self.view_is;
     }
@@ -127,6 +127,6 @@ returns-in-Some-clause-told g c =
 pub returns-in_err-names-clause-told : goal.returns-in_err-names-clause-told
 returns-in_err-names-clause-told g c =
     let m = c.args.«module».now in
-    as_told {λ e. TellsFirst _ m c.args.info.now e} c.from_residual-in_err-names.result _
+    as_told (λ e. TellsFirst _ m c.args.info.now e) c.from_residual-in_err-names.result _
     c.from_residual-in_err-names.ensures.1
     (labels_told _ m c.args.info.now _ c.in_default.ensures.none c.in_err-names.ensures.err)
