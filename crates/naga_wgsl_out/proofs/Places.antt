@@ -287,3 +287,10 @@ pub as_told : {T : Type 0} (X : Error → Type 0) (r : Result T Error) (error : 
     (TellsOfModule error → X error) → IfErr r (λ e. TellsOfModule e → X e)
 as_told X (Ok x) error reported tells = tt
 as_told X (Err e) error reported tells = subst (λ e. TellsOfModule e → X e) (sym reported) tells
+
+-- what it tells under the same flags
+pub told_under : (m : Module) (info : ModuleInfo) (own flags : WriterFlags) (error : Error) → own ≡ flags →
+    (TellsOfModule error → TellsFirst (annotates_types own) m info error) →
+    TellsOfModule error → TellsFirst (annotates_types flags) m info error
+told_under m info own flags error same tells of =
+    subst (λ f. TellsFirst (annotates_types f) m info error) same (tells of)

@@ -1,7 +1,6 @@
-use Rattle.std.proofs.Common.{◌++◌, ◌∙◌, ap, subst, sym, string_bytes}
+use Rattle.std.proofs.Common.{◌++◌, ◌∙◌, ap, sym, string_bytes}
 use Rattle.naga_back.specs.Flags.{annotates_types}
-use Rattle.naga_wgsl_fns.specs.Refusals.{TellsOfModule}
-use Rattle.naga_wgsl_out.proofs.Places.{as_told}
+use Rattle.naga_wgsl_out.proofs.Places.{as_told, told_under}
 use Rattle.naga_wgsl_out.specs.Unwritable.{TellsFirst}
 use Rattle.naga_wgsl_out.proofs.writer.write_string.Goals as goal
 
@@ -27,5 +26,4 @@ returns-in_err-write-clause-told c =
     let info = c.args.info.now in
     as_told (λ e. TellsFirst (annotates_types c.args.flags) m info e) c.from_residual.result _
     c.from_residual.ensures.1
-    (subst (λ f. TellsOfModule _ → TellsFirst (annotates_types f) m info _) c.new-writer.ensures.flags
-    c.in_err-write.ensures.told)
+    (told_under m info _ c.args.flags _ c.new-writer.ensures.flags c.in_err-write.ensures.told)
