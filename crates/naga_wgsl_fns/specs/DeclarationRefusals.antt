@@ -22,6 +22,8 @@ use Rattle.naga_scope.specs.declared.declarations.FormlessHead.{FormlessHead}
 use Rattle.naga_scope.specs.declared.declarations.FormlessHead.TheVariants as head
 use Rattle.naga_wgsl_fns.specs.Errors.{IsCustom, IsUnsupported}
 use Rattle.naga_wgsl_fns.specs.Refusals.{NamesGlobal, NamesType}
+use Rattle.naga_wgsl_fns.specs.Constructs.{IsToldAs, Tells}
+use Rattle.naga_wgsl_fns.specs.declared.construct.Construct.{Construct}
 use Rattle.naga_wgsl_fns.specs.declared.error.Error.{Error}
 use Rattle.wgsl_layout.specs.declared.members.Misplaced.{Misplaced}
 use Rattle.wgsl_layout.specs.declared.members.Misplaced.TheVariants.{OffAlignment, Overlapping}
@@ -57,6 +59,11 @@ NamesFormlessDeclaration m (declaration.BuiltIn v) error = NamesBuiltin error
 NamesFormlessDeclaration m (declaration.Head it) error = NamesFormlessHead it error
 NamesFormlessDeclaration m (declaration.Misplaced fault) error = NamesMisplaced fault error
 NamesFormlessDeclaration m (declaration.Stride ty) error = NamesStride error
+
+-- an error names it as a construct
+abbrev pub IsToldOfDeclaration : Module → FormlessDeclaration → Error → Type 0
+IsToldOfDeclaration m lack error =
+    (it : Construct) × Tells it (NamesFormlessDeclaration m lack) × IsToldAs it error
 
 -- What a function takes or gives, or its stage, has no form, and is named.
 pub data NamesHead (m : Module) (number : ℕ) (error : Error) : Type 0 where

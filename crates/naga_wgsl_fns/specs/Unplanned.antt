@@ -61,3 +61,9 @@ IsUnplanned explicit m info number namer (unplanned.Memory e) = Unit {0}
 abbrev pub TellsUnplanned : Unplanned → Error → Type 0
 TellsUnplanned (unplanned.Refused it at) error = IsToldAs it error
 TellsUnplanned (unplanned.Memory e) error = error ≡ Memory e
+
+-- an error tells why there is no plan of the function with this number
+abbrev pub IsToldOfUnplanned : (explicit : Bool) → Module → ModuleInfo → (number : ℕ) → Names →
+    Error → Type 0
+IsToldOfUnplanned explicit m info number namer error =
+    (u : Unplanned) × IsUnplanned explicit m info number namer u × TellsUnplanned u error

@@ -41,7 +41,7 @@ pub enum Construct {
     ImageCompareExchange,
     /// A way to sample an image that has no form.
     SamplingForm,
-    /// An operator in an initialiser or in the offset of a sample.
+    /// An operator, or what else is no constant, in an initialiser or in the offset of a sample.
     ConstantOperator,
     /// The load of an image with both a sample and a level.
     ImageLoad,
@@ -51,7 +51,7 @@ pub enum Construct {
     OutOfScope,
     /// An entry point without the payload or the mesh output of its stage.
     StageVariable,
-    /// A member at an offset that is no multiple of its alignment.
+    /// A member at an offset that is no multiple of its alignment, or a first one that is not at 0.
     OffAlignment,
     /// A member that begins before the end of the one before it.
     Overlap,

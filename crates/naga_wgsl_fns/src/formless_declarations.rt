@@ -8,7 +8,8 @@ ghost use Rattle.naga_scope.specs.Declarations.{IsFormlessDeclaration, IsFormles
 ghost use Rattle.naga_scope.specs.Tables.{AreTablesOf};
 ghost use Rattle.naga_wgsl_fns.specs.Constructs.{Tells};
 ghost use Rattle.naga_wgsl_fns.specs.DeclarationRefusals.{NamesDeclaration, NamesFormlessDeclaration};
-ghost use Rattle.naga_wgsl_fns.specs.DeclarationRefusals.{NamesFormlessHead, NamesHead};
+ghost use Rattle.naga_wgsl_fns.specs.DeclarationRefusals.{IsToldOfDeclaration, NamesHead};
+ghost use Rattle.naga_wgsl_fns.specs.DeclarationRefusals.{NamesFormlessHead};
 ghost use Rattle.naga_wgsl_fns.specs.DeclarationRefusals.{NamesMisplaced};
 
 use crate::construct::Construct;
@@ -32,7 +33,8 @@ pub fn declaration_without_form(
     requires accepted { (info : ModuleInfo) × IsTrue (is_accepted «module».now info) }
     requires tables { AreTablesOf «module».now tables.now }
     requires formless { IsFormlessDeclaration «module».now declaration }
-    ensures { NamesDeclaration «module».now result }
+    ensures names { NamesDeclaration «module».now result }
+    ensures told { IsToldOfDeclaration «module».now declaration result }
 {
     formless_construct(module, tables, declaration).to_error(alloc)
 }

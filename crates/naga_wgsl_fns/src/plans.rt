@@ -18,7 +18,8 @@ ghost use Rattle.naga_back.specs.Flags.{annotates_types};
 ghost use Rattle.naga_wgsl_fns.specs.Refusals.{IsOfPlan, IsPlanRefusal, NamesItemsOf};
 ghost use Rattle.naga_wgsl_fns.specs.Constructs.{Tells};
 ghost use Rattle.naga_wgsl_fns.specs.Refusals.{IsErrorOfNames, TellsPlanError};
-ghost use Rattle.naga_wgsl_fns.specs.Unplanned.{IsUnplanned, TellsUnplanned, is_names_want};
+ghost use Rattle.naga_wgsl_fns.specs.Unplanned.{IsToldOfUnplanned, IsUnplanned, TellsUnplanned};
+ghost use Rattle.naga_wgsl_fns.specs.Unplanned.{is_names_want};
 ghost use Rattle.naga_wgsl_fns.specs.Unplanned.{is_want, part_of};
 ghost use Rattle.naga_wgsl_fns.specs.declared.error.Error.TheVariants.{Memory};
 ghost use Rattle.naga_names.specs.declared.error.NamerError.TheVariants as namer_error;
@@ -93,6 +94,9 @@ pub fn plan_of<'a>(
     ensures err { IfErr result (λ e. (earlier : List (List ℕ)) → HasNamed namer.old earlier →
         IsPlanRefusal (annotates_types flags) «module».now info.now earlier
         (function_number «module».now ty.now) e) }
+    // The construct that it names stands there, and is the first that is found.
+    ensures told { IfErr result (IsToldOfUnplanned (annotates_types flags) «module».now info.now
+        (function_number «module».now ty.now) namer.old) }
     ensures begun { OnErr result (HasBegunLabels namer.old
         (labels_named_in «module».now (function_number «module».now ty.now)) namer.new) }
 {

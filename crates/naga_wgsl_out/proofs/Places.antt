@@ -1,6 +1,6 @@
 -- Where a construct stands for which a module is refused.
 use Rattle.std.proofs.Common.{◌≡◌, ◌+◌, ◌<◌, ℕ, Bool, false, List, Some, None, Option, arith, below_more, inl, inr, length, slice_get, subst, sym, refl}
-use Rattle.std.specs.Prelude.{Err, IfOk, IsFalse, IsSomeAnd, IsTrue, MatchOption, Ok, Result}
+use Rattle.std.specs.Prelude.{Err, IfErr, IfOk, IsErrAnd, IsFalse, IsSomeAnd, IsTrue, MatchOption, Ok, Result}
 use Rattle.std.proofs.lemmas.Option.{slice_get_within}
 use Rattle.module_meaning.specs.Accepted.{is_accepted}
 use Rattle.module_meaning.specs.DeclarationForms.{DeclarationsHaveForms}
@@ -25,19 +25,28 @@ use Rattle.naga_scope.specs.Plans.{IsRefusalToPlan}
 use Rattle.naga_scope.specs.declared.plan.PlanError.{PlanError}
 use Rattle.naga_scope.specs.declared.plan.PlanError.TheVariants as plan_error
 use Rattle.naga_wgsl_fns.proofs.PlanRefusals.{full_is}
+use Rattle.naga_wgsl_fns.specs.Appends.{Appends, StoppedWithin}
 use Rattle.naga_wgsl_fns.specs.Constructs.{Tells}
-use Rattle.naga_wgsl_fns.specs.Refusals.{IsErrorOfNames, NamesExpression, NamesType, TellsPlanError}
-use Rattle.naga_wgsl_fns.specs.Unplanned.{IsRefusedFor, IsUnplanned, is_names_want, is_want, part_of}
+use Rattle.naga_wgsl_fns.specs.Refusals.{IsErrorOfNames, NamesExpression, NamesType, TellsOfModule, TellsPlanError}
+use Rattle.naga_wgsl_fns.specs.Unplanned.{IsRefusedFor, IsToldOfUnplanned, IsUnplanned, is_names_want, is_want, part_of}
+use Rattle.naga_wgsl_fns.specs.declared.error.Error.{Error}
+use Rattle.naga_wgsl_fns.specs.declared.error.Error.TheVariants.{Custom, Memory}
 use Rattle.naga_wgsl_fns.specs.declared.plans.Unplanned.{Unplanned}
 use Rattle.naga_wgsl_fns.specs.declared.plans.Unplanned.TheVariants as unplanned
 use Rattle.naga_wgsl_fns.specs.declared.construct.Construct.{Construct}
+use Rattle.naga_wgsl_fns.specs.declared.construct.Construct.TheVariants as construct
 use Rattle.naga_wgsl_fns.specs.declared.plans.FunctionPart.{FunctionPart}
 use Rattle.naga_wgsl_out.proofs.ExpressionNames.{none_past}
 use Rattle.naga_wgsl_out.proofs.ModuleScopes.{all_planned_formed, all_planned_hold}
-use Rattle.naga_wgsl_out.specs.ModuleRefusals.{HasAllNames, HasNamedBefore, NamerIsFull, NothingIsRefused}
+use Rattle.naga_back.specs.Flags.{annotates_types}
+use Rattle.naga_back.specs.declared.flags.WriterFlags.{WriterFlags}
+use Rattle.naga_wgsl_out.proofs.Faithful.{want_tells_nothing}
+use Rattle.naga_wgsl_out.proofs.Functions.{IsUpTo}
+use Rattle.naga_wgsl_out.specs.ModuleRefusals.{HasAllNames, HasNamedBefore, IsNamesRefusal, NamerIsFull, NothingIsRefused}
 use Rattle.naga_wgsl_out.specs.Unwritable.{AreWritableBefore, IsFirst, IsFoundOf, IsRefusalOf, IsUnspelled, IsWritable, StandsAt}
-use Rattle.naga_wgsl_out.specs.Unwritable.{StandsAtPart, StandsIn, StandsInFunction, StandsInLabels}
+use Rattle.naga_wgsl_out.specs.Unwritable.{StandsAtPart, StandsIn, StandsInFunction, StandsInLabels, TellsFirst, TellsRefusalOf, place_at}
 use Rattle.naga_wgsl_out.specs.declared.unwritable.Refusal.{Refusal}
+use Rattle.naga_wgsl_out.specs.declared.unwritable.RefusalPlace.TheVariants as place
 use Rattle.naga_back.specs.declared.context.FunctionType.{FunctionType}
 use Rattle.naga_back.specs.declared.context.FunctionType.TheVariants as item
 use Rattle.naga_wgsl_out.specs.Writing.{HasPlan}
@@ -101,6 +110,17 @@ module _ (explicit : Bool) (m : Module) (info : ModuleInfo) (accepted : IsTrue (
   found_in ty same next (Ok o) (unplanned.Refused it at) found r =
       subst (λ o. MatchOption o (IsWritable explicit m info (function_number m ty) next) (IsRefusalOf explicit m info ty)) (sym found)
       (at, refl, subst (λ n. StandsInFunction explicit m info n (it, at)) same (stands_in it at r))
+
+  -- and so what is told of it
+  pub told_of : (ty : FunctionType) → number ≡ function_number m ty → (error : Error) →
+      IsToldOfUnplanned explicit m info number namer error → TellsOfModule error →
+      TellsRefusalOf explicit m info ty error
+  told_of ty same error (unplanned.Refused it at, r, told) of = record {
+    refusal = record { construct = it; place = place_at ty at };
+    is = (at, refl, subst (λ n. StandsInFunction explicit m info n (it, at)) same (stands_in it at r));
+    told = told;
+  }
+  told_of ty same error (unplanned.Memory e, r, told) of = absurd (subst TellsOfModule told of)
 
 -- what is known of a function that there is
 pub known_at : (m : Module) (info : ModuleInfo) → IsTrue (is_accepted m info) → (number : ℕ) (f : Function) →
@@ -166,6 +186,17 @@ pub refusal_first : (explicit : Bool) (m : Module) (info : ModuleInfo) (ty : Fun
 refusal_first explicit m info (item.Function h) refusal r before = subst (IsFirst explicit m info) (sym r.1) before
 refusal_first explicit m info (item.EntryPoint i) refusal r before = subst (IsFirst explicit m info) (sym r.1) before
 
+-- so is what is told of it
+pub told_first : (explicit : Bool) (m : Module) (info : ModuleInfo) (ty : FunctionType) (error : Error) →
+    HasHandle m ty → AreWritableBefore explicit m info (function_number m ty) →
+    TellsRefusalOf explicit m info ty error → TellsFirst explicit m info error
+told_first explicit m info ty error there before tells = record {
+  refusal = tells.refusal;
+  stands = refusal_stands explicit m info ty tells.refusal there tells.is;
+  first = refusal_first explicit m info ty tells.refusal tells.is before;
+  told = tells.told;
+}
+
 -- so a construct in the next one is the first
 pub before_writable : (explicit : Bool) (m : Module) (info : ModuleInfo) (names : NameMap) (n : ℕ) (namer : Names) →
     DeclarationsHaveForms m → HasAllNames m names → AreWritable explicit m info n namer →
@@ -175,6 +206,17 @@ before_writable explicit m info names n namer declarations has all = record {
   nameable = has.nameable;
   keys = has.keys;
   planned = all.planned;
+}
+
+-- the same where the functions in front of it are written
+pub up_to_before : (m : Module) (info : ModuleInfo) (flags : WriterFlags) {names : NameMap} {n : ℕ} {namer : Names}
+    {content now : List ℕ} {failed failures : ℕ} → DeclarationsHaveForms m → HasAllNames m names →
+    IsUpTo m info flags n content failed namer now failures → AreWritableBefore (annotates_types flags) m info n
+up_to_before m info flags declarations has is = record {
+  declarations = declarations;
+  nameable = has.nameable;
+  keys = has.keys;
+  planned = is.planned;
 }
 
 -- where all have one, nothing is refused
@@ -207,3 +249,48 @@ pub labels_stand : (m : Module) (error : NamerError) (it : Construct) → IsRese
 labels_stand m namer_error.Full it refused told other = inl (refused, told)
 labels_stand m namer_error.KeyFull it refused told other = inr (refused, told)
 labels_stand m (namer_error.Memory e) it refused told other = absurd cc
+
+-- and that they get none is told as such a construct
+pub labels_told : (explicit : Bool) (m : Module) (info : ModuleInfo) (error : Error) → DeclarationsHaveForms m →
+    IsNamesRefusal m error → TellsOfModule error → TellsFirst explicit m info error
+labels_told explicit m info (Custom message) declarations (inl is) of = record {
+  refusal = record { construct = construct.FullNamer; place = place.Labels };
+  stands = inl (is.1, λ error told. told);
+  first = declarations;
+  told = is.0;
+}
+labels_told explicit m info (Custom message) declarations (inr is) of = record {
+  refusal = record { construct = construct.NameKey; place = place.Labels };
+  stands = inr (is.1, λ error told. told);
+  first = declarations;
+  told = is.0;
+}
+labels_told explicit m info (Memory e) declarations is of = absurd of
+labels_told explicit m info _ declarations is of = absurd is
+
+-- ---- no refusal
+-- a call that ends early for want of memory or of the sink tells nothing
+pub stopped_told : (X : Error → Type 0) (r : Result Unit Error) (error : Error) {content text now : List ℕ} {failed failures : ℕ} →
+    IsErrAnd r (λ e. e ≡ error) → StoppedWithin content failed text now failures error →
+    IfErr r (λ e. TellsOfModule e → X e)
+stopped_told X (Ok x) error reported stopped = tt
+stopped_told X (Err e) error {failed = failed} {failures = failures} reported stopped =
+    λ of. absurd (want_tells_nothing error failed failures stopped.reason (subst TellsOfModule reported of))
+
+pub appended_told : (X : Error → Type 0) (r : Result Unit Error) (content : List ℕ) (failed : ℕ) (text now : List ℕ) (failures : ℕ) →
+    Appends r content failed text now failures → IfErr r (λ e. TellsOfModule e → X e)
+appended_told X (Ok x) content failed text now failures appends = tt
+appended_told X (Err e) content failed text now failures appends = stopped_told X (Err e) e refl appends
+
+-- the error of a call is that of another
+pub as_told : {T : Type 0} (X : Error → Type 0) (r : Result T Error) (error : Error) → IsErrAnd r (λ e. e ≡ error) →
+    (TellsOfModule error → X error) → IfErr r (λ e. TellsOfModule e → X e)
+as_told X (Ok x) error reported tells = tt
+as_told X (Err e) error reported tells = subst (λ e. TellsOfModule e → X e) (sym reported) tells
+
+-- what it tells under the same flags
+pub told_under : (m : Module) (info : ModuleInfo) (own flags : WriterFlags) (error : Error) → own ≡ flags →
+    (TellsOfModule error → TellsFirst (annotates_types own) m info error) →
+    TellsOfModule error → TellsFirst (annotates_types flags) m info error
+told_under m info own flags error same tells of =
+    subst (λ f. TellsFirst (annotates_types f) m info error) same (tells of)

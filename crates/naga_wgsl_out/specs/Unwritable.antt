@@ -29,13 +29,14 @@ use Rattle.naga_scope.specs.declared.declarations.DeclarationPlace.{DeclarationP
 use Rattle.naga_scope.specs.declared.declarations.FormlessDeclaration.{FormlessDeclaration}
 use Rattle.naga_scope.specs.declared.plan.PlanError.{PlanError}
 use Rattle.naga_scope.specs.declared.statements.FormlessStatement.{FormlessStatement}
-use Rattle.naga_wgsl_fns.specs.Constructs.{Tells}
+use Rattle.naga_wgsl_fns.specs.Constructs.{IsToldAs, Tells}
 use Rattle.naga_wgsl_fns.specs.DeclarationRefusals.{NamesFormlessDeclaration}
 use Rattle.naga_wgsl_fns.specs.Errors.{IsCustom}
 use Rattle.naga_wgsl_fns.specs.Refusals.{ExpressionNamesAreFullIn, NamesExpression, NamesStatement}
 use Rattle.naga_wgsl_fns.specs.Refusals.{NamesType}
 use Rattle.naga_wgsl_fns.specs.Unplanned.{part_of}
 use Rattle.naga_wgsl_fns.specs.declared.construct.Construct.{Construct}
+use Rattle.naga_wgsl_fns.specs.declared.error.Error.{Error}
 use Rattle.naga_wgsl_fns.specs.declared.plans.FunctionPart.{FunctionPart}
 use Rattle.naga_wgsl_fns.specs.declared.plans.FunctionPart.TheVariants as part
 use Rattle.naga_wgsl_fns.specs.declared.plans.Unplanned.{Unplanned}
@@ -163,3 +164,19 @@ pub record IsWritable (explicit : Bool) (m : Module) (info : ModuleInfo) (number
     (namer : Names) : Type 0 where
   pub planned : HasPlan explicit m info number
   pub named : HasNamedBefore m (number + 1) namer
+
+-- ---- what the writer tells
+-- an error names a construct that stands in the module, and is the first that is found
+pub record TellsFirst (explicit : Bool) (m : Module) (info : ModuleInfo)
+    (error : Error) : Type 0 where
+  pub refusal : Refusal
+  pub stands : StandsIn explicit m info refusal
+  pub first : IsFirst explicit m info refusal.place
+  pub told : IsToldAs refusal.construct error
+
+-- an error names a construct that stands in this function
+pub record TellsRefusalOf (explicit : Bool) (m : Module) (info : ModuleInfo) (ty : FunctionType)
+    (error : Error) : Type 0 where
+  pub refusal : Refusal
+  pub is : IsRefusalOf explicit m info ty refusal
+  pub told : IsToldAs refusal.construct error

@@ -23,6 +23,7 @@ ghost use Rattle.naga_wgsl_fns.specs.Refusals.{TellsOfModule};
 ghost use Rattle.naga_wgsl_out.specs.ModuleRefusals.{ComesBeforeText, HasAllNames};
 ghost use Rattle.naga_wgsl_out.specs.ModuleRefusals.{HasNamedBefore, IsNamesRefusal};
 ghost use Rattle.naga_wgsl_out.specs.ModuleRefusals.{TellsOfFunction, TellsOfKeys};
+ghost use Rattle.naga_wgsl_out.specs.Unwritable.{TellsFirst, TellsRefusalOf};
 ghost use Rattle.naga_wgsl_out.specs.Writing.{WritesFunctions, WritesNext, Writing};
 ghost use Rattle.naga_wgsl_out.specs.Writing.{WroteFunctionsBefore, front_text, line_at};
 ghost use Rattle.naga_wgsl_out.specs.Writing.{AppendsItsText, line_behind, written_text};
@@ -151,6 +152,9 @@ impl<W: TextSink> Writer<W> {
             (W.text self.new.sink)) }
         ensures unfailed { IfErr result (λ e. TellsOfModule e →
             W.failures self.new.sink ≡ W.failures self.old.sink) }
+        // A refusal names a construct that stands in the module, and is the first that is found.
+        ensures told { IfErr result (λ e. TellsOfModule e →
+            TellsFirst (annotates_types self.old.flags) «module».now info.now e) }
         ensures flags { self.new.flags ≡ self.old.flags }
     {
         let tables = ModuleTables::of(self.alloc, module)?;
@@ -220,8 +224,10 @@ fn write_functions<W: TextSink>(
     requires tables { AreTablesOf «module».now tables.now }
     requires names { HasAllNames «module».now (names_in names.now) }
     requires namer { HasNamedBefore «module».now 0 namer.old }
-    ensures { WritesFunctions «module».now info.now flags result (W.text out.old)
+    ensures wrote { WritesFunctions «module».now info.now flags result (W.text out.old)
         (W.failures out.old) (W.text out.new) (W.failures out.new) }
+    ensures told { IfErr result (λ e. TellsOfModule e →
+        TellsFirst (annotates_types flags) «module».now info.now e) }
 {
     for index in 0..module.functions.len() {
         let ty = FunctionType::Function(Place::from_index(index));
@@ -252,9 +258,11 @@ fn write_next<W: TextSink>(
     requires tables { AreTablesOf «module».now tables.now }
     requires names { HasNamesOf «module».now (names_in names.now) }
     requires namer { HasNamedBefore «module».now (function_number «module».now ty.now) namer.old }
-    ensures { WritesNext «module».now info.now flags (function_number «module».now ty.now)
+    ensures wrote { WritesNext «module».now info.now flags (function_number «module».now ty.now)
         namer.new result (W.text out.old) (W.failures out.old) (W.text out.new)
         (W.failures out.new) }
+    ensures told { IfErr result (λ e. TellsOfModule e →
+        TellsRefusalOf (annotates_types flags) «module».now info.now ty.now e) }
 {
     let plan = plan_of(alloc, module, info, ty, tables, names, flags, namer)?;
     write_with_line(alloc, module, info, tables, names, flags, ty, plan, out)
@@ -392,6 +400,8 @@ pub fn write_string(
         (KeepsLayouts «module».now)) }
     ensures text { IfOk result (λ text.
         string_bytes text ≡ written_text «module».now info.now flags) }
+    ensures told { IfErr result (λ e. TellsOfModule e →
+        TellsFirst (annotates_types flags) «module».now info.now e) }
 {
     let mut writer = Writer::new(alloc, String::new(alloc), flags);
     writer.write(module, info)?;

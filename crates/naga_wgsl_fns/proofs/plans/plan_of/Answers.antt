@@ -14,3 +14,7 @@ returns-in-Err-clause-err c =
     unplanned_told (annotates_types c.args.flags) m c.args.info.now c.requires.accepted number here.0 here.1
     earlier _ c.requires.words has c.in-Err.unplanned c.unplanned_error.result c.in-Err.ensures.err
     c.unplanned_error.ensures
+
+pub returns-in-Err-clause-told : goal.returns-in-Err-clause-told
+returns-in-Err-clause-told c =
+    (c.in-Err.unplanned, c.in-Err.ensures.err, c.unplanned_error.ensures)

@@ -1,8 +1,11 @@
-use Rattle.std.proofs.Common.{◌≡◌, ◌+◌, ◌<◌, ◌≤◌, ◌^◌, arith, length}
+use Rattle.std.proofs.Common.{◌≡◌, ◌+◌, ◌<◌, ◌≤◌, ◌^◌, arith, length, subst, sym}
 use Rattle.module_meaning.proofs.FunctionNumbers.{number_within}
 use Rattle.naga_back.specs.declared.context.FunctionType.TheVariants as item
 use Rattle.naga_wgsl_out.proofs.Functions.{failed_as, last_point, points_counted, up_to_all}
 use Rattle.naga_wgsl_out.proofs.Functions.{up_to_as, up_to_failed, up_to_more, up_to_none, wrote_as}
+use Rattle.naga_back.specs.Flags.{annotates_types}
+use Rattle.naga_wgsl_out.proofs.Places.{as_told, told_first, up_to_before}
+use Rattle.naga_wgsl_out.specs.Unwritable.{AreWritableBefore, TellsFirst}
 use Rattle.naga_wgsl_out.proofs.writer.write_functions.Goals as goal
 
 pub loop-index-init : goal.loop-index-init
@@ -18,17 +21,17 @@ loop-index-preserved g c =
     omega (arith, c.loop-index-test.true, c.len-index-end.ensures) in
     up_to_more m c.args.info.now c.args.flags c.loop-index.invariant
     (number_within m (item.Function c.loop-index.index) within)
-    (wrote_as c.from_index.ensures c.in_ok-write_next.ensures)
+    (wrote_as c.from_index.ensures c.in_ok-write_next.ensures.wrote)
 
-pub returns-in_err-write_next : goal.returns-in_err-write_next
-returns-in_err-write_next g c =
+pub returns-in_err-write_next-clause-wrote : goal.returns-in_err-write_next-clause-wrote
+returns-in_err-write_next-clause-wrote g c =
     let m = c.args.«module».now in
     let within : c.loop-index.index < length m.functions =
     omega (arith, c.loop-index-test.true, c.len-index-end.ensures) in
     up_to_failed m c.args.info.now c.args.flags c.loop-index.invariant
     (number_within m (item.Function c.loop-index.index) within)
     c.from_residual.result _ c.from_residual.ensures.1
-    (failed_as c.from_index.ensures c.in_err-write_next.ensures)
+    (failed_as c.from_index.ensures c.in_err-write_next.ensures.wrote)
 
 pub loop-index-2-init : goal.loop-index-2-init
 loop-index-2-init g c =
@@ -62,10 +65,10 @@ loop-index-2-preserved g c =
     λ content failed is.
     up_to_as next
     (up_to_more m c.args.info.now c.args.flags (c.loop-index-2.invariant content failed is)
-    (number_within m (item.EntryPoint c.loop-index-2.index) within) c.in_ok-write_next-2.ensures)
+    (number_within m (item.EntryPoint c.loop-index-2.index) within) c.in_ok-write_next-2.ensures.wrote)
 
-pub returns-in_err-write_next-2 : goal.returns-in_err-write_next-2
-returns-in_err-write_next-2 g c =
+pub returns-in_err-write_next-2-clause-wrote : goal.returns-in_err-write_next-2-clause-wrote
+returns-in_err-write_next-2-clause-wrote g c =
     let m = c.args.«module».now in
     let all : c.loop-index.index ≡ length m.functions =
     omega (arith, c.loop-index-test.false, c.len-index-end.ensures) in
@@ -76,10 +79,10 @@ returns-in_err-write_next-2 g c =
     (up_to_as all c.loop-index.invariant))
     (number_within m (item.EntryPoint c.loop-index-2.index) within)
     c.from_residual-in_err-write_next-2.result _ c.from_residual-in_err-write_next-2.ensures.1
-    c.in_err-write_next-2.ensures
+    c.in_err-write_next-2.ensures.wrote
 
-pub returns : goal.returns
-returns g c =
+pub returns-clause-wrote : goal.returns-clause-wrote
+returns-clause-wrote g c =
     let m = c.args.«module».now in
     let all : c.loop-index.index ≡ length m.functions =
     omega (arith, c.loop-index-test.false, c.len-index-end.ensures) in
@@ -89,3 +92,32 @@ returns g c =
     (c.loop-index-2.invariant (g.W.TextSink.text c.args.out.now) (g.W.TextSink.failures c.args.out.now)
     (up_to_as all c.loop-index.invariant))
     (last_point m c.loop-index-2.index points)
+
+pub returns-in_err-write_next-clause-told : goal.returns-in_err-write_next-clause-told
+returns-in_err-write_next-clause-told g c =
+    let e = annotates_types c.args.flags in
+    let m = c.args.«module».now in
+    let info = c.args.info.now in
+    let ty = item.Function c.from_index.result in
+    let before = up_to_before m info c.args.flags c.requires.declared c.requires.names c.loop-index.invariant in
+    as_told (λ error. TellsFirst e m info error) c.from_residual.result _ c.from_residual.ensures.1
+    (λ of. told_first e m info ty _
+    (omega (arith, c.loop-index-test.true, c.len-index-end.ensures, c.from_index.ensures))
+    (subst (AreWritableBefore e m info) (sym c.from_index.ensures) before)
+    (c.in_err-write_next.ensures.told of))
+
+pub returns-in_err-write_next-2-clause-told : goal.returns-in_err-write_next-2-clause-told
+returns-in_err-write_next-2-clause-told g c =
+    let e = annotates_types c.args.flags in
+    let m = c.args.«module».now in
+    let info = c.args.info.now in
+    let all : c.loop-index.index ≡ length m.functions =
+    omega (arith, c.loop-index-test.false, c.len-index-end.ensures) in
+    let before =
+    up_to_before m info c.args.flags c.requires.declared c.requires.names
+    (c.loop-index-2.invariant (g.W.TextSink.text c.args.out.now) (g.W.TextSink.failures c.args.out.now)
+    (up_to_as all c.loop-index.invariant)) in
+    as_told (λ error. TellsFirst e m info error) c.from_residual-in_err-write_next-2.result _
+    c.from_residual-in_err-write_next-2.ensures.1
+    (λ of. told_first e m info (item.EntryPoint c.loop-index-2.index) _ tt before
+    (c.in_err-write_next-2.ensures.told of))

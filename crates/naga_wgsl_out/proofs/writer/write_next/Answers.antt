@@ -1,7 +1,11 @@
+use Rattle.std.proofs.Common.{refl}
 use Rattle.module_meaning.proofs.FunctionNumbers.{number_within}
-use Rattle.module_meaning.specs.FunctionNumbers.{function_number}
+use Rattle.module_meaning.specs.FunctionNumbers.{all_functions, function_number}
 use Rattle.naga_back.specs.Flags.{annotates_types}
 use Rattle.naga_wgsl_out.proofs.ExpressionNames.{named_plan}
+use Rattle.naga_names.proofs.Refusal.{element}
+use Rattle.naga_wgsl_out.proofs.Places.{appended_told, as_told, known_at, told_of}
+use Rattle.naga_wgsl_out.specs.Unwritable.{TellsRefusalOf}
 use Rattle.naga_wgsl_out.proofs.Functions.{next_err, next_written, no_plan}
 use Rattle.naga_wgsl_out.proofs.writer.write_next.Goals as goal
 
@@ -16,8 +20,8 @@ write_with_line-requires-clause-named g c =
     c.plan_of.new.namer c.in_ok-plan.plan (number_within m c.args.ty.now c.requires.there)
     c.requires.namer c.in_ok-plan.ensures.ok c.in_ok-plan.ensures.named).names
 
-pub returns-in_err-plan : goal.returns-in_err-plan
-returns-in_err-plan g c =
+pub returns-in_err-plan-clause-wrote : goal.returns-in_err-plan-clause-wrote
+returns-in_err-plan-clause-wrote g c =
     let m = c.args.«module».now in
     let number = function_number m c.args.ty.now in
     next_err m c.args.info.now c.args.flags number (g.W.TextSink.text c.args.out.now)
@@ -26,8 +30,8 @@ returns-in_err-plan g c =
     (g.W.TextSink.failures c.args.out.now) _
     (c.in_err-plan.ensures.err _ c.requires.namer.labels))
 
-pub returns : goal.returns
-returns g c =
+pub returns-clause-wrote : goal.returns-clause-wrote
+returns-clause-wrote g c =
     let m = c.args.«module».now in
     let number = function_number m c.args.ty.now in
     next_written m c.args.info.now c.args.flags number (g.W.TextSink.text c.args.out.now)
@@ -35,3 +39,22 @@ returns g c =
     c.args.namer.now c.plan_of.new.namer c.in_ok-plan.plan _ _ c.requires.namer
     c.in_ok-plan.ensures.ok c.in_ok-plan.ensures.named c.write_with_line.result
     c.write_with_line.ensures
+
+pub returns-in_err-plan-clause-told : goal.returns-in_err-plan-clause-told
+returns-in_err-plan-clause-told g c =
+    let e = annotates_types c.args.flags in
+    let m = c.args.«module».now in
+    let info = c.args.info.now in
+    let number = function_number m c.args.ty.now in
+    let here = element (all_functions m) number (number_within m c.args.ty.now c.requires.there) in
+    let known = known_at m info c.requires.accepted number here.0 here.1 in
+    as_told (λ error. TellsRefusalOf e m info c.args.ty.now error) c.from_residual.result _
+    c.from_residual.ensures.1
+    (told_of e m info c.requires.accepted number here.0 here.1 known.0 known.1 c.args.namer.now
+    c.requires.namer c.args.ty.now refl _ c.in_err-plan.ensures.told)
+
+pub returns-clause-told : goal.returns-clause-told
+returns-clause-told g c =
+    let m = c.args.«module».now in
+    appended_told (λ error. TellsRefusalOf (annotates_types c.args.flags) m c.args.info.now c.args.ty.now error)
+    c.write_with_line.result _ _ _ _ _ c.write_with_line.ensures
