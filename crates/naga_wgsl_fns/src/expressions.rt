@@ -1,9 +1,6 @@
 //! Expressions.
 
 ghost use Rattle.std.specs.Prelude.{[], ◌∷◌, ◌<◌, ◌≡◌, length, IsTrue};
-ghost use Rattle.std.specs.Option.{is_some};
-ghost use Rattle.module_meaning.specs.OperatorTable.{Math, Relational, relational_word};
-ghost use Rattle.module_meaning.specs.OperatorTable.{run_word};
 ghost use Rattle.module_meaning.specs.AlikeTypes.{is_spelled};
 ghost use Rattle.naga_info.specs.declared.info.TypeResolution.TheVariants as resolution;
 ghost use Rattle.naga_form.specs.Operators.{Infix, Prefix, operator_form, unary_form};
@@ -14,20 +11,15 @@ ghost use Rattle.naga_wgsl_fns.specs.Expressions.{made_text, made_type, next_ope
 ghost use Rattle.naga_wgsl_fns.specs.Expressions.{operands_text};
 ghost use Rattle.naga_wgsl_fns.specs.Expressions.{own_text};
 ghost use Rattle.naga_wgsl_fns.specs.Expressions.{pointed_text, reference_text, value_text};
-ghost use Rattle.wgsl_words.specs.Words.{math_word, unary_text};
+ghost use Rattle.wgsl_words.specs.Words.{unary_text};
 
 use crate::functions::FunctionText;
 use crate::literal::write_literal;
 use naga_back::binary_operation_str;
-use naga_ir::{
-    BinaryOperator, Expression, Handle, LocalVariable, MathFunction, RelationalFunction, Type_,
-    UnaryOperator,
-};
-use naga_scope::{Availability, Scope, derivative_str, image_query_str};
-use naga_words::words::vector_str;
+use naga_ir::{BinaryOperator, Expression, Handle, LocalVariable, Type_, UnaryOperator};
+use naga_scope::{Availability, Scope, called_str};
 use naga_words::{Output, TextSink};
 use std::alloc::Global;
-use wgsl_words::TryToWgsl;
 
 impl FunctionText<'_> {
     /// An expression as a value: its name where it has one here, else what it is made of. A
@@ -89,10 +81,6 @@ impl FunctionText<'_> {
             Expression::Binary { op, left, right } => {
                 self.write_infix(alloc, scope, *op, *left, *right, out)
             }
-            Expression::Select { .. } => self.write_called(alloc, scope, handle, "select", out),
-            Expression::Splat { size, .. } => {
-                self.write_called(alloc, scope, handle, vector_str(*size), out)
-            }
             Expression::Swizzle {
                 size,
                 vector,
@@ -103,37 +91,19 @@ impl FunctionText<'_> {
                 kind,
                 convert,
             } => self.write_conversion(alloc, scope, handle, *expr, *kind, *convert, out),
-            Expression::Math { fun, .. } => {
-                self.write_called(alloc, scope, handle, math_function_str(*fun), out)
-            }
-            Expression::Relational { fun, .. } => {
-                self.write_called(alloc, scope, handle, relational_function_str(*fun), out)
-            }
-            Expression::Derivative { axis, ctrl, .. } => {
-                self.write_called(alloc, scope, handle, derivative_str(*axis, *ctrl), out)
-            }
             Expression::ImageSample { .. } => self.write_sampling(alloc, scope, handle, out),
-            Expression::ImageLoad { .. } => {
-                self.write_called(alloc, scope, handle, "textureLoad", out)
-            }
-            Expression::ImageQuery { query, .. } => {
-                self.write_called(alloc, scope, handle, image_query_str(*query), out)
-            }
-            Expression::ArrayLength(_) => {
-                self.write_called(alloc, scope, handle, "arrayLength", out)
-            }
             Expression::CooperativeLoad {
                 columns,
                 rows,
                 role,
                 data_,
             } => self.write_matrix_load(alloc, scope, handle, *columns, *rows, *role, *data_, out),
-            Expression::CooperativeMultiplyAdd { .. } => {
-                self.write_called(alloc, scope, handle, "coopMultiplyAdd", out)
-            }
-            // The result of a statement, where its name is not in scope. The rules of scope keep that
-            // from being written.
-            _ => out.put("false"),
+            // Without a word, it is the result of a statement where its name is not in scope. The
+            // rules of scope keep that from being written.
+            expression => match called_str(expression) {
+                Some(word) => self.write_called(alloc, scope, handle, word, out),
+                None => out.put("false"),
+            },
         }
     }
 
@@ -346,28 +316,5 @@ fn unary_operation_str(op: UnaryOperator) -> &'static str
         UnaryOperator::Negate => "-",
         UnaryOperator::LogicalNot => "!",
         UnaryOperator::BitwiseNot => "~",
-    }
-}
-
-/// The word of a function of mathematics that has one.
-fn math_function_str(fun: MathFunction) -> &'static str
-    requires { IsTrue (is_some (math_word fun)) }
-    ensures { result.now ≡ run_word (Math fun) }
-{
-    match fun.try_to_wgsl() {
-        Some(word) => word,
-        None => unreachable!(),
-    }
-}
-
-/// The word of a relation that has one.
-fn relational_function_str(fun: RelationalFunction) -> &'static str
-    requires { IsTrue (is_some (relational_word fun)) }
-    ensures { result.now ≡ run_word (Relational fun) }
-{
-    match fun {
-        RelationalFunction::All => "all",
-        RelationalFunction::Any => "any",
-        RelationalFunction::IsNan | RelationalFunction::IsInf => unreachable!(),
     }
 }
