@@ -33,14 +33,12 @@ use naga_ir::{
 };
 use naga_scope::Scope;
 use naga_words::{Output, TextSink};
-use std::alloc::Global;
 
 impl FunctionText<'_> {
     /// A statement that asks for something, or calls a function. Behind the call, `scope` is what
     /// is in scope behind it.
     pub(crate) fn write_act<W: TextSink>(
         &self,
-        alloc: Global,
         statement: &Statement,
         scope: &mut Scope,
         indent: &Indent,
@@ -63,7 +61,7 @@ impl FunctionText<'_> {
         ensures counted { Counted scope.old scope.new (statement_changes (tree_of statement.now)) }
     {
         let word = self.act_str(statement);
-        self.write_act_line(alloc, word, statement, scope, indent, out);
+        self.write_act_line(word, statement, scope, indent, out);
         if let Some(outcome) = statement.result() {
             scope.give(outcome);
         }
@@ -73,7 +71,6 @@ impl FunctionText<'_> {
     /// result, a `let` of that.
     pub(crate) fn write_act_line<W: TextSink>(
         &self,
-        alloc: Global,
         word: &str,
         statement: &Statement,
         scope: &Scope,
@@ -88,17 +85,16 @@ impl FunctionText<'_> {
             (own_operands (tree_of statement.now)) (own_result (tree_of statement.now))) }
     {
         out.put(indent.as_str());
-        self.write_outcome(alloc, statement.result(), out);
+        self.write_outcome(statement.result(), out);
         out.put(word);
         out.put("(");
-        self.write_act_operands(alloc, statement, scope, out);
+        self.write_act_operands(statement, scope, out);
         out.put(";\n");
     }
 
     /// What stands in front of the word of a statement that has a result.
     fn write_outcome<W: TextSink>(
         &self,
-        alloc: Global,
         outcome: Option<Handle<Expression>>,
         out: &mut Output<'_, W>,
     )
@@ -108,18 +104,13 @@ impl FunctionText<'_> {
         ensures { Writes W.text W.failures out.old out.new (outcome_text self.now outcome) }
     {
         match outcome {
-            Some(outcome) => self.write_outcome_start(alloc, outcome, out),
+            Some(outcome) => self.write_outcome_start(outcome, out),
             None => {}
         }
     }
 
     #[tactic(auto, using(naga_words::proofs::Writing::writes_then, crate::proofs::ActRows::outcome_row))]
-    fn write_outcome_start<W: TextSink>(
-        &self,
-        alloc: Global,
-        outcome: Handle<Expression>,
-        out: &mut Output<'_, W>,
-    )
+    fn write_outcome_start<W: TextSink>(&self, outcome: Handle<Expression>, out: &mut Output<'_, W>)
         requires can { CanWrite self.now }
         requires outcome { outcome < length self.now.function.now.expressions }
         requires named { IsLet self.now outcome }
@@ -127,14 +118,13 @@ impl FunctionText<'_> {
     {
         out.put("let ");
         write_numbered_name(outcome, out);
-        self.write_let_annotation(alloc, outcome, out);
+        self.write_let_annotation(outcome, out);
         out.put(" = ");
     }
 
     /// The operands of a statement, up to the `)` behind them.
     fn write_act_operands<W: TextSink>(
         &self,
-        alloc: Global,
         statement: &Statement,
         scope: &Scope,
         out: &mut Output<'_, W>,
@@ -146,7 +136,7 @@ impl FunctionText<'_> {
     {
         let mut is_first = true;
         for operand in statement.operands() {
-            self.write_next_operand(alloc, scope, is_first, operand, out);
+            self.write_next_operand(scope, is_first, operand, out);
             is_first = false;
         }
         out.put(")");

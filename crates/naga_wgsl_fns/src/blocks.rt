@@ -16,7 +16,6 @@ use crate::lines::write_line_start;
 use naga_ir::{Block, Expression, Handle};
 use naga_scope::Scope;
 use naga_words::{Output, TextSink};
-use std::alloc::Global;
 
 impl FunctionText<'_> {
     /// A block's statements, behind the blanks that there are. The scope stays.
@@ -24,7 +23,6 @@ impl FunctionText<'_> {
     #[tactic(auto, using(naga_scope::proofs::Logs::reverts))]
     pub(crate) fn write_here<W: TextSink>(
         &self,
-        alloc: Global,
         body: &Block,
         scope: &mut Scope,
         indent: &mut Indent,
@@ -43,7 +41,7 @@ impl FunctionText<'_> {
         ensures indent { indent.new ≡ indent.old }
     {
         let mark = scope.mark();
-        self.write_lines(alloc, body.as_slice(), scope, indent, out);
+        self.write_lines(body.as_slice(), scope, indent, out);
         scope.back_to(mark);
     }
 
@@ -51,7 +49,6 @@ impl FunctionText<'_> {
     #[cycle(statement)]
     pub(crate) fn write_inner<W: TextSink>(
         &self,
-        alloc: Global,
         body: &Block,
         scope: &mut Scope,
         indent: &mut Indent,
@@ -71,7 +68,7 @@ impl FunctionText<'_> {
     {
         let level = indent.level();
         indent.deepen(out);
-        self.write_here(alloc, body, scope, indent, out);
+        self.write_here(body, scope, indent, out);
         indent.back_to(level);
     }
 
@@ -80,7 +77,6 @@ impl FunctionText<'_> {
     #[tactic(auto, using(naga_words::proofs::Writing::writes_then, crate::proofs::BlockRows::braces_row))]
     pub(crate) fn write_braces<W: TextSink>(
         &self,
-        alloc: Global,
         start: &str,
         body: &Block,
         scope: &mut Scope,
@@ -100,7 +96,7 @@ impl FunctionText<'_> {
         ensures indent { indent.new ≡ indent.old }
     {
         write_line_start(indent, start, out);
-        self.write_inner(alloc, body, scope, indent, out);
+        self.write_inner(body, scope, indent, out);
         write_line_start(indent, "}\n", out);
     }
 
@@ -109,7 +105,6 @@ impl FunctionText<'_> {
     #[tactic(auto, using(crate::proofs::BlockRows::block_row, crate::proofs::StatementParts::block_inside))]
     pub(crate) fn write_nested<W: TextSink>(
         &self,
-        alloc: Global,
         nested: &Block,
         scope: &mut Scope,
         indent: &mut Indent,
@@ -128,7 +123,7 @@ impl FunctionText<'_> {
         ensures counted { Counted scope.old scope.new (statement_changes (block nested.now)) }
         ensures indent { indent.new ≡ indent.old }
     {
-        self.write_braces(alloc, "{\n", nested, scope, indent, out);
+        self.write_braces("{\n", nested, scope, indent, out);
     }
 
     /// What stands behind the block of an `if`, up to the brace that closes the last one: an `else`
@@ -137,7 +132,6 @@ impl FunctionText<'_> {
     #[tactic(auto, using(naga_words::proofs::Writing::writes_then, naga_words::proofs::Writing::writes_nothing, crate::proofs::BlockRows::else_row, crate::proofs::BlockRows::no_else))]
     fn write_else<W: TextSink>(
         &self,
-        alloc: Global,
         reject: &Block,
         scope: &mut Scope,
         indent: &mut Indent,
@@ -160,14 +154,13 @@ impl FunctionText<'_> {
             return;
         }
         write_line_start(indent, "} else {\n", out);
-        self.write_inner(alloc, reject, scope, indent, out);
+        self.write_inner(reject, scope, indent, out);
     }
 
     #[cycle(statement)]
     #[tactic(auto, using(naga_words::proofs::Writing::writes_then, crate::proofs::BlockRows::if_row, crate::proofs::StatementParts::branches))]
     pub(crate) fn write_if<W: TextSink>(
         &self,
-        alloc: Global,
         condition: Handle<Expression>,
         accept: &Block,
         reject: &Block,
@@ -190,9 +183,9 @@ impl FunctionText<'_> {
             (statement_changes (branch condition accept.now reject.now)) }
         ensures indent { indent.new ≡ indent.old }
     {
-        self.write_around(alloc, "if ", condition, " {\n", scope, indent, out);
-        self.write_inner(alloc, accept, scope, indent, out);
-        self.write_else(alloc, reject, scope, indent, out);
+        self.write_around("if ", condition, " {\n", scope, indent, out);
+        self.write_inner(accept, scope, indent, out);
+        self.write_else(reject, scope, indent, out);
         write_line_start(indent, "}\n", out);
     }
 }

@@ -86,6 +86,7 @@ pub fn write_planned<'a, W: TextSink>(
     let (function, function_info) = function_of(module, info, *ty);
     let (mut scope, named) = plan.into_parts();
     let text = FunctionText {
+        alloc,
         shader: module,
         module_info: info,
         tables,
@@ -97,7 +98,7 @@ pub fn write_planned<'a, W: TextSink>(
         info: function_info,
     };
     let mut written = Output::new(out);
-    text.write_item(alloc, &mut scope, &mut written);
+    text.write_item(&mut scope, &mut written);
     match written.outcome() {
         Ok(()) => Ok(()),
         Err(want) => Err(error_of_want(want)),
@@ -107,6 +108,8 @@ pub fn write_planned<'a, W: TextSink>(
 /// What the text of a function is made from.
 #[derive(Clone, Copy)]
 pub(crate) struct FunctionText<'a> {
+    /// Where memory for the blanks of a level and for the spelling of a type comes from.
+    pub(crate) alloc: Global,
     pub(crate) shader: &'a Module,
     pub(crate) module_info: &'a ModuleInfo,
     pub(crate) tables: &'a ModuleTables,
@@ -123,7 +126,7 @@ pub(crate) struct FunctionText<'a> {
 impl FunctionText<'_> {
     /// The whole function, behind its stage. `scope` is what is in scope at its start.
     #[tactic(auto, using(naga_words::proofs::Writing::writes_then, crate::proofs::FunctionRows::item_row))]
-    fn write_item<W: TextSink>(&self, alloc: Global, scope: &mut Scope, out: &mut Output<'_, W>)
+    fn write_item<W: TextSink>(&self, scope: &mut Scope, out: &mut Output<'_, W>)
         requires can { CanWrite self.now }
         requires start { StartsAt self.now scope.old.table }
         requires named { scope.old.named ≡ 0 }
@@ -132,7 +135,7 @@ impl FunctionText<'_> {
         ensures { Writes W.text W.failures out.old out.new (item_text self.now) }
     {
         self.write_own_stage(out);
-        self.write_declaration(alloc, scope, out);
+        self.write_declaration(scope, out);
     }
 
     /// The attributes of an entry point's stage, on a line of their own; nothing for a function that
@@ -154,12 +157,7 @@ impl FunctionText<'_> {
 
     /// The function by itself. `scope` is what is in scope at its start.
     #[tactic(auto, using(naga_words::proofs::Writing::writes_then, crate::proofs::FunctionRows::function_row))]
-    fn write_declaration<W: TextSink>(
-        &self,
-        alloc: Global,
-        scope: &mut Scope,
-        out: &mut Output<'_, W>,
-    )
+    fn write_declaration<W: TextSink>(&self, scope: &mut Scope, out: &mut Output<'_, W>)
         requires can { CanWrite self.now }
         requires start { StartsAt self.now scope.old.table }
         requires named { scope.old.named ≡ 0 }
@@ -167,32 +165,32 @@ impl FunctionText<'_> {
         requires room { HasRoom scope.old (block_changes self.now.function.now.body) }
         ensures { Writes W.text W.failures out.old out.new (function_text self.now) }
     {
-        self.write_head(alloc, out);
-        self.write_body(alloc, scope, out);
+        self.write_head(out);
+        self.write_body(scope, out);
     }
 
     /// What stands before the locals.
     #[tactic(auto, using(naga_words::proofs::Writing::writes_then, crate::proofs::FunctionRows::head_row))]
-    fn write_head<W: TextSink>(&self, alloc: Global, out: &mut Output<'_, W>)
+    fn write_head<W: TextSink>(&self, out: &mut Output<'_, W>)
         requires { CanWrite self.now }
         ensures { Writes W.text W.failures out.old out.new (head_text self.now) }
     {
         out.put("fn ");
         self.write_function_name(out);
         out.put("(");
-        self.write_arguments(alloc, out);
-        self.write_result(alloc, out);
+        self.write_arguments(out);
+        self.write_result(out);
         out.put(" {\n");
     }
 
     /// The arguments, and the parenthesis behind the last.
     #[tactic(auto, using(naga_words::proofs::Writing::loop_writes))]
-    fn write_arguments<W: TextSink>(&self, alloc: Global, out: &mut Output<'_, W>)
+    fn write_arguments<W: TextSink>(&self, out: &mut Output<'_, W>)
         requires { CanWrite self.now }
         ensures { Writes W.text W.failures out.old out.new (arguments_text self.now) }
     {
         for (number, argument) in self.function.arguments.iter().enumerate() {
-            self.write_next_argument(alloc, number, argument, out);
+            self.write_next_argument(number, argument, out);
         }
         out.put(")");
     }
@@ -201,7 +199,6 @@ impl FunctionText<'_> {
     #[tactic(auto, using(naga_words::proofs::Writing::writes_then, crate::proofs::FunctionRows::next_argument_row))]
     fn write_next_argument<W: TextSink>(
         &self,
-        alloc: Global,
         number: usize,
         argument: &FunctionArgument,
         out: &mut Output<'_, W>,
@@ -213,13 +210,12 @@ impl FunctionText<'_> {
             (next_argument_text self.now number argument.now) }
     {
         out.put(if number == 0 { "" } else { ", " });
-        self.write_argument(alloc, number, argument, out);
+        self.write_argument(number, argument, out);
     }
 
     #[tactic(auto, using(naga_words::proofs::Writing::writes_then, crate::proofs::FunctionRows::argument_row))]
     fn write_argument<W: TextSink>(
         &self,
-        alloc: Global,
         number: usize,
         argument: &FunctionArgument,
         out: &mut Output<'_, W>,
@@ -233,28 +229,23 @@ impl FunctionText<'_> {
         write_passing(argument.binding, out);
         self.write_argument_name(number as u32, out);
         out.put(": ");
-        self.write_type(alloc, argument.ty, out);
+        self.write_type(argument.ty, out);
     }
 
     #[tactic(auto, using(naga_words::proofs::Writing::writes_nothing, crate::proofs::FunctionRows::result_row))]
-    fn write_result<W: TextSink>(&self, alloc: Global, out: &mut Output<'_, W>)
+    fn write_result<W: TextSink>(&self, out: &mut Output<'_, W>)
         requires { CanWrite self.now }
         ensures { Writes W.text W.failures out.old out.new (result_text self.now) }
     {
         match &self.function.result {
-            Some(answer) => self.write_answer(alloc, answer, out),
+            Some(answer) => self.write_answer(answer, out),
             None => {}
         }
     }
 
     /// What is returned: how it passes, and its type.
     #[tactic(auto, using(naga_words::proofs::Writing::writes_then, crate::proofs::FunctionRows::answer_row))]
-    fn write_answer<W: TextSink>(
-        &self,
-        alloc: Global,
-        answer: &FunctionResult,
-        out: &mut Output<'_, W>,
-    )
+    fn write_answer<W: TextSink>(&self, answer: &FunctionResult, out: &mut Output<'_, W>)
         requires can { CanWrite self.now }
         requires passing { IsTrue (option_map_or binding_has_form answer.now.binding true) }
         requires formed { IsTrue
@@ -263,12 +254,12 @@ impl FunctionText<'_> {
     {
         out.put(" -> ");
         write_passing(answer.binding, out);
-        self.write_type(alloc, answer.ty, out);
+        self.write_type(answer.ty, out);
     }
 
     /// What stands behind the head. `scope` is what is in scope at the start.
     #[tactic(auto, using(naga_words::proofs::Writing::writes_then, crate::proofs::FunctionRows::body_row))]
-    fn write_body<W: TextSink>(&self, alloc: Global, scope: &mut Scope, out: &mut Output<'_, W>)
+    fn write_body<W: TextSink>(&self, scope: &mut Scope, out: &mut Output<'_, W>)
         requires can { CanWrite self.now }
         requires start { StartsAt self.now scope.old.table }
         requires named { scope.old.named ≡ 0 }
@@ -276,38 +267,33 @@ impl FunctionText<'_> {
         requires room { HasRoom scope.old (block_changes self.now.function.now.body) }
         ensures { Writes W.text W.failures out.old out.new (body_text self.now) }
     {
-        self.write_locals(alloc, scope, out);
-        self.write_statements(alloc, scope, out);
+        self.write_locals(scope, out);
+        self.write_statements(scope, out);
         out.put("}\n");
     }
 
     /// The statements, one level deep.
-    fn write_statements<W: TextSink>(
-        &self,
-        alloc: Global,
-        scope: &mut Scope,
-        out: &mut Output<'_, W>,
-    )
+    fn write_statements<W: TextSink>(&self, scope: &mut Scope, out: &mut Output<'_, W>)
         requires can { CanWrite self.now }
         requires size { length scope.old.table ≡ length self.now.function.now.expressions }
         requires room { HasRoom scope.old (block_changes self.now.function.now.body) }
         ensures { Writes W.text W.failures out.old out.new (block_text self.now scope.old.named
             (handles_in self.now scope.old.table) 1 self.now.function.now.body) }
     {
-        let mut indent = Indent::new(alloc);
+        let mut indent = Indent::new(self.alloc);
         indent.deepen(out);
-        self.write_here(alloc, &self.function.body, scope, &mut indent, out);
+        self.write_here(&self.function.body, scope, &mut indent, out);
     }
 
     /// The locals, and an empty line behind them if there are any.
     #[tactic(auto, using(naga_words::proofs::Writing::loop_writes))]
-    fn write_locals<W: TextSink>(&self, alloc: Global, scope: &Scope, out: &mut Output<'_, W>)
+    fn write_locals<W: TextSink>(&self, scope: &Scope, out: &mut Output<'_, W>)
         requires can { CanWrite self.now }
         requires start { StartsAt self.now scope.now.table }
         ensures { Writes W.text W.failures out.old out.new (locals_text self.now) }
     {
         for index in 0..self.function.local_variables.len() {
-            self.write_local(alloc, scope, Place::from_index(index), out);
+            self.write_local(scope, Place::from_index(index), out);
         }
         write_group_end(self.function.local_variables.is_empty(), out);
     }
@@ -315,7 +301,6 @@ impl FunctionText<'_> {
     #[tactic(auto, using(naga_words::proofs::Writing::writes_then, crate::proofs::FunctionRows::local_row))]
     fn write_local<W: TextSink>(
         &self,
-        alloc: Global,
         scope: &Scope,
         handle: Handle<LocalVariable>,
         out: &mut Output<'_, W>,
@@ -329,15 +314,14 @@ impl FunctionText<'_> {
         out.put("    var ");
         self.write_local_name(handle, out);
         out.put(": ");
-        self.write_type(alloc, local.ty, out);
-        self.write_first_value(alloc, scope, local.init, out);
+        self.write_type(local.ty, out);
+        self.write_first_value(scope, local.init, out);
     }
 
     /// What stands behind the type of a local.
     #[tactic(auto, using(crate::proofs::FunctionRows::first_row))]
     fn write_first_value<W: TextSink>(
         &self,
-        alloc: Global,
         scope: &Scope,
         value: Option<Handle<Expression>>,
         out: &mut Output<'_, W>,
@@ -348,7 +332,7 @@ impl FunctionText<'_> {
         ensures { Writes W.text W.failures out.old out.new (first_text self.now value) }
     {
         match value {
-            Some(value) => self.write_first(alloc, scope, value, out),
+            Some(value) => self.write_first(scope, value, out),
             None => out.put(";\n"),
         }
     }
@@ -356,7 +340,6 @@ impl FunctionText<'_> {
     #[tactic(auto, using(naga_words::proofs::Writing::writes_then, crate::proofs::FunctionRows::first_value_row))]
     fn write_first<W: TextSink>(
         &self,
-        alloc: Global,
         scope: &Scope,
         value: Handle<Expression>,
         out: &mut Output<'_, W>,
@@ -367,7 +350,7 @@ impl FunctionText<'_> {
         ensures { Writes W.text W.failures out.old out.new (first_value_text self.now value) }
     {
         out.put(" = ");
-        self.write_value(alloc, scope, value, out);
+        self.write_value(scope, value, out);
         out.put(";\n");
     }
 }

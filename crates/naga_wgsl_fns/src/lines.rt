@@ -18,7 +18,6 @@ use crate::indent::Indent;
 use naga_ir::{Expression, Handle, Place, Range, Statement};
 use naga_scope::{Scope, binds};
 use naga_words::{Output, TextSink};
-use std::alloc::Global;
 
 impl FunctionText<'_> {
     /// A `let` for each of these expressions that is to be bound. Behind the call, `scope` is what
@@ -26,7 +25,6 @@ impl FunctionText<'_> {
     #[tactic(auto, using(naga_words::proofs::Writing::loop_writes))]
     pub(crate) fn write_emit<W: TextSink>(
         &self,
-        alloc: Global,
         range: Range,
         scope: &mut Scope,
         indent: &Indent,
@@ -51,7 +49,7 @@ impl FunctionText<'_> {
     {
         for index in range.first..range.end {
             let handle = Place::from_index(index);
-            self.write_emitted(alloc, scope, handle, indent, out);
+            self.write_emitted(scope, handle, indent, out);
             scope.emit(&self.shader.types, self.function, self.info, handle);
         }
     }
@@ -60,7 +58,6 @@ impl FunctionText<'_> {
     #[tactic(auto, using(naga_words::proofs::Writing::writes_nothing), unfolding(crate::specs::Statements::emitted_text))]
     fn write_emitted<W: TextSink>(
         &self,
-        alloc: Global,
         scope: &Scope,
         handle: Handle<Expression>,
         indent: &Indent,
@@ -74,13 +71,12 @@ impl FunctionText<'_> {
             (handles_in self.now scope.now.table) indent.now handle) }
     {
         if binds(&self.shader.types, self.function, self.info, handle) {
-            self.write_let(alloc, scope, handle, indent, out);
+            self.write_let(scope, handle, indent, out);
         }
     }
 
     fn write_let<W: TextSink>(
         &self,
-        alloc: Global,
         scope: &Scope,
         handle: Handle<Expression>,
         indent: &Indent,
@@ -94,16 +90,15 @@ impl FunctionText<'_> {
     {
         write_line_start(indent, "let ", out);
         self.write_next_name(scope, handle, out);
-        self.write_let_annotation(alloc, handle, out);
+        self.write_let_annotation(handle, out);
         out.put(" = ");
-        self.write_own(alloc, scope, handle, out);
+        self.write_own(scope, handle, out);
         out.put(";\n");
     }
 
     /// A store: to an atomic by `atomicStore`, else an assignment to what is pointed to.
     pub(crate) fn write_store<W: TextSink>(
         &self,
-        alloc: Global,
         statement: &Statement,
         pointer: Handle<Expression>,
         value: Handle<Expression>,
@@ -119,15 +114,14 @@ impl FunctionText<'_> {
             indent.now (tree_of statement.now)) }
     {
         if self.is_atomic_pointer(pointer) {
-            self.write_act_line(alloc, "atomicStore", statement, scope, indent, out);
+            self.write_act_line("atomicStore", statement, scope, indent, out);
         } else {
-            self.write_assignment(alloc, pointer, value, scope, indent, out);
+            self.write_assignment(pointer, value, scope, indent, out);
         }
     }
 
     fn write_assignment<W: TextSink>(
         &self,
-        alloc: Global,
         pointer: Handle<Expression>,
         value: Handle<Expression>,
         scope: &Scope,
@@ -142,15 +136,14 @@ impl FunctionText<'_> {
             value) }
     {
         out.put(indent.as_str());
-        self.write_reference(alloc, scope, pointer, out);
+        self.write_reference(scope, pointer, out);
         out.put(" = ");
-        self.write_value(alloc, scope, value, out);
+        self.write_value(scope, value, out);
         out.put(";\n");
     }
 
     pub(crate) fn write_return<W: TextSink>(
         &self,
-        alloc: Global,
         scope: &Scope,
         value: Option<Handle<Expression>>,
         indent: &Indent,
@@ -163,7 +156,7 @@ impl FunctionText<'_> {
             indent.now (simple (return value))) }
     {
         match value {
-            Some(value) => self.write_around(alloc, "return ", value, ";\n", scope, indent, out),
+            Some(value) => self.write_around("return ", value, ";\n", scope, indent, out),
             None => write_line_start(indent, "return;\n", out),
         }
     }
@@ -171,7 +164,6 @@ impl FunctionText<'_> {
     /// A value between what a line starts with and what it ends with.
     pub(crate) fn write_around<W: TextSink>(
         &self,
-        alloc: Global,
         start: &str,
         value: Handle<Expression>,
         end: &str,
@@ -186,7 +178,7 @@ impl FunctionText<'_> {
             end.now) }
     {
         write_line_start(indent, start, out);
-        self.write_value(alloc, scope, value, out);
+        self.write_value(scope, value, out);
         out.put(end);
     }
 }

@@ -18,7 +18,6 @@ use crate::lines::write_line_start;
 use naga_ir::{Block, Expression, Handle};
 use naga_scope::{Scope, split_at_continue};
 use naga_words::{Output, TextSink};
-use std::alloc::Global;
 
 impl FunctionText<'_> {
     /// A loop. The scope stays.
@@ -26,7 +25,6 @@ impl FunctionText<'_> {
     #[tactic(auto, using(naga_words::proofs::Writing::writes_then, crate::proofs::LoopRows::loop_row))]
     pub(crate) fn write_loop<W: TextSink>(
         &self,
-        alloc: Global,
         body: &Block,
         continuing: &Block,
         break_if: Option<Handle<Expression>>,
@@ -50,7 +48,7 @@ impl FunctionText<'_> {
         ensures indent { indent.new ≡ indent.old }
     {
         write_line_start(indent, "loop {\n", out);
-        self.write_turn(alloc, body, continuing, break_if, scope, indent, out);
+        self.write_turn(body, continuing, break_if, scope, indent, out);
         write_line_start(indent, "}\n", out);
     }
 
@@ -58,7 +56,6 @@ impl FunctionText<'_> {
     #[cycle(statement)]
     fn write_turn<W: TextSink>(
         &self,
-        alloc: Global,
         body: &Block,
         continuing: &Block,
         break_if: Option<Handle<Expression>>,
@@ -82,14 +79,13 @@ impl FunctionText<'_> {
         ensures indent { indent.new ≡ indent.old }
     {
         let mark = scope.mark();
-        self.write_turn_deeper(alloc, body, continuing, break_if, scope, indent, out);
+        self.write_turn_deeper(body, continuing, break_if, scope, indent, out);
         scope.back_to(mark);
     }
 
     #[cycle(statement)]
     fn write_turn_deeper<W: TextSink>(
         &self,
-        alloc: Global,
         body: &Block,
         continuing: &Block,
         break_if: Option<Handle<Expression>>,
@@ -114,7 +110,7 @@ impl FunctionText<'_> {
     {
         let level = indent.level();
         indent.deepen(out);
-        self.write_turn_here(alloc, body, continuing, break_if, scope, indent, out);
+        self.write_turn_here(body, continuing, break_if, scope, indent, out);
         indent.back_to(level);
     }
 
@@ -122,7 +118,6 @@ impl FunctionText<'_> {
     #[tactic(auto, using(naga_words::proofs::Writing::writes_then, crate::proofs::LoopRows::turn_row, naga_scope::proofs::Logs::reverts_then, crate::proofs::StatementParts::turns))]
     fn write_turn_here<W: TextSink>(
         &self,
-        alloc: Global,
         body: &Block,
         continuing: &Block,
         break_if: Option<Handle<Expression>>,
@@ -145,8 +140,8 @@ impl FunctionText<'_> {
             (statement_changes (loop body.now continuing.now break_if)) }
         ensures indent { indent.new ≡ indent.old }
     {
-        self.write_loop_body(alloc, body, scope, indent, out);
-        self.write_continuing(alloc, continuing, break_if, scope, indent, out);
+        self.write_loop_body(body, scope, indent, out);
+        self.write_continuing(continuing, break_if, scope, indent, out);
     }
 
     /// A loop's body. Behind the call, `scope` is what is in scope in `continuing`.
@@ -154,7 +149,6 @@ impl FunctionText<'_> {
     #[tactic(auto, using(naga_words::proofs::Writing::writes_then))]
     fn write_loop_body<W: TextSink>(
         &self,
-        alloc: Global,
         body: &Block,
         scope: &mut Scope,
         indent: &mut Indent,
@@ -176,9 +170,9 @@ impl FunctionText<'_> {
         ensures indent { indent.new ≡ indent.old }
     {
         let (before, from) = split_at_continue(body);
-        self.write_lines(alloc, before, scope, indent, out);
+        self.write_lines(before, scope, indent, out);
         let mark = scope.mark();
-        self.write_lines(alloc, from, scope, indent, out);
+        self.write_lines(from, scope, indent, out);
         scope.forget_from(mark);
     }
 
@@ -188,7 +182,6 @@ impl FunctionText<'_> {
     #[tactic(auto, using(naga_scope::proofs::Logs::reverts_same))]
     fn write_continuing<W: TextSink>(
         &self,
-        alloc: Global,
         continuing: &Block,
         break_if: Option<Handle<Expression>>,
         scope: &mut Scope,
@@ -209,10 +202,8 @@ impl FunctionText<'_> {
         ensures indent { indent.new ≡ indent.old }
     {
         match break_if {
-            Some(condition) => {
-                self.write_break_if(alloc, continuing, condition, scope, indent, out)
-            }
-            None => self.write_plain_continuing(alloc, continuing, scope, indent, out),
+            Some(condition) => { self.write_break_if(continuing, condition, scope, indent, out) }
+            None => self.write_plain_continuing(continuing, scope, indent, out),
         }
     }
 
@@ -220,7 +211,6 @@ impl FunctionText<'_> {
     #[tactic(auto, using(naga_words::proofs::Writing::writes_nothing, crate::proofs::LoopRows::continuing_row, crate::proofs::LoopRows::no_continuing))]
     fn write_plain_continuing<W: TextSink>(
         &self,
-        alloc: Global,
         continuing: &Block,
         scope: &mut Scope,
         indent: &mut Indent,
@@ -241,7 +231,7 @@ impl FunctionText<'_> {
         if continuing.is_empty() {
             return;
         }
-        self.write_braces(alloc, "continuing {\n", continuing, scope, indent, out);
+        self.write_braces("continuing {\n", continuing, scope, indent, out);
     }
 
     /// `continuing` with a `break if`.
@@ -249,7 +239,6 @@ impl FunctionText<'_> {
     #[tactic(auto, using(naga_words::proofs::Writing::writes_then, crate::proofs::LoopRows::break_if_row))]
     fn write_break_if<W: TextSink>(
         &self,
-        alloc: Global,
         continuing: &Block,
         condition: Handle<Expression>,
         scope: &mut Scope,
@@ -270,7 +259,7 @@ impl FunctionText<'_> {
         ensures indent { indent.new ≡ indent.old }
     {
         write_line_start(indent, "continuing {\n", out);
-        self.write_last_deeper(alloc, continuing, condition, scope, indent, out);
+        self.write_last_deeper(continuing, condition, scope, indent, out);
         write_line_start(indent, "}\n", out);
     }
 
@@ -278,7 +267,6 @@ impl FunctionText<'_> {
     #[cycle(statement)]
     fn write_last_deeper<W: TextSink>(
         &self,
-        alloc: Global,
         continuing: &Block,
         condition: Handle<Expression>,
         scope: &mut Scope,
@@ -300,7 +288,7 @@ impl FunctionText<'_> {
     {
         let level = indent.level();
         indent.deepen(out);
-        self.write_last(alloc, continuing, condition, scope, indent, out);
+        self.write_last(continuing, condition, scope, indent, out);
         indent.back_to(level);
     }
 
@@ -308,7 +296,6 @@ impl FunctionText<'_> {
     #[tactic(auto, using(naga_words::proofs::Writing::writes_then, crate::proofs::LoopRows::last_row))]
     fn write_last<W: TextSink>(
         &self,
-        alloc: Global,
         continuing: &Block,
         condition: Handle<Expression>,
         scope: &mut Scope,
@@ -328,7 +315,7 @@ impl FunctionText<'_> {
         ensures counted { Counted scope.old scope.new (block_changes continuing.now) }
         ensures indent { indent.new ≡ indent.old }
     {
-        self.write_loop_body(alloc, continuing, scope, indent, out);
-        self.write_around(alloc, "break if ", condition, ";\n", scope, indent, out);
+        self.write_loop_body(continuing, scope, indent, out);
+        self.write_around("break if ", condition, ";\n", scope, indent, out);
     }
 }

@@ -18,7 +18,6 @@ use crate::lines::write_line_start;
 use naga_ir::Statement;
 use naga_scope::Scope;
 use naga_words::{Output, TextSink};
-use std::alloc::Global;
 
 // Each of these calls goes on behind a want as if there were none, so that what it says of the
 // scope holds in any case; no expression is looked at then.
@@ -28,7 +27,6 @@ impl FunctionText<'_> {
     #[tactic(auto, using(naga_words::proofs::Writing::loop_writes, crate::proofs::StatementRows::lines, crate::proofs::StatementParts::first_at, naga_scope::proofs::Logs::extending))]
     pub(crate) fn write_lines<W: TextSink>(
         &self,
-        alloc: Global,
         statements: &[Statement],
         scope: &mut Scope,
         indent: &mut Indent,
@@ -51,7 +49,7 @@ impl FunctionText<'_> {
         ensures indent { indent.new ≡ indent.old }
     {
         for statement in statements {
-            self.write_statement(alloc, statement, scope, indent, out);
+            self.write_statement(statement, scope, indent, out);
         }
     }
 
@@ -60,7 +58,6 @@ impl FunctionText<'_> {
     #[tactic(auto, using(crate::proofs::StatementRows::jumps, naga_scope::proofs::Logs::extends_refl, naga_scope::proofs::Logs::extends_same))]
     fn write_statement<W: TextSink>(
         &self,
-        alloc: Global,
         statement: &Statement,
         scope: &mut Scope,
         indent: &mut Indent,
@@ -83,31 +80,31 @@ impl FunctionText<'_> {
         ensures indent { indent.new ≡ indent.old }
     {
         match statement {
-            Statement::Emit(range) => self.write_emit(alloc, *range, scope, indent, out),
-            Statement::Block(nested) => self.write_nested(alloc, nested, scope, indent, out),
+            Statement::Emit(range) => self.write_emit(*range, scope, indent, out),
+            Statement::Block(nested) => self.write_nested(nested, scope, indent, out),
             Statement::If {
                 condition,
                 accept,
                 reject,
-            } => self.write_if(alloc, *condition, accept, reject, scope, indent, out),
+            } => self.write_if(*condition, accept, reject, scope, indent, out),
             Statement::Switch { selector, cases } => {
-                self.write_switch(alloc, *selector, cases, scope, indent, out)
+                self.write_switch(*selector, cases, scope, indent, out)
             }
             Statement::Loop {
                 body,
                 continuing,
                 break_if,
-            } => self.write_loop(alloc, body, continuing, *break_if, scope, indent, out),
+            } => self.write_loop(body, continuing, *break_if, scope, indent, out),
             Statement::Break => write_line_start(indent, "break;\n", out),
             Statement::Continue => write_line_start(indent, "continue;\n", out),
-            Statement::Return { value } => self.write_return(alloc, scope, *value, indent, out),
+            Statement::Return { value } => self.write_return(scope, *value, indent, out),
             Statement::Kill => write_line_start(indent, "discard;\n", out),
             Statement::ControlBarrier(kept) => write_barrier(*kept, indent, out),
             Statement::MemoryBarrier(kept) => write_barrier(*kept, indent, out),
             Statement::Store { pointer, value } => {
-                self.write_store(alloc, statement, *pointer, *value, scope, indent, out)
+                self.write_store(statement, *pointer, *value, scope, indent, out)
             }
-            _ => self.write_act(alloc, statement, scope, indent, out),
+            _ => self.write_act(statement, scope, indent, out),
         }
     }
 }

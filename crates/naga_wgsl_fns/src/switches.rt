@@ -22,7 +22,6 @@ use crate::literal::write_number;
 use naga_ir::{Block, Expression, Handle, SwitchCase, SwitchValue};
 use naga_scope::Scope;
 use naga_words::{Output, TextSink};
-use std::alloc::Global;
 
 impl FunctionText<'_> {
     /// A switch. The scope stays.
@@ -30,7 +29,6 @@ impl FunctionText<'_> {
     #[tactic(auto, using(naga_words::proofs::Writing::writes_then, crate::proofs::SwitchRows::switch_row, crate::proofs::StatementParts::selector_inside, crate::proofs::StatementParts::cases_inside))]
     pub(crate) fn write_switch<W: TextSink>(
         &self,
-        alloc: Global,
         selector: Handle<Expression>,
         cases: &[SwitchCase],
         scope: &mut Scope,
@@ -52,8 +50,8 @@ impl FunctionText<'_> {
             (statement_changes (switch selector (cases_of cases.now))) }
         ensures indent { indent.new ≡ indent.old }
     {
-        self.write_around(alloc, "switch ", selector, " {\n", scope, indent, out);
-        self.write_cases_deeper(alloc, cases, scope, indent, out);
+        self.write_around("switch ", selector, " {\n", scope, indent, out);
+        self.write_cases_deeper(cases, scope, indent, out);
         write_line_start(indent, "}\n", out);
     }
 
@@ -61,7 +59,6 @@ impl FunctionText<'_> {
     #[cycle(statement)]
     fn write_cases_deeper<W: TextSink>(
         &self,
-        alloc: Global,
         cases: &[SwitchCase],
         scope: &mut Scope,
         indent: &mut Indent,
@@ -82,7 +79,7 @@ impl FunctionText<'_> {
     {
         let level = indent.level();
         indent.deepen(out);
-        self.write_cases(alloc, cases, scope, indent, out);
+        self.write_cases(cases, scope, indent, out);
         indent.back_to(level);
     }
 
@@ -92,7 +89,6 @@ impl FunctionText<'_> {
     #[tactic(auto, using(naga_words::proofs::Writing::loop_writes))]
     fn write_cases<W: TextSink>(
         &self,
-        alloc: Global,
         cases: &[SwitchCase],
         scope: &mut Scope,
         indent: &mut Indent,
@@ -114,7 +110,7 @@ impl FunctionText<'_> {
         let mut first = 0;
         for index in 0..cases.len() {
             let case = &cases[index];
-            self.write_case(alloc, &cases[first..index], case, scope, indent, out);
+            self.write_case(&cases[first..index], case, scope, indent, out);
             first = first_waiting(case, first, index);
         }
     }
@@ -124,7 +120,6 @@ impl FunctionText<'_> {
     #[tactic(auto, using(naga_words::proofs::Writing::writes_nothing), unfolding(crate::specs::Statements::case_text))]
     fn write_case<W: TextSink>(
         &self,
-        alloc: Global,
         waiting: &[SwitchCase],
         case: &SwitchCase,
         scope: &mut Scope,
@@ -146,7 +141,7 @@ impl FunctionText<'_> {
         ensures indent { indent.new ≡ indent.old }
     {
         if !case.fall_through {
-            self.write_group(alloc, waiting, case.value, &case.body, scope, indent, out);
+            self.write_group(waiting, case.value, &case.body, scope, indent, out);
         }
     }
 
@@ -155,7 +150,6 @@ impl FunctionText<'_> {
     #[tactic(auto, using(naga_words::proofs::Writing::writes_then, crate::proofs::SwitchRows::group_row))]
     fn write_group<W: TextSink>(
         &self,
-        alloc: Global,
         waiting: &[SwitchCase],
         value: SwitchValue,
         body: &Block,
@@ -178,7 +172,7 @@ impl FunctionText<'_> {
         out.put(indent.as_str());
         write_group_start(waiting, value, out);
         out.put(" {\n");
-        self.write_inner(alloc, body, scope, indent, out);
+        self.write_inner(body, scope, indent, out);
         write_line_start(indent, "}\n", out);
     }
 }
