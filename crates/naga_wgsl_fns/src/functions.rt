@@ -10,7 +10,6 @@ ghost use Rattle.module_meaning.specs.FunctionNumbers.{IsFunctionOf, function_nu
 ghost use Rattle.module_meaning.specs.Names.{HasNamesOf};
 ghost use Rattle.naga_names.specs.Keys.{names_in};
 ghost use Rattle.naga_scope.specs.Changes.{block_changes};
-ghost use Rattle.naga_scope.specs.Log.{HasRoom};
 ghost use Rattle.naga_scope.specs.Plans.{IsPlanOf};
 ghost use Rattle.naga_scope.specs.Tables.{AreTablesOf};
 ghost use Rattle.naga_words.specs.Output.{Writes};
@@ -19,10 +18,11 @@ ghost use Rattle.naga_wgsl_fns.specs.Errors.{IsWant};
 ghost use Rattle.naga_wgsl_fns.specs.FunctionText.{CanWrite};
 ghost use Rattle.naga_back.specs.Flags.{annotates_types};
 ghost use Rattle.naga_wgsl_fns.specs.FunctionText.{AreInText, IsInText};
-ghost use Rattle.naga_wgsl_fns.specs.FunctionText.{handles_in, number};
+ghost use Rattle.naga_wgsl_fns.specs.FunctionText.{number};
+ghost use Rattle.naga_wgsl_fns.specs.Positions.{HasScope, text_at};
 ghost use Rattle.naga_wgsl_fns.specs.Statements.{block_text};
 ghost use Rattle.std.specs.Option.{option_map_or, option_to_list};
-ghost use Rattle.naga_wgsl_fns.specs.Functions.{StartsAt, answer_text, argument_text};
+ghost use Rattle.naga_wgsl_fns.specs.Functions.{IsAtStart, StartsAt, answer_text, argument_text};
 ghost use Rattle.naga_wgsl_fns.specs.Functions.{arguments_text, body_text, first_text};
 ghost use Rattle.naga_wgsl_fns.specs.Functions.{first_value_text, function_text, group_end_text};
 ghost use Rattle.naga_wgsl_fns.specs.Functions.{head_text, item_text, local_text, locals_text};
@@ -33,6 +33,7 @@ use crate::Error;
 use crate::bindings::write_passing;
 use crate::error::error_of_want;
 use crate::indent::Indent;
+use crate::lines::Position;
 use naga_back::{FunctionType, WriterFlags};
 use naga_info::{FunctionInfo, ModuleInfo};
 use naga_ir::{
@@ -84,7 +85,7 @@ pub fn write_planned<'a, W: TextSink>(
     ensures reason { IfErr result (IsWant (W.failures out.old) (W.failures out.new)) }
 {
     let (function, function_info) = function_of(module, info, *ty);
-    let (mut scope, named) = plan.into_parts();
+    let (scope, named) = plan.into_parts();
     let text = FunctionText {
         alloc,
         shader: module,
@@ -97,8 +98,10 @@ pub fn write_planned<'a, W: TextSink>(
         function,
         info: function_info,
     };
+    let indent = Indent::new(alloc);
+    let mut at = Position { scope, indent };
     let mut written = Output::new(out);
-    text.write_item(&mut scope, &mut written);
+    text.write_item(&mut at, &mut written);
     match written.outcome() {
         Ok(()) => Ok(()),
         Err(want) => Err(error_of_want(want)),
@@ -124,18 +127,16 @@ pub(crate) struct FunctionText<'a> {
 }
 
 impl FunctionText<'_> {
-    /// The whole function, behind its stage. `scope` is what is in scope at its start.
+    /// The whole function, behind its stage. The scope is that at its start.
     #[tactic(auto, using(naga_words::proofs::Writing::writes_then, crate::proofs::FunctionRows::item_row))]
-    fn write_item<W: TextSink>(&self, scope: &mut Scope, out: &mut Output<'_, W>)
+    fn write_item<W: TextSink>(&self, at: &mut Position, out: &mut Output<'_, W>)
         requires can { CanWrite self.now }
-        requires start { StartsAt self.now scope.old.table }
-        requires named { scope.old.named ≡ 0 }
-        requires size { length scope.old.table ≡ length self.now.function.now.expressions }
-        requires room { HasRoom scope.old (block_changes self.now.function.now.body) }
+        requires start { IsAtStart self.now at.old.scope }
+        requires level { at.old.indent ≡ 0 }
         ensures { Writes W.text W.failures out.old out.new (item_text self.now) }
     {
         self.write_own_stage(out);
-        self.write_declaration(scope, out);
+        self.write_declaration(at, out);
     }
 
     /// The attributes of an entry point's stage, on a line of their own; nothing for a function that
@@ -155,18 +156,16 @@ impl FunctionText<'_> {
         }
     }
 
-    /// The function by itself. `scope` is what is in scope at its start.
+    /// The function by itself. The scope is that at its start.
     #[tactic(auto, using(naga_words::proofs::Writing::writes_then, crate::proofs::FunctionRows::function_row))]
-    fn write_declaration<W: TextSink>(&self, scope: &mut Scope, out: &mut Output<'_, W>)
+    fn write_declaration<W: TextSink>(&self, at: &mut Position, out: &mut Output<'_, W>)
         requires can { CanWrite self.now }
-        requires start { StartsAt self.now scope.old.table }
-        requires named { scope.old.named ≡ 0 }
-        requires size { length scope.old.table ≡ length self.now.function.now.expressions }
-        requires room { HasRoom scope.old (block_changes self.now.function.now.body) }
+        requires start { IsAtStart self.now at.old.scope }
+        requires level { at.old.indent ≡ 0 }
         ensures { Writes W.text W.failures out.old out.new (function_text self.now) }
     {
         self.write_head(out);
-        self.write_body(scope, out);
+        self.write_body(at, out);
     }
 
     /// What stands before the locals.
@@ -257,32 +256,29 @@ impl FunctionText<'_> {
         self.write_type(answer.ty, out);
     }
 
-    /// What stands behind the head. `scope` is what is in scope at the start.
+    /// What stands behind the head. The scope is that at the function's start.
     #[tactic(auto, using(naga_words::proofs::Writing::writes_then, crate::proofs::FunctionRows::body_row))]
-    fn write_body<W: TextSink>(&self, scope: &mut Scope, out: &mut Output<'_, W>)
+    fn write_body<W: TextSink>(&self, at: &mut Position, out: &mut Output<'_, W>)
         requires can { CanWrite self.now }
-        requires start { StartsAt self.now scope.old.table }
-        requires named { scope.old.named ≡ 0 }
-        requires size { length scope.old.table ≡ length self.now.function.now.expressions }
-        requires room { HasRoom scope.old (block_changes self.now.function.now.body) }
+        requires start { IsAtStart self.now at.old.scope }
+        requires level { at.old.indent ≡ 0 }
         ensures { Writes W.text W.failures out.old out.new (body_text self.now) }
     {
-        self.write_locals(scope, out);
-        self.write_statements(scope, out);
+        self.write_locals(&at.scope, out);
+        self.write_statements(at, out);
         out.put("}\n");
     }
 
     /// The statements, one level deep.
-    fn write_statements<W: TextSink>(&self, scope: &mut Scope, out: &mut Output<'_, W>)
+    fn write_statements<W: TextSink>(&self, at: &mut Position, out: &mut Output<'_, W>)
         requires can { CanWrite self.now }
-        requires size { length scope.old.table ≡ length self.now.function.now.expressions }
-        requires room { HasRoom scope.old (block_changes self.now.function.now.body) }
-        ensures { Writes W.text W.failures out.old out.new (block_text self.now scope.old.named
-            (handles_in self.now scope.old.table) 1 self.now.function.now.body) }
+        requires scope { HasScope self.now at.old.scope (block_changes self.now.function.now.body) }
+        requires level { at.old.indent ≡ 0 }
+        ensures { Writes W.text W.failures out.old out.new
+            (text_at self.now at.old.scope block_text 1 self.now.function.now.body) }
     {
-        let mut indent = Indent::new(self.alloc);
-        indent.deepen(out);
-        self.write_here(&self.function.body, scope, &mut indent, out);
+        at.indent.deepen(out);
+        self.write_here(&self.function.body, at, out);
     }
 
     /// The locals, and an empty line behind them if there are any.
