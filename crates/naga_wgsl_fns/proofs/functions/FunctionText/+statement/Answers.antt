@@ -11,6 +11,8 @@ use Rattle.naga_scope.specs.Changes.{block_changes, cases_changes}
 use Rattle.naga_words.proofs.Writing.{leaves_more, leaves_none, writes_as, writes_then}
 use Rattle.naga_wgsl_fns.specs.FunctionText.{CanWriteCases, context, handles_in, named_in, naming}
 use Rattle.naga_form.specs.Statements.{label_form}
+use Rattle.naga_wgsl_fns.specs.Positions.{PassesBlock}
+use Rattle.naga_wgsl_fns.specs.declared.lines.Position.{Position}
 use Rattle.naga_wgsl_fns.specs.Statements.{after_statements, block_text, case_text, cases_text, last_text, line_start, named_behind, named_behind_cases, statement_text, turn_text}
 use Rattle.naga_wgsl_fns.proofs.ActRows.{control_row, memory_row}
 use Rattle.naga_wgsl_fns.proofs.LoopRows.{body_row, break_if_row, continuing_row}
@@ -105,8 +107,10 @@ write_lines-returns-clause-passed g t c =
 
 pub write_here-returns-clause-passed : goal.write_here-returns-clause-passed
 write_here-returns-clause-passed g t c =
-    passed_back c.back_to.new.self c.write_lines.ensures.passed
-    (c.back_to.ensures.restores _ c.mark-mark.ensures (reverts c.write_lines.ensures.kept)) c.back_to.ensures.named
+    let after : Position = record { scope = c.back_to.new.self; indent = c.write_lines.new.at.indent } in
+    subst (PassesBlock c.args.self.now c.args.at.now after) c.as_slice.ensures
+    (passed_back c.back_to.new.self c.write_lines.ensures.passed
+    (c.back_to.ensures.restores _ c.mark-mark.ensures (reverts c.write_lines.ensures.kept)) c.back_to.ensures.named)
 
 pub write_if-returns-clause-passed : goal.write_if-returns-clause-passed
 write_if-returns-clause-passed g t c =
