@@ -7,34 +7,31 @@ use Rattle.std.specs.List.{list_all}
 use Rattle.std.specs.Option.{is_some, option_map_or, option_to_list}
 use Rattle.std.proofs.lemmas.Bool.{and_parts}
 use Rattle.std.proofs.lemmas.List.{append-nil}
-use Rattle.module_meaning.specs.ExpressionOperators.{level_of, query_operator}
-use Rattle.module_meaning.specs.ExpressionOperators.{sample_operator, texel_of}
-use Rattle.module_meaning.specs.OperatorTable.{Sample, Splat, Texel, has_word, if_word, run_word}
+use Rattle.module_meaning.specs.ExpressionOperators.{level_of, sample_operator}
+use Rattle.module_meaning.specs.OperatorTable.{Sample, Splat, if_word, run_word}
 use Rattle.module_meaning.specs.OperatorTable.{zero_is_written}
 use Rattle.module_meaning.specs.WrittenOut.{is_written_out, written_out_over, written_out_within}
-use Rattle.naga_form.proofs.Operators.{query_is_called}
 use Rattle.naga_form.specs.ConstantForms.{constant_form_over, constant_form_within, no_constant_form}
 use Rattle.naga_form.specs.ConstantForms.{built_form}
 use Rattle.naga_form.specs.Expressions.{as_value, constant_form, own_if, own_plain}
 use Rattle.naga_form.specs.Expressions.{value_forms, zero_is_whole}
 use Rattle.naga_form.specs.Images.{component_number, component_then, gathered_component}
 use Rattle.naga_form.specs.Images.{operands_then, sampling_form, sampling_word, zero_then}
-use Rattle.naga_form.specs.Operators.{applied_form, notation, Called}
-use Rattle.naga_ir.specs.Operands.{expression_operands, level_operands, query_operands}
+use Rattle.naga_form.specs.Operators.{applied_form, notation}
+use Rattle.naga_ir.specs.Operands.{expression_operands, level_operands}
 use Rattle.naga_ir.specs.declared.expression.Expression as ir
 use Rattle.naga_ir.specs.declared.expression.Expression.TheVariants as expression
-use Rattle.naga_ir.specs.declared.expression.ImageQuery.{ImageQuery}
 use Rattle.naga_ir.specs.declared.expression.SampleLevel.{SampleLevel}
 use Rattle.naga_ir.specs.declared.expression.SwizzleComponent.{SwizzleComponent}
 use Rattle.naga_ir.specs.declared.expression.SwizzleComponent.TheVariants as component
 use Rattle.std.specs.Fmt.{digits}
 use Rattle.naga_scope.specs.declared.points.Availability.{Availability}
 use Rattle.naga_words.specs.Output.{joined_texts}
-use Rattle.naga_wgsl_fns.proofs.ExpressionRows.{application_at, cell_form}
-use Rattle.naga_wgsl_fns.proofs.Wanted.{all_before, written_as}
-use Rattle.naga_wgsl_fns.specs.Expressions.{applied_text, form_at, next_operand_text}
+use Rattle.naga_wgsl_fns.proofs.ExpressionRows.{cell_form}
+use Rattle.naga_wgsl_fns.proofs.Wanted.{all_before}
+use Rattle.naga_wgsl_fns.specs.Expressions.{form_at, next_operand_text}
 use Rattle.naga_wgsl_fns.specs.Expressions.{own_text, value_text}
-use Rattle.naga_wgsl_fns.specs.FunctionText.{CanWrite, IsInText, context, expressions, naming, source}
+use Rattle.naga_wgsl_fns.specs.FunctionText.{CanWrite, context, expressions, naming, source}
 use Rattle.naga_wgsl_fns.specs.FunctionText.{type_names_of}
 use Rattle.naga_wgsl_fns.specs.Images.{component_text, depths_at, furthers_text, head_text}
 use Rattle.naga_wgsl_fns.specs.Images.{level_text, offset_text, zero_text}
@@ -49,30 +46,6 @@ use Rattle.wgsl_text.specs.Expressions.{operands as arguments_of}
 use Rattle.wgsl_text.specs.Reading.{expression_layout}
 use Rattle.wgsl_text.specs.Text.{text}
 use Rattle.wgsl_text.specs.Types.{Named}
-
--- ---- words
-pub texel_row : (arrayed : Bool) (sample level : Option ℕ) →
-    has_word (Texel arrayed (texel_of (is_some sample) (is_some level))) ≡ true →
-    codes "textureLoad" ≡ run_word (Texel arrayed (texel_of (is_some sample) (is_some level)))
-texel_row arrayed None None is = refl
-texel_row arrayed None (Some l) is = refl
-texel_row arrayed (Some s) None is = refl
-texel_row arrayed (Some s) (Some l) is = absurd cc
-
-pub texel_word : (f : FunctionText) → CanWrite f → {h : ℕ} {e : ir.Expression}
-    {image coordinate : ℕ} {array_index sample level : Option ℕ} →
-    slice_get (expressions f) h ≡ Some e → IsInText f h →
-    e ≡ expression.ImageLoad image coordinate array_index sample level →
-    codes "textureLoad" ≡
-    run_word (Texel (is_some array_index) (texel_of (is_some sample) (is_some level)))
-texel_word f can {h} {e} {image} {coordinate} {array_index} {sample} {level} here within is =
-    texel_row (is_some array_index) sample level (written_as f can here within is)
-
-pub query_called : (f : FunctionText) (table : List Availability) (image : ℕ) (q : ImageQuery) →
-    application_at f table None (image ∷ query_operands q) (Some (query_operator q)) ≡
-    applied_text f table (Called (Named (run_word (query_operator q)))) (image ∷ query_operands q)
-query_called f table image q =
-    ap (λ n. applied_text f table n (image ∷ query_operands q)) (query_is_called q None)
 
 -- ---- constants that are written out
 -- Where nothing has a name, what may be written out has the form of a constant.
@@ -287,6 +260,20 @@ unfolding head_text joined_texts
 head_row f image gather l compares clamped = refl
 
 -- ---- samplings
+-- one in turn, by whether something is compared and by the text of its level
+abbrev in_turn : (f : FunctionText) (table : List Availability) (image sampler : ℕ)
+    (gather : Option SwizzleComponent) (coordinate : ℕ) (array_index offset : Option ℕ)
+    (l : SampleLevel) (depth_ref : Option ℕ) (clamp compares : Bool) (level : List ℕ) → List ℕ
+in_turn f table image sampler gather coordinate array_index offset l depth_ref clamp compares level =
+    joined_texts (head_text f image gather l compares clamp)
+    (joined_texts (value_text f table image)
+    (joined_texts (next_operand_text f table false sampler)
+    (joined_texts (next_operand_text f table false coordinate)
+    (joined_texts (furthers_text f table (option_to_list array_index))
+    (joined_texts (furthers_text f table (option_to_list depth_ref))
+    (joined_texts (furthers_text f table (level_operands l))
+    (joined_texts level (joined_texts (offset_text f offset) (codes ")")))))))))
+
 pub sampling_row : (f : FunctionText) (table : List Availability) (handle : ℕ) (image sampler : ℕ)
     (gather : Option SwizzleComponent) (coordinate : ℕ) (array_index offset : Option ℕ)
     (l : SampleLevel) (depth_ref : Option ℕ) (clamp : Bool) →
@@ -294,15 +281,8 @@ pub sampling_row : (f : FunctionText) (table : List Availability) (handle : ℕ)
     Some
     (expression.ImageSample image sampler gather coordinate array_index offset l depth_ref clamp) →
     own_text f table handle ≡
-    joined_texts (head_text f image gather l (is_some depth_ref) clamp)
-    (joined_texts (value_text f table image)
-    (joined_texts (next_operand_text f table false sampler)
-    (joined_texts (next_operand_text f table false coordinate)
-    (joined_texts (furthers_text f table (option_to_list array_index))
-    (joined_texts (furthers_text f table (option_to_list depth_ref))
-    (joined_texts (furthers_text f table (level_operands l))
-    (joined_texts (level_text f image l (is_some gather || (is_some depth_ref || clamp)))
-    (joined_texts (offset_text f offset) (codes ")")))))))))
+    in_turn f table image sampler gather coordinate array_index offset l depth_ref clamp
+    (is_some depth_ref) (level_text f image l (is_some gather || (is_some depth_ref || clamp)))
 unfolding own_text value_text
 sampling_row f table handle image sampler gather coordinate array_index offset l depth_ref clamp at =
     let form = form_at f table in
@@ -353,27 +333,12 @@ pub sampling_whole : (f : FunctionText) (table : List Availability) (handle : �
     (expression.ImageSample image sampler gather coordinate array_index offset l depth_ref clamp) →
     (compares : Bool) → compares ≡ is_some depth_ref → (w : List ℕ) →
     w ≡ level_text f image l (is_some gather || (compares || clamp)) →
-    joined_texts (head_text f image gather l compares clamp)
-    (joined_texts (value_text f table image)
-    (joined_texts (next_operand_text f table false sampler)
-    (joined_texts (next_operand_text f table false coordinate)
-    (joined_texts (furthers_text f table (option_to_list array_index))
-    (joined_texts (furthers_text f table (option_to_list depth_ref))
-    (joined_texts (furthers_text f table (level_operands l))
-    (joined_texts w (joined_texts (offset_text f offset) (codes ")"))))))))) ≡
+    in_turn f table image sampler gather coordinate array_index offset l depth_ref clamp compares w ≡
     own_text f table handle
 sampling_whole f table handle image sampler gather coordinate array_index offset l depth_ref clamp at
     compares is w level_is =
     ap₂
-    (λ b w.
-    joined_texts (head_text f image gather l b clamp)
-    (joined_texts (value_text f table image)
-    (joined_texts (next_operand_text f table false sampler)
-    (joined_texts (next_operand_text f table false coordinate)
-    (joined_texts (furthers_text f table (option_to_list array_index))
-    (joined_texts (furthers_text f table (option_to_list depth_ref))
-    (joined_texts (furthers_text f table (level_operands l))
-    (joined_texts w (joined_texts (offset_text f offset) (codes ")"))))))))))
+    (λ b w. in_turn f table image sampler gather coordinate array_index offset l depth_ref clamp b w)
     is (level_is ∙ ap (λ b. level_text f image l (is_some gather || (b || clamp))) is)
     ∙ sym
     (sampling_row f table handle image sampler gather coordinate array_index offset l depth_ref clamp

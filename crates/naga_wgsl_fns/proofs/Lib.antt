@@ -22,6 +22,7 @@ pub mod NameRows
 pub mod OwnNames
 pub mod PartForms
 pub mod PartRows
+pub mod Passing
 pub mod PlanRefusals
 pub mod RepresentativeRows
 pub mod SingleBindings

@@ -223,6 +223,18 @@ act_after f k s st act =
     let is = asks (context f) st act in
     ap (λ o. after_result (naming f).names o s) (sym is.outcome) ∙ shape_after f k s (statement_shape (context f) st) is.acts
 
+shape_named : (f : FunctionText) (k : ℕ) (shape : shapes.Statement) → IsTrue (acts shape) → named_by (naming f).function shape k ≡ k
+shape_named f k (shapes.Act action xs outcome) act = refl
+shape_named f k _ act = absurd cc
+
+pub act_named : (f : FunctionText) (k : ℕ) (st : StatementTree) → IsTrue (is_act st) → named_behind_statement f st k ≡ k
+act_named f k st act = shape_named f k (statement_shape (context f) st) (asks (context f) st act).acts
+
+pub act_changes : (st : StatementTree) → IsTrue (is_act st) → statement_changes st ≡ length (option_to_list (own_result st))
+act_changes (simple (emit first last)) act = absurd cc
+act_changes (simple _) act = refl
+act_changes _ act = absurd cc
+
 -- and writes its operands
 pub act_roots : (binds : ℕ → Bool) (st : StatementTree) → IsTrue (is_act st) → statement_roots binds st ≡ own_operands st
 act_roots binds (simple (emit first last)) act = absurd cc

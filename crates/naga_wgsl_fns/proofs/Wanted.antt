@@ -6,7 +6,7 @@ use Rattle.std.proofs.lemmas.Option.{same_Some}
 use Rattle.std.specs.Prelude.{◌&&◌, ◌||◌, not, slice_get, cond, nat_lt, unwrap_or}
 use Rattle.std.specs.Option.{is_some, option_map, option_map_or, option_and_then, option_to_list}
 use Rattle.std.proofs.lemmas.Bool.{and_parts, ltb-true}
-use Rattle.naga_ir.specs.Operands.{expression_operands}
+use Rattle.naga_ir.specs.Operands.{expression_operands, level_operands}
 use Rattle.naga_ir.specs.StatementTree.{StatementTree}
 use Rattle.naga_ir.specs.declared.expression.Expression.{Expression}
 use Rattle.naga_ir.specs.declared.expression.SwizzleComponent.{SwizzleComponent}
@@ -19,10 +19,6 @@ use Rattle.naga_ir.specs.declared.module.FunctionResult.{FunctionResult}
 use Rattle.naga_ir.specs.declared.module.LocalVariable.{LocalVariable}
 use Rattle.naga_ir.specs.declared.module.Module.{Module}
 use Rattle.naga_ir.specs.declared.operators.BinaryOperator.{BinaryOperator}
-use Rattle.naga_ir.specs.declared.operators.DerivativeAxis.{DerivativeAxis}
-use Rattle.naga_ir.specs.declared.operators.DerivativeControl.{DerivativeControl}
-use Rattle.naga_ir.specs.declared.operators.MathFunction.{MathFunction}
-use Rattle.naga_ir.specs.declared.operators.RelationalFunction.{RelationalFunction}
 use Rattle.naga_ir.specs.declared.operators.UnaryOperator.{UnaryOperator}
 use Rattle.naga_ir.specs.declared.expression.CooperativeData.{CooperativeData}
 use Rattle.naga_ir.specs.declared.types.CooperativeRole.{CooperativeRole}
@@ -32,7 +28,6 @@ use Rattle.naga_info.specs.declared.info.ExpressionInfo.{ExpressionInfo}
 use Rattle.module_meaning.proofs.Lists.{list_all_at}
 use Rattle.module_meaning.proofs.ExpressionForms.{spelled_of_spellable, has_form_parts}
 use Rattle.module_meaning.specs.Sampling.{own_offset_is_written}
-use Rattle.naga_ir.specs.declared.expression.ImageQuery.{ImageQuery}
 use Rattle.naga_ir.specs.declared.expression.SampleLevel.{SampleLevel}
 use Rattle.std.proofs.Common.{Bool, max}
 use Rattle.naga_wgsl_fns.specs.FunctionText.{named_in}
@@ -99,6 +94,7 @@ use Rattle.wgsl_text.specs.Types.{Named, TypeSpecifier}
 use Rattle.naga_wgsl_fns.specs.declared.functions.FunctionText.{FunctionText}
 use Rattle.naga_wgsl_fns.specs.FunctionText.{CanWrite, IsInText, IsLet, context, naming}
 use Rattle.naga_back.specs.Flags.{annotates_types}
+use Rattle.naga_scope.specs.Forms.{called_word}
 use Rattle.naga_wgsl_fns.specs.FunctionText.{callees, number}
 use Rattle.module_meaning.specs.Written.{IsWrittenIn, OfArgument, OfLet, OfLocal, OfResult}
 use Rattle.naga_form.proofs.WrittenHandles.{all_front, all_rest, written_are_closed}
@@ -107,7 +103,8 @@ use Rattle.std.proofs.Common.{◌∷◌}
 use Rattle.naga_wgsl_fns.specs.Types.{annotation_text, resolution_text, let_annotation_text}
 use Rattle.naga_wgsl_fns.specs.Types.{annotation_if}
 
--- an expression is of none of these kinds, which are those that have a form
+-- an expression is of none of these kinds, which are those that have a form, and its operator is not
+-- called by a word
 pub record IsNoOther (e : Expression) : Type 0 where
   pub literal : (value : ir_literal.Literal) → e ≡ expression.Literal value → ⊥
   pub constant : (c : ℕ) → e ≡ expression.Constant c → ⊥
@@ -122,29 +119,18 @@ pub record IsNoOther (e : Expression) : Type 0 where
   pub load : (p : ℕ) → e ≡ expression.Load p → ⊥
   pub unary : (op : UnaryOperator) (x : ℕ) → e ≡ expression.Unary op x → ⊥
   pub binary : (op : BinaryOperator) (l r : ℕ) → e ≡ expression.Binary op l r → ⊥
-  pub choice : (c a r : ℕ) → e ≡ expression.Select c a r → ⊥
-  pub splat : (size : VectorSize) (x : ℕ) → e ≡ expression.Splat size x → ⊥
   pub swizzle : (size : VectorSize) (x : ℕ) (pattern : List SwizzleComponent) →
       e ≡ expression.Swizzle size x pattern → ⊥
   pub converted : (x : ℕ) (kind : ScalarKind) (convert : Option ℕ) →
       e ≡ expression.As x kind convert → ⊥
-  pub derivative : (axis : DerivativeAxis) (how : DerivativeControl) (x : ℕ) →
-      e ≡ expression.Derivative axis how x → ⊥
-  pub mathematical : (fun : MathFunction) (x : ℕ) (y z w : Option ℕ) →
-      e ≡ expression.Math fun x y z w → ⊥
-  pub relational : (fun : RelationalFunction) (x : ℕ) → e ≡ expression.Relational fun x → ⊥
   pub sampled : (image sampler : ℕ) (gather : Option SwizzleComponent) (coordinate : ℕ)
       (array_index offset : Option ℕ) (level : SampleLevel) (depth_ref : Option ℕ) (clamp : Bool) →
       e ≡
       expression.ImageSample image sampler gather coordinate array_index offset level depth_ref clamp →
       ⊥
-  pub loaded : (image coordinate : ℕ) (array_index sample level : Option ℕ) →
-      e ≡ expression.ImageLoad image coordinate array_index sample level → ⊥
-  pub asked : (image : ℕ) (query : ImageQuery) → e ≡ expression.ImageQuery image query → ⊥
-  pub counted : (array : ℕ) → e ≡ expression.ArrayLength array → ⊥
   pub matrix_load : (columns rows : CooperativeSize) (role : CooperativeRole)
       (place : CooperativeData) → e ≡ expression.CooperativeLoad columns rows role place → ⊥
-  pub product : (x y z : ℕ) → e ≡ expression.CooperativeMultiplyAdd x y z → ⊥
+  pub called : called_word e ≡ None
 
 -- a handle stands before this one, and is written
 abbrev pub IsOperand : FunctionText → (handle x : ℕ) → Type 0
@@ -171,7 +157,7 @@ pub record AreSampled (t : FunctionText) (h i s p : ℕ) (a d l o : List ℕ) : 
   pub level : AllByRecursion (IsOperand t h) l
   pub offset : AllByRecursion (IsOperand t h) o
 
-pub are_sampled : (t : FunctionText) (h image sampler coordinate : ℕ)
+are_sampled : (t : FunctionText) (h image sampler coordinate : ℕ)
     (array depth level offset : List ℕ) →
     AllByRecursion (IsOperand t h)
     (image ∷ sampler ∷ coordinate ∷ array ++ depth ++ level ++ offset) →
@@ -493,6 +479,20 @@ module _ (t : FunctionText) (can : CanWrite t) where
             (one, record { there = omega (arith, one, other); written = written.0 }),
             both xs below.1 written.1,
           )
+
+  -- and those of a sampling
+  pub sampled_in : {h : ℕ} {e : Expression} {image sampler : ℕ} {gather : Option SwizzleComponent}
+      {coordinate : ℕ} {array_index offset : Option ℕ} {level : SampleLevel} {depth_ref : Option ℕ}
+      {clamp : Bool} → slice_get f.expressions h ≡ Some e →
+      e ≡
+      expression.ImageSample image sampler gather coordinate array_index offset level depth_ref clamp →
+      IsInText t h →
+      AreSampled t h image sampler coordinate (option_to_list array_index)
+      (option_to_list depth_ref) (level_operands level) (option_to_list offset)
+  sampled_in {h} {e} {image} {sampler} {gather} {coordinate} {array_index} {offset} {level} {depth_ref} {clamp} here is within =
+      are_sampled t h image sampler coordinate (option_to_list array_index)
+      (option_to_list depth_ref) (level_operands level) (option_to_list offset)
+      (operands_in here is within)
 
   -- so does what a part is taken of
   part_in : (h : ℕ) (base : ℕ) (o : Option Expression) → slice_get f.expressions h ≡ o →

@@ -21,12 +21,15 @@ use Rattle.naga_form.specs.Attributes.{passing_attributes}
 use Rattle.naga_form.specs.Functions.{parameter_form, function_form}
 use Rattle.naga_form.specs.Types.{type_form}
 use Rattle.naga_scope.specs.Plans.{Planned}
+use Rattle.naga_scope.specs.Availabilities.{TextPoint}
+use Rattle.naga_scope.specs.Changes.{block_changes}
 use Rattle.naga_scope.specs.declared.points.Availability.{Availability}
 use Rattle.wgsl_text.specs.Text.{text}
 use Rattle.naga_back.specs.declared.flags.WriterFlags.{WriterFlags}
 use Rattle.naga_wgsl_fns.specs.declared.functions.FunctionText.{FunctionText}
 use Rattle.naga_wgsl_fns.specs.FunctionText.{named_in, handles_in, source, naming}
 use Rattle.naga_wgsl_fns.specs.FunctionText.{number, type_names_of}
+use Rattle.naga_wgsl_fns.specs.Positions.{HasScope}
 use Rattle.module_meaning.specs.FunctionNumbers.{all_functions, all_infos}
 use Rattle.naga_wgsl_fns.specs.Attributes.{attributes_text}
 use Rattle.naga_wgsl_fns.specs.Names.{name_of_function}
@@ -118,6 +121,12 @@ answer_text f answer =
 -- the table has what is in scope at the start
 abbrev pub StartsAt : FunctionText → (table : List Availability) → Type 0
 StartsAt f table = handles_in f table ≡ at_start (naming f).function
+
+-- The point is that at the function's start, and there is room for all that its body changes.
+pub record IsAtStart (f : FunctionText) (p : TextPoint) : Type 0 where
+  pub start : StartsAt f p.table
+  pub named : p.named ≡ 0
+  pub scope : HasScope f p (block_changes f.function.now.body)
 
 -- the locals, and an empty line behind them if there are any
 unfoldable pub locals_text : FunctionText → List ℕ

@@ -14,6 +14,7 @@ pub mod Items
 pub mod Literals
 pub mod ModuleText
 pub mod Names
+pub mod Positions
 pub mod Refusals
 pub mod Stages
 pub mod Statements

@@ -12,19 +12,18 @@ ghost use Rattle.naga_ir.specs.declared.operators.CollectiveOperation.TheVariant
 ghost use Rattle.naga_ir.specs.StatementTree.{simple, store};
 ghost use Rattle.naga_ir.specs.StatementViews.{tree_of};
 ghost use Rattle.naga_scope.specs.Changes.{statement_changes};
-ghost use Rattle.naga_scope.specs.Log.{Counted, Extends, HasRoom};
+ghost use Rattle.naga_scope.specs.Log.{Extends};
 ghost use Rattle.naga_words.specs.Output.{Writes};
 ghost use Rattle.naga_wgsl_fns.specs.Expressions.{operands_left};
 ghost use Rattle.naga_wgsl_fns.specs.FunctionText.{AreInText, CanWrite, CanWriteStatement, IsLet};
 ghost use Rattle.naga_wgsl_fns.specs.FunctionText.{handles_in};
+ghost use Rattle.naga_wgsl_fns.specs.Positions.{HasScope, PassesStatement, text_at};
 ghost use Rattle.naga_wgsl_fns.specs.Statements.{act_text, act_word, after_statement, is_act};
 ghost use Rattle.naga_wgsl_fns.specs.Statements.{barriers_text, barrier_text};
-ghost use Rattle.naga_wgsl_fns.specs.Statements.{named_behind_statement};
 ghost use Rattle.naga_wgsl_fns.specs.Statements.{outcome_text, statement_text};
 
 use crate::functions::FunctionText;
-use crate::indent::Indent;
-use crate::lines::write_line_start;
+use crate::lines::Position;
 use crate::names::write_numbered_name;
 use bitflags::Flags;
 use naga_ir::{
@@ -33,39 +32,32 @@ use naga_ir::{
 };
 use naga_scope::Scope;
 use naga_words::{Output, TextSink};
-use std::alloc::Global;
 
 impl FunctionText<'_> {
-    /// A statement that asks for something, or calls a function. Behind the call, `scope` is what
-    /// is in scope behind it.
+    /// A statement that asks for something, or calls a function. After the call, the scope is that
+    /// after it.
     pub(crate) fn write_act<W: TextSink>(
         &self,
-        alloc: Global,
         statement: &Statement,
-        scope: &mut Scope,
-        indent: &Indent,
+        at: &mut Position,
         out: &mut Output<'_, W>,
     )
         requires can { CanWrite self.now }
-        requires size { length scope.old.table ≡ length self.now.function.now.expressions }
         requires act { IsTrue (is_act (tree_of statement.now)) }
         requires statement { CanWriteStatement self.now (tree_of statement.now) }
-        requires room { HasRoom scope.old (statement_changes (tree_of statement.now)) }
+        requires scope { HasScope self.now at.old.scope (statement_changes (tree_of statement.now)) }
         ensures text { Writes W.text W.failures out.old out.new
-            (statement_text self.now scope.old.named (handles_in self.now scope.old.table)
-            indent.now (tree_of statement.now)) }
-        ensures after { handles_in self.now scope.new.table
-            ≡ after_statement self.now scope.old.named (tree_of statement.now)
-            (handles_in self.now scope.old.table) }
-        ensures kept { Extends scope.old scope.new }
-        ensures named { scope.new.named
-            ≡ named_behind_statement self.now (tree_of statement.now) scope.old.named }
-        ensures counted { Counted scope.old scope.new (statement_changes (tree_of statement.now)) }
+            (text_at self.now at.old.scope statement_text at.old.indent (tree_of statement.now)) }
+        ensures passed { PassesStatement self.now at.old at.new (tree_of statement.now) }
+        ensures after { handles_in self.now at.new.scope.table
+            ≡ after_statement self.now at.old.scope.named (tree_of statement.now)
+            (handles_in self.now at.old.scope.table) }
+        ensures kept { Extends at.old.scope at.new.scope }
     {
         let word = self.act_str(statement);
-        self.write_act_line(alloc, word, statement, scope, indent, out);
+        self.write_act_line(word, statement, at, out);
         if let Some(outcome) = statement.result() {
-            scope.give(outcome);
+            at.scope.give(outcome);
         }
     }
 
@@ -73,32 +65,29 @@ impl FunctionText<'_> {
     /// result, a `let` of that.
     pub(crate) fn write_act_line<W: TextSink>(
         &self,
-        alloc: Global,
         word: &str,
         statement: &Statement,
-        scope: &Scope,
-        indent: &Indent,
+        at: &Position,
         out: &mut Output<'_, W>,
     )
         requires can { CanWrite self.now }
         requires statement { CanWriteStatement self.now (tree_of statement.now) }
         requires operands { AreInText self.now (own_operands (tree_of statement.now)) }
-        ensures { Writes W.text W.failures out.old out.new
-            (act_text self.now (handles_in self.now scope.now.table) indent.now word.now
+        ensures { Writes W.text W.failures out.old out.new (act_text self.now
+            (handles_in self.now at.now.scope.table) at.now.indent word.now
             (own_operands (tree_of statement.now)) (own_result (tree_of statement.now))) }
     {
-        out.put(indent.as_str());
-        self.write_outcome(alloc, statement.result(), out);
+        out.put(at.indent.as_str());
+        self.write_outcome(statement.result(), out);
         out.put(word);
         out.put("(");
-        self.write_act_operands(alloc, statement, scope, out);
+        self.write_act_operands(statement, &at.scope, out);
         out.put(";\n");
     }
 
     /// What stands in front of the word of a statement that has a result.
     fn write_outcome<W: TextSink>(
         &self,
-        alloc: Global,
         outcome: Option<Handle<Expression>>,
         out: &mut Output<'_, W>,
     )
@@ -108,18 +97,13 @@ impl FunctionText<'_> {
         ensures { Writes W.text W.failures out.old out.new (outcome_text self.now outcome) }
     {
         match outcome {
-            Some(outcome) => self.write_outcome_start(alloc, outcome, out),
+            Some(outcome) => self.write_outcome_start(outcome, out),
             None => {}
         }
     }
 
     #[tactic(auto, using(naga_words::proofs::Writing::writes_then, crate::proofs::ActRows::outcome_row))]
-    fn write_outcome_start<W: TextSink>(
-        &self,
-        alloc: Global,
-        outcome: Handle<Expression>,
-        out: &mut Output<'_, W>,
-    )
+    fn write_outcome_start<W: TextSink>(&self, outcome: Handle<Expression>, out: &mut Output<'_, W>)
         requires can { CanWrite self.now }
         requires outcome { outcome < length self.now.function.now.expressions }
         requires named { IsLet self.now outcome }
@@ -127,14 +111,13 @@ impl FunctionText<'_> {
     {
         out.put("let ");
         write_numbered_name(outcome, out);
-        self.write_let_annotation(alloc, outcome, out);
+        self.write_let_annotation(outcome, out);
         out.put(" = ");
     }
 
     /// The operands of a statement, up to the `)` behind them.
     fn write_act_operands<W: TextSink>(
         &self,
-        alloc: Global,
         statement: &Statement,
         scope: &Scope,
         out: &mut Output<'_, W>,
@@ -146,7 +129,7 @@ impl FunctionText<'_> {
     {
         let mut is_first = true;
         for operand in statement.operands() {
-            self.write_next_operand(alloc, scope, is_first, operand, out);
+            self.write_next_operand(scope, is_first, operand, out);
             is_first = false;
         }
         out.put(")");
@@ -286,46 +269,41 @@ fn matrix_store_str(row_major: bool) -> &'static str
 
 /// A barrier: a line for each kind of access that it keeps apart.
 #[tactic(auto, using(naga_words::proofs::Writing::writes_then, crate::proofs::ActRows::barriers_row))]
-pub(crate) fn write_barrier<W: TextSink>(barrier: Barrier, indent: &Indent, out: &mut Output<'_, W>)
-    ensures { Writes W.text W.failures out.old out.new (barriers_text indent.now barrier) }
+pub(crate) fn write_barrier<W: TextSink>(barrier: Barrier, at: &Position, out: &mut Output<'_, W>)
+    ensures { Writes W.text W.failures out.old out.new (barriers_text at.now.indent barrier) }
 {
     write_barrier_if(
         barrier.contains(Barrier::STORAGE),
         "storageBarrier();\n",
-        indent,
+        at,
         out,
     );
     write_barrier_if(
         barrier.contains(Barrier::WORK_GROUP),
         "workgroupBarrier();\n",
-        indent,
+        at,
         out,
     );
     write_barrier_if(
         barrier.contains(Barrier::SUB_GROUP),
         "subgroupBarrier();\n",
-        indent,
+        at,
         out,
     );
     write_barrier_if(
         barrier.contains(Barrier::TEXTURE),
         "textureBarrier();\n",
-        indent,
+        at,
         out,
     );
 }
 
 /// The line of a barrier, where it is of that kind.
 #[tactic(auto, using(naga_words::proofs::Writing::writes_nothing), unfolding(crate::specs::Statements::barrier_text))]
-fn write_barrier_if<W: TextSink>(
-    is_kept: bool,
-    line: &str,
-    indent: &Indent,
-    out: &mut Output<'_, W>,
-)
-    ensures { Writes W.text W.failures out.old out.new (barrier_text indent.now is_kept line.now) }
+fn write_barrier_if<W: TextSink>(is_kept: bool, line: &str, at: &Position, out: &mut Output<'_, W>)
+    ensures { Writes W.text W.failures out.old out.new (barrier_text at.now.indent is_kept line.now) }
 {
     if is_kept {
-        write_line_start(indent, line, out);
+        at.write_start(line, out);
     }
 }

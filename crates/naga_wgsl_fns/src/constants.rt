@@ -22,7 +22,6 @@ impl FunctionText<'_> {
     /// A constant.
     pub(crate) fn write_constant<W: TextSink>(
         &self,
-        alloc: Global,
         constant: Handle<Constant>,
         out: &mut Output<'_, W>,
     )
@@ -31,7 +30,7 @@ impl FunctionText<'_> {
         ensures { Writes W.text W.failures out.old out.new
             (constant_text self.now.shader.now constant) }
     {
-        self.of_module().write_constant(alloc, constant, out);
+        self.of_module().write_constant(self.alloc, constant, out);
     }
 
     /// The function's module, the names of its items, and what is looked up of it.

@@ -18,14 +18,12 @@ use naga_info::TypeResolution;
 use naga_ir::{Expression, Handle, ScalarKind, TypeInner};
 use naga_scope::Scope;
 use naga_words::{Output, TextSink};
-use std::alloc::Global;
 
 impl FunctionText<'_> {
     /// The operand of the expression with this handle, as a value over another scalar.
     #[cycle(expression)]
     pub(crate) fn write_conversion<W: TextSink>(
         &self,
-        alloc: Global,
         scope: &Scope,
         handle: Handle<Expression>,
         operand: Handle<Expression>,
@@ -41,16 +39,15 @@ impl FunctionText<'_> {
             (made_text self.now scope.now.table (conversion_callee self.now operand kind convert)
             handle) }
     {
-        self.write_callee(alloc, operand, kind, convert, out);
+        self.write_callee(operand, kind, convert, out);
         out.put("(");
-        self.write_operands(alloc, scope, handle, out);
+        self.write_operands(scope, handle, out);
     }
 
     /// What a conversion is called by: the type of its value, or `bitcast` to that where the bits
     /// are kept.
     fn write_callee<W: TextSink>(
         &self,
-        alloc: Global,
         operand: Handle<Expression>,
         kind: ScalarKind,
         convert: Option<u8>,
@@ -64,14 +61,13 @@ impl FunctionText<'_> {
     {
         let inner = self.type_of(operand);
         let target = TypeResolution::Value(conversion_target(inner, kind, convert));
-        self.write_cast(alloc, keeps_bits(inner, convert), &target, out);
+        self.write_cast(keeps_bits(inner, convert), &target, out);
         drop(target);
     }
 
     /// A type, or `bitcast` to it.
     fn write_cast<W: TextSink>(
         &self,
-        alloc: Global,
         keeps_bits: bool,
         target: &TypeResolution,
         out: &mut Output<'_, W>,
@@ -84,19 +80,14 @@ impl FunctionText<'_> {
             (cast_text self.now keeps_bits target.now) }
     {
         if keeps_bits {
-            self.write_bitcast(alloc, target, out);
+            self.write_bitcast(target, out);
         } else {
-            self.write_type_of(alloc, target, out);
+            self.write_type_of(target, out);
         }
     }
 
     #[tactic(auto, using(naga_words::proofs::Writing::writes_then, crate::proofs::ConversionRows::bitcast_row))]
-    fn write_bitcast<W: TextSink>(
-        &self,
-        alloc: Global,
-        target: &TypeResolution,
-        out: &mut Output<'_, W>,
-    )
+    fn write_bitcast<W: TextSink>(&self, target: &TypeResolution, out: &mut Output<'_, W>)
         requires can { CanWrite self.now }
         requires formed { IsTrue (is_spelled self.now.shader.now.types target.now) }
         requires fits { IsTrue (resolution_fits (length self.now.shader.now.overrides)
@@ -104,7 +95,7 @@ impl FunctionText<'_> {
         ensures { Writes W.text W.failures out.old out.new (bitcast_text self.now target.now) }
     {
         out.put("bitcast<");
-        self.write_type_of(alloc, target, out);
+        self.write_type_of(target, out);
         out.put(">");
     }
 }

@@ -1,9 +1,6 @@
 //! Expressions.
 
 ghost use Rattle.std.specs.Prelude.{[], ◌∷◌, ◌<◌, ◌≡◌, length, IsTrue};
-ghost use Rattle.std.specs.Option.{is_some};
-ghost use Rattle.module_meaning.specs.OperatorTable.{Math, Relational, relational_word};
-ghost use Rattle.module_meaning.specs.OperatorTable.{run_word};
 ghost use Rattle.module_meaning.specs.AlikeTypes.{is_spelled};
 ghost use Rattle.naga_info.specs.declared.info.TypeResolution.TheVariants as resolution;
 ghost use Rattle.naga_form.specs.Operators.{Infix, Prefix, operator_form, unary_form};
@@ -14,20 +11,14 @@ ghost use Rattle.naga_wgsl_fns.specs.Expressions.{made_text, made_type, next_ope
 ghost use Rattle.naga_wgsl_fns.specs.Expressions.{operands_text};
 ghost use Rattle.naga_wgsl_fns.specs.Expressions.{own_text};
 ghost use Rattle.naga_wgsl_fns.specs.Expressions.{pointed_text, reference_text, value_text};
-ghost use Rattle.wgsl_words.specs.Words.{math_word, unary_text};
+ghost use Rattle.wgsl_words.specs.Words.{unary_text};
 
 use crate::functions::FunctionText;
 use crate::literal::write_literal;
 use naga_back::binary_operation_str;
-use naga_ir::{
-    BinaryOperator, Expression, Handle, LocalVariable, MathFunction, RelationalFunction, Type_,
-    UnaryOperator,
-};
-use naga_scope::{Availability, Scope, derivative_str, image_query_str};
-use naga_words::words::vector_str;
+use naga_ir::{BinaryOperator, Expression, Handle, LocalVariable, Type_, UnaryOperator};
+use naga_scope::{Availability, Scope, called_str};
 use naga_words::{Output, TextSink};
-use std::alloc::Global;
-use wgsl_words::TryToWgsl;
 
 impl FunctionText<'_> {
     /// An expression as a value: its name where it has one here, else what it is made of. A
@@ -37,7 +28,6 @@ impl FunctionText<'_> {
     #[tactic(auto, using(naga_words::proofs::Writing::writes_no_more, crate::proofs::ExpressionRows::value_row))]
     pub(crate) fn write_value<W: TextSink>(
         &self,
-        alloc: Global,
         scope: &Scope,
         handle: Handle<Expression>,
         out: &mut Output<'_, W>,
@@ -51,7 +41,7 @@ impl FunctionText<'_> {
         }
         match scope.availability(handle) {
             Availability::Bound(name) => self.write_bound_name(handle, name, out),
-            _ => self.write_own(alloc, scope, handle, out),
+            _ => self.write_own(scope, handle, out),
         }
     }
 
@@ -60,7 +50,6 @@ impl FunctionText<'_> {
     #[tactic(auto, using(crate::proofs::ExpressionRows::own_row))]
     pub(crate) fn write_own<W: TextSink>(
         &self,
-        alloc: Global,
         scope: &Scope,
         handle: Handle<Expression>,
         out: &mut Output<'_, W>,
@@ -70,70 +59,46 @@ impl FunctionText<'_> {
         ensures { Writes W.text W.failures out.old out.new (own_text self.now scope.now.table handle) }
     {
         match &self.function.expressions[handle] {
-            Expression::Literal(literal) => write_literal(alloc, *literal, out),
-            Expression::Constant(constant) => self.write_constant(alloc, *constant, out),
+            Expression::Literal(literal) => write_literal(self.alloc, *literal, out),
+            Expression::Constant(constant) => self.write_constant(*constant, out),
             Expression::Override(item) => self.of_module().write_override_name(*item, out),
-            Expression::ZeroValue(ty) => self.write_made(alloc, scope, handle, *ty, out),
-            Expression::Compose { ty, .. } => self.write_made(alloc, scope, handle, *ty, out),
-            Expression::Access { base, .. } => {
-                self.write_part_value(alloc, scope, handle, *base, out)
-            }
+            Expression::ZeroValue(ty) => self.write_made(scope, handle, *ty, out),
+            Expression::Compose { ty, .. } => self.write_made(scope, handle, *ty, out),
+            Expression::Access { base, .. } => { self.write_part_value(scope, handle, *base, out) }
             Expression::AccessIndex { base, .. } => {
-                self.write_part_value(alloc, scope, handle, *base, out)
+                self.write_part_value(scope, handle, *base, out)
             }
             Expression::FunctionArgument(number) => self.write_argument_name(*number, out),
             Expression::GlobalVariable(variable) => self.write_global_value(*variable, out),
             Expression::LocalVariable(local) => self.write_address(*local, out),
-            Expression::Load { pointer } => self.write_load(alloc, scope, handle, *pointer, out),
-            Expression::Unary { op, expr } => self.write_prefix(alloc, scope, *op, *expr, out),
+            Expression::Load { pointer } => self.write_load(scope, handle, *pointer, out),
+            Expression::Unary { op, expr } => self.write_prefix(scope, *op, *expr, out),
             Expression::Binary { op, left, right } => {
-                self.write_infix(alloc, scope, *op, *left, *right, out)
-            }
-            Expression::Select { .. } => self.write_called(alloc, scope, handle, "select", out),
-            Expression::Splat { size, .. } => {
-                self.write_called(alloc, scope, handle, vector_str(*size), out)
+                self.write_infix(scope, *op, *left, *right, out)
             }
             Expression::Swizzle {
                 size,
                 vector,
                 pattern,
-            } => self.write_swizzle(alloc, scope, *size, *vector, pattern, out),
+            } => self.write_swizzle(scope, *size, *vector, pattern, out),
             Expression::As {
                 expr,
                 kind,
                 convert,
-            } => self.write_conversion(alloc, scope, handle, *expr, *kind, *convert, out),
-            Expression::Math { fun, .. } => {
-                self.write_called(alloc, scope, handle, math_function_str(*fun), out)
-            }
-            Expression::Relational { fun, .. } => {
-                self.write_called(alloc, scope, handle, relational_function_str(*fun), out)
-            }
-            Expression::Derivative { axis, ctrl, .. } => {
-                self.write_called(alloc, scope, handle, derivative_str(*axis, *ctrl), out)
-            }
-            Expression::ImageSample { .. } => self.write_sampling(alloc, scope, handle, out),
-            Expression::ImageLoad { .. } => {
-                self.write_called(alloc, scope, handle, "textureLoad", out)
-            }
-            Expression::ImageQuery { query, .. } => {
-                self.write_called(alloc, scope, handle, image_query_str(*query), out)
-            }
-            Expression::ArrayLength(_) => {
-                self.write_called(alloc, scope, handle, "arrayLength", out)
-            }
+            } => self.write_conversion(scope, handle, *expr, *kind, *convert, out),
+            Expression::ImageSample { .. } => self.write_sampling(scope, handle, out),
             Expression::CooperativeLoad {
                 columns,
                 rows,
                 role,
                 data_,
-            } => self.write_matrix_load(alloc, scope, handle, *columns, *rows, *role, *data_, out),
-            Expression::CooperativeMultiplyAdd { .. } => {
-                self.write_called(alloc, scope, handle, "coopMultiplyAdd", out)
-            }
-            // The result of a statement, where its name is not in scope. The rules of scope keep that
-            // from being written.
-            _ => out.put("false"),
+            } => self.write_matrix_load(scope, handle, *columns, *rows, *role, *data_, out),
+            // Without a word, it is the result of a statement where its name is not in scope. The
+            // rules of scope keep that from being written.
+            expression => match called_str(expression) {
+                Some(word) => self.write_called(scope, handle, word, out),
+                None => out.put("false"),
+            },
         }
     }
 
@@ -143,7 +108,6 @@ impl FunctionText<'_> {
     #[tactic(auto, using(crate::proofs::ExpressionRows::reference_row))]
     pub(crate) fn write_reference<W: TextSink>(
         &self,
-        alloc: Global,
         scope: &Scope,
         handle: Handle<Expression>,
         out: &mut Output<'_, W>,
@@ -154,19 +118,19 @@ impl FunctionText<'_> {
             (reference_text self.now scope.now.table handle) }
     {
         match scope.availability(handle) {
-            Availability::Bound(_) => self.write_dereference(alloc, scope, handle, out),
+            Availability::Bound(_) => self.write_dereference(scope, handle, out),
             _ => match &self.function.expressions[handle] {
                 Expression::GlobalVariable(variable) => {
-                    self.write_global_reference(alloc, scope, handle, *variable, out)
+                    self.write_global_reference(scope, handle, *variable, out)
                 }
                 Expression::LocalVariable(local) => self.write_local_name(*local, out),
                 Expression::Access { base, .. } => {
-                    self.write_part_reference(alloc, scope, handle, *base, out)
+                    self.write_part_reference(scope, handle, *base, out)
                 }
                 Expression::AccessIndex { base, .. } => {
-                    self.write_part_reference(alloc, scope, handle, *base, out)
+                    self.write_part_reference(scope, handle, *base, out)
                 }
-                _ => self.write_dereference(alloc, scope, handle, out),
+                _ => self.write_dereference(scope, handle, out),
             },
         }
     }
@@ -176,7 +140,6 @@ impl FunctionText<'_> {
     #[tactic(auto, using(naga_words::proofs::Writing::writes_then, crate::proofs::ExpressionRows::pointed_row))]
     pub(crate) fn write_dereference<W: TextSink>(
         &self,
-        alloc: Global,
         scope: &Scope,
         handle: Handle<Expression>,
         out: &mut Output<'_, W>,
@@ -187,7 +150,7 @@ impl FunctionText<'_> {
             (pointed_text self.now scope.now.table handle) }
     {
         out.put("(*");
-        self.write_value(alloc, scope, handle, out);
+        self.write_value(scope, handle, out);
         out.put(")");
     }
 
@@ -196,7 +159,6 @@ impl FunctionText<'_> {
     #[tactic(auto, using(naga_words::proofs::Writing::writes_then, crate::proofs::ExpressionRows::prefix_row))]
     fn write_prefix<W: TextSink>(
         &self,
-        alloc: Global,
         scope: &Scope,
         op: UnaryOperator,
         operand: Handle<Expression>,
@@ -209,7 +171,7 @@ impl FunctionText<'_> {
     {
         out.put(unary_operation_str(op));
         out.put("(");
-        self.write_value(alloc, scope, operand, out);
+        self.write_value(scope, operand, out);
         out.put(")");
     }
 
@@ -218,7 +180,6 @@ impl FunctionText<'_> {
     #[tactic(auto, using(naga_words::proofs::Writing::writes_then, crate::proofs::ExpressionRows::infix_row))]
     fn write_infix<W: TextSink>(
         &self,
-        alloc: Global,
         scope: &Scope,
         op: BinaryOperator,
         left: Handle<Expression>,
@@ -232,11 +193,11 @@ impl FunctionText<'_> {
             (applied_text self.now scope.now.table (Infix (operator_form op)) (left ∷ right ∷ [])) }
     {
         out.put("(");
-        self.write_value(alloc, scope, left, out);
+        self.write_value(scope, left, out);
         out.put(" ");
         out.put(binary_operation_str(op));
         out.put(" ");
-        self.write_value(alloc, scope, right, out);
+        self.write_value(scope, right, out);
         out.put(")");
     }
 
@@ -245,7 +206,6 @@ impl FunctionText<'_> {
     #[tactic(auto, using(naga_words::proofs::Writing::writes_then, crate::proofs::ExpressionRows::called_row))]
     pub(crate) fn write_called<W: TextSink>(
         &self,
-        alloc: Global,
         scope: &Scope,
         handle: Handle<Expression>,
         word: &str,
@@ -258,7 +218,7 @@ impl FunctionText<'_> {
     {
         out.put(word);
         out.put("(");
-        self.write_operands(alloc, scope, handle, out);
+        self.write_operands(scope, handle, out);
     }
 
     /// A value of a type, made of the operands of the expression with this handle.
@@ -266,7 +226,6 @@ impl FunctionText<'_> {
     #[tactic(auto, using(naga_words::proofs::Writing::writes_then, crate::proofs::ExpressionRows::made_row))]
     fn write_made<W: TextSink>(
         &self,
-        alloc: Global,
         scope: &Scope,
         handle: Handle<Expression>,
         ty: Handle<Type_>,
@@ -278,16 +237,15 @@ impl FunctionText<'_> {
         ensures { Writes W.text W.failures out.old out.new
             (made_text self.now scope.now.table (made_type self.now ty) handle) }
     {
-        self.write_type(alloc, ty, out);
+        self.write_type(ty, out);
         out.put("(");
-        self.write_operands(alloc, scope, handle, out);
+        self.write_operands(scope, handle, out);
     }
 
     /// The operands of the expression with this handle, up to the `)` behind them.
     #[cycle(expression)]
     pub(crate) fn write_operands<W: TextSink>(
         &self,
-        alloc: Global,
         scope: &Scope,
         handle: Handle<Expression>,
         out: &mut Output<'_, W>,
@@ -299,7 +257,7 @@ impl FunctionText<'_> {
     {
         let mut is_first = true;
         for operand in self.function.expressions[handle].operands() {
-            self.write_next_operand(alloc, scope, is_first, operand, out);
+            self.write_next_operand(scope, is_first, operand, out);
             is_first = false;
         }
         out.put(")");
@@ -310,7 +268,6 @@ impl FunctionText<'_> {
     #[tactic(auto, using(naga_words::proofs::Writing::writes_then, crate::proofs::ExpressionRows::next_operand_row))]
     pub(crate) fn write_next_operand<W: TextSink>(
         &self,
-        alloc: Global,
         scope: &Scope,
         is_first: bool,
         operand: Handle<Expression>,
@@ -322,7 +279,7 @@ impl FunctionText<'_> {
             (next_operand_text self.now scope.now.table is_first operand) }
     {
         out.put(if is_first { "" } else { ", " });
-        self.write_value(alloc, scope, operand, out);
+        self.write_value(scope, operand, out);
     }
 
     /// A pointer to a local.
@@ -346,28 +303,5 @@ fn unary_operation_str(op: UnaryOperator) -> &'static str
         UnaryOperator::Negate => "-",
         UnaryOperator::LogicalNot => "!",
         UnaryOperator::BitwiseNot => "~",
-    }
-}
-
-/// The word of a function of mathematics that has one.
-fn math_function_str(fun: MathFunction) -> &'static str
-    requires { IsTrue (is_some (math_word fun)) }
-    ensures { result.now ≡ run_word (Math fun) }
-{
-    match fun.try_to_wgsl() {
-        Some(word) => word,
-        None => unreachable!(),
-    }
-}
-
-/// The word of a relation that has one.
-fn relational_function_str(fun: RelationalFunction) -> &'static str
-    requires { IsTrue (is_some (relational_word fun)) }
-    ensures { result.now ≡ run_word (Relational fun) }
-{
-    match fun {
-        RelationalFunction::All => "all",
-        RelationalFunction::Any => "any",
-        RelationalFunction::IsNan | RelationalFunction::IsInf => unreachable!(),
     }
 }

@@ -10,7 +10,6 @@ ghost use Rattle.module_meaning.specs.FunctionNumbers.{IsFunctionOf, function_nu
 ghost use Rattle.module_meaning.specs.Names.{HasNamesOf};
 ghost use Rattle.naga_names.specs.Keys.{names_in};
 ghost use Rattle.naga_scope.specs.Changes.{block_changes};
-ghost use Rattle.naga_scope.specs.Log.{HasRoom};
 ghost use Rattle.naga_scope.specs.Plans.{IsPlanOf};
 ghost use Rattle.naga_scope.specs.Tables.{AreTablesOf};
 ghost use Rattle.naga_words.specs.Output.{Writes};
@@ -19,10 +18,11 @@ ghost use Rattle.naga_wgsl_fns.specs.Errors.{IsWant};
 ghost use Rattle.naga_wgsl_fns.specs.FunctionText.{CanWrite};
 ghost use Rattle.naga_back.specs.Flags.{annotates_types};
 ghost use Rattle.naga_wgsl_fns.specs.FunctionText.{AreInText, IsInText};
-ghost use Rattle.naga_wgsl_fns.specs.FunctionText.{handles_in, number};
+ghost use Rattle.naga_wgsl_fns.specs.FunctionText.{number};
+ghost use Rattle.naga_wgsl_fns.specs.Positions.{HasScope, text_at};
 ghost use Rattle.naga_wgsl_fns.specs.Statements.{block_text};
 ghost use Rattle.std.specs.Option.{option_map_or, option_to_list};
-ghost use Rattle.naga_wgsl_fns.specs.Functions.{StartsAt, answer_text, argument_text};
+ghost use Rattle.naga_wgsl_fns.specs.Functions.{IsAtStart, StartsAt, answer_text, argument_text};
 ghost use Rattle.naga_wgsl_fns.specs.Functions.{arguments_text, body_text, first_text};
 ghost use Rattle.naga_wgsl_fns.specs.Functions.{first_value_text, function_text, group_end_text};
 ghost use Rattle.naga_wgsl_fns.specs.Functions.{head_text, item_text, local_text, locals_text};
@@ -33,6 +33,7 @@ use crate::Error;
 use crate::bindings::write_passing;
 use crate::error::error_of_want;
 use crate::indent::Indent;
+use crate::lines::Position;
 use naga_back::{FunctionType, WriterFlags};
 use naga_info::{FunctionInfo, ModuleInfo};
 use naga_ir::{
@@ -84,8 +85,9 @@ pub fn write_planned<'a, W: TextSink>(
     ensures reason { IfErr result (IsWant (W.failures out.old) (W.failures out.new)) }
 {
     let (function, function_info) = function_of(module, info, *ty);
-    let (mut scope, named) = plan.into_parts();
+    let (scope, named) = plan.into_parts();
     let text = FunctionText {
+        alloc,
         shader: module,
         module_info: info,
         tables,
@@ -96,8 +98,10 @@ pub fn write_planned<'a, W: TextSink>(
         function,
         info: function_info,
     };
+    let indent = Indent::new(alloc);
+    let mut at = Position { scope, indent };
     let mut written = Output::new(out);
-    text.write_item(alloc, &mut scope, &mut written);
+    text.write_item(&mut at, &mut written);
     match written.outcome() {
         Ok(()) => Ok(()),
         Err(want) => Err(error_of_want(want)),
@@ -107,6 +111,8 @@ pub fn write_planned<'a, W: TextSink>(
 /// What the text of a function is made from.
 #[derive(Clone, Copy)]
 pub(crate) struct FunctionText<'a> {
+    /// Where memory for the blanks of a level and for the spelling of a type comes from.
+    pub(crate) alloc: Global,
     pub(crate) shader: &'a Module,
     pub(crate) module_info: &'a ModuleInfo,
     pub(crate) tables: &'a ModuleTables,
@@ -121,18 +127,16 @@ pub(crate) struct FunctionText<'a> {
 }
 
 impl FunctionText<'_> {
-    /// The whole function, behind its stage. `scope` is what is in scope at its start.
+    /// The whole function, behind its stage. The scope is that at its start.
     #[tactic(auto, using(naga_words::proofs::Writing::writes_then, crate::proofs::FunctionRows::item_row))]
-    fn write_item<W: TextSink>(&self, alloc: Global, scope: &mut Scope, out: &mut Output<'_, W>)
+    fn write_item<W: TextSink>(&self, at: &mut Position, out: &mut Output<'_, W>)
         requires can { CanWrite self.now }
-        requires start { StartsAt self.now scope.old.table }
-        requires named { scope.old.named ≡ 0 }
-        requires size { length scope.old.table ≡ length self.now.function.now.expressions }
-        requires room { HasRoom scope.old (block_changes self.now.function.now.body) }
+        requires start { IsAtStart self.now at.old.scope }
+        requires level { at.old.indent ≡ 0 }
         ensures { Writes W.text W.failures out.old out.new (item_text self.now) }
     {
         self.write_own_stage(out);
-        self.write_declaration(alloc, scope, out);
+        self.write_declaration(at, out);
     }
 
     /// The attributes of an entry point's stage, on a line of their own; nothing for a function that
@@ -152,47 +156,40 @@ impl FunctionText<'_> {
         }
     }
 
-    /// The function by itself. `scope` is what is in scope at its start.
+    /// The function by itself. The scope is that at its start.
     #[tactic(auto, using(naga_words::proofs::Writing::writes_then, crate::proofs::FunctionRows::function_row))]
-    fn write_declaration<W: TextSink>(
-        &self,
-        alloc: Global,
-        scope: &mut Scope,
-        out: &mut Output<'_, W>,
-    )
+    fn write_declaration<W: TextSink>(&self, at: &mut Position, out: &mut Output<'_, W>)
         requires can { CanWrite self.now }
-        requires start { StartsAt self.now scope.old.table }
-        requires named { scope.old.named ≡ 0 }
-        requires size { length scope.old.table ≡ length self.now.function.now.expressions }
-        requires room { HasRoom scope.old (block_changes self.now.function.now.body) }
+        requires start { IsAtStart self.now at.old.scope }
+        requires level { at.old.indent ≡ 0 }
         ensures { Writes W.text W.failures out.old out.new (function_text self.now) }
     {
-        self.write_head(alloc, out);
-        self.write_body(alloc, scope, out);
+        self.write_head(out);
+        self.write_body(at, out);
     }
 
     /// What stands before the locals.
     #[tactic(auto, using(naga_words::proofs::Writing::writes_then, crate::proofs::FunctionRows::head_row))]
-    fn write_head<W: TextSink>(&self, alloc: Global, out: &mut Output<'_, W>)
+    fn write_head<W: TextSink>(&self, out: &mut Output<'_, W>)
         requires { CanWrite self.now }
         ensures { Writes W.text W.failures out.old out.new (head_text self.now) }
     {
         out.put("fn ");
         self.write_function_name(out);
         out.put("(");
-        self.write_arguments(alloc, out);
-        self.write_result(alloc, out);
+        self.write_arguments(out);
+        self.write_result(out);
         out.put(" {\n");
     }
 
     /// The arguments, and the parenthesis behind the last.
     #[tactic(auto, using(naga_words::proofs::Writing::loop_writes))]
-    fn write_arguments<W: TextSink>(&self, alloc: Global, out: &mut Output<'_, W>)
+    fn write_arguments<W: TextSink>(&self, out: &mut Output<'_, W>)
         requires { CanWrite self.now }
         ensures { Writes W.text W.failures out.old out.new (arguments_text self.now) }
     {
         for (number, argument) in self.function.arguments.iter().enumerate() {
-            self.write_next_argument(alloc, number, argument, out);
+            self.write_next_argument(number, argument, out);
         }
         out.put(")");
     }
@@ -201,7 +198,6 @@ impl FunctionText<'_> {
     #[tactic(auto, using(naga_words::proofs::Writing::writes_then, crate::proofs::FunctionRows::next_argument_row))]
     fn write_next_argument<W: TextSink>(
         &self,
-        alloc: Global,
         number: usize,
         argument: &FunctionArgument,
         out: &mut Output<'_, W>,
@@ -213,13 +209,12 @@ impl FunctionText<'_> {
             (next_argument_text self.now number argument.now) }
     {
         out.put(if number == 0 { "" } else { ", " });
-        self.write_argument(alloc, number, argument, out);
+        self.write_argument(number, argument, out);
     }
 
     #[tactic(auto, using(naga_words::proofs::Writing::writes_then, crate::proofs::FunctionRows::argument_row))]
     fn write_argument<W: TextSink>(
         &self,
-        alloc: Global,
         number: usize,
         argument: &FunctionArgument,
         out: &mut Output<'_, W>,
@@ -233,28 +228,23 @@ impl FunctionText<'_> {
         write_passing(argument.binding, out);
         self.write_argument_name(number as u32, out);
         out.put(": ");
-        self.write_type(alloc, argument.ty, out);
+        self.write_type(argument.ty, out);
     }
 
     #[tactic(auto, using(naga_words::proofs::Writing::writes_nothing, crate::proofs::FunctionRows::result_row))]
-    fn write_result<W: TextSink>(&self, alloc: Global, out: &mut Output<'_, W>)
+    fn write_result<W: TextSink>(&self, out: &mut Output<'_, W>)
         requires { CanWrite self.now }
         ensures { Writes W.text W.failures out.old out.new (result_text self.now) }
     {
         match &self.function.result {
-            Some(answer) => self.write_answer(alloc, answer, out),
+            Some(answer) => self.write_answer(answer, out),
             None => {}
         }
     }
 
     /// What is returned: how it passes, and its type.
     #[tactic(auto, using(naga_words::proofs::Writing::writes_then, crate::proofs::FunctionRows::answer_row))]
-    fn write_answer<W: TextSink>(
-        &self,
-        alloc: Global,
-        answer: &FunctionResult,
-        out: &mut Output<'_, W>,
-    )
+    fn write_answer<W: TextSink>(&self, answer: &FunctionResult, out: &mut Output<'_, W>)
         requires can { CanWrite self.now }
         requires passing { IsTrue (option_map_or binding_has_form answer.now.binding true) }
         requires formed { IsTrue
@@ -263,51 +253,43 @@ impl FunctionText<'_> {
     {
         out.put(" -> ");
         write_passing(answer.binding, out);
-        self.write_type(alloc, answer.ty, out);
+        self.write_type(answer.ty, out);
     }
 
-    /// What stands behind the head. `scope` is what is in scope at the start.
+    /// What stands behind the head. The scope is that at the function's start.
     #[tactic(auto, using(naga_words::proofs::Writing::writes_then, crate::proofs::FunctionRows::body_row))]
-    fn write_body<W: TextSink>(&self, alloc: Global, scope: &mut Scope, out: &mut Output<'_, W>)
+    fn write_body<W: TextSink>(&self, at: &mut Position, out: &mut Output<'_, W>)
         requires can { CanWrite self.now }
-        requires start { StartsAt self.now scope.old.table }
-        requires named { scope.old.named ≡ 0 }
-        requires size { length scope.old.table ≡ length self.now.function.now.expressions }
-        requires room { HasRoom scope.old (block_changes self.now.function.now.body) }
+        requires start { IsAtStart self.now at.old.scope }
+        requires level { at.old.indent ≡ 0 }
         ensures { Writes W.text W.failures out.old out.new (body_text self.now) }
     {
-        self.write_locals(alloc, scope, out);
-        self.write_statements(alloc, scope, out);
+        self.write_locals(&at.scope, out);
+        self.write_statements(at, out);
         out.put("}\n");
     }
 
     /// The statements, one level deep.
-    fn write_statements<W: TextSink>(
-        &self,
-        alloc: Global,
-        scope: &mut Scope,
-        out: &mut Output<'_, W>,
-    )
+    fn write_statements<W: TextSink>(&self, at: &mut Position, out: &mut Output<'_, W>)
         requires can { CanWrite self.now }
-        requires size { length scope.old.table ≡ length self.now.function.now.expressions }
-        requires room { HasRoom scope.old (block_changes self.now.function.now.body) }
-        ensures { Writes W.text W.failures out.old out.new (block_text self.now scope.old.named
-            (handles_in self.now scope.old.table) 1 self.now.function.now.body) }
+        requires scope { HasScope self.now at.old.scope (block_changes self.now.function.now.body) }
+        requires level { at.old.indent ≡ 0 }
+        ensures { Writes W.text W.failures out.old out.new
+            (text_at self.now at.old.scope block_text 1 self.now.function.now.body) }
     {
-        let mut indent = Indent::new(alloc);
-        indent.deepen(out);
-        self.write_here(alloc, &self.function.body, scope, &mut indent, out);
+        at.indent.deepen(out);
+        self.write_here(&self.function.body, at, out);
     }
 
     /// The locals, and an empty line behind them if there are any.
     #[tactic(auto, using(naga_words::proofs::Writing::loop_writes))]
-    fn write_locals<W: TextSink>(&self, alloc: Global, scope: &Scope, out: &mut Output<'_, W>)
+    fn write_locals<W: TextSink>(&self, scope: &Scope, out: &mut Output<'_, W>)
         requires can { CanWrite self.now }
         requires start { StartsAt self.now scope.now.table }
         ensures { Writes W.text W.failures out.old out.new (locals_text self.now) }
     {
         for index in 0..self.function.local_variables.len() {
-            self.write_local(alloc, scope, Place::from_index(index), out);
+            self.write_local(scope, Place::from_index(index), out);
         }
         write_group_end(self.function.local_variables.is_empty(), out);
     }
@@ -315,7 +297,6 @@ impl FunctionText<'_> {
     #[tactic(auto, using(naga_words::proofs::Writing::writes_then, crate::proofs::FunctionRows::local_row))]
     fn write_local<W: TextSink>(
         &self,
-        alloc: Global,
         scope: &Scope,
         handle: Handle<LocalVariable>,
         out: &mut Output<'_, W>,
@@ -329,15 +310,14 @@ impl FunctionText<'_> {
         out.put("    var ");
         self.write_local_name(handle, out);
         out.put(": ");
-        self.write_type(alloc, local.ty, out);
-        self.write_first_value(alloc, scope, local.init, out);
+        self.write_type(local.ty, out);
+        self.write_first_value(scope, local.init, out);
     }
 
     /// What stands behind the type of a local.
     #[tactic(auto, using(crate::proofs::FunctionRows::first_row))]
     fn write_first_value<W: TextSink>(
         &self,
-        alloc: Global,
         scope: &Scope,
         value: Option<Handle<Expression>>,
         out: &mut Output<'_, W>,
@@ -348,7 +328,7 @@ impl FunctionText<'_> {
         ensures { Writes W.text W.failures out.old out.new (first_text self.now value) }
     {
         match value {
-            Some(value) => self.write_first(alloc, scope, value, out),
+            Some(value) => self.write_first(scope, value, out),
             None => out.put(";\n"),
         }
     }
@@ -356,7 +336,6 @@ impl FunctionText<'_> {
     #[tactic(auto, using(naga_words::proofs::Writing::writes_then, crate::proofs::FunctionRows::first_value_row))]
     fn write_first<W: TextSink>(
         &self,
-        alloc: Global,
         scope: &Scope,
         value: Handle<Expression>,
         out: &mut Output<'_, W>,
@@ -367,7 +346,7 @@ impl FunctionText<'_> {
         ensures { Writes W.text W.failures out.old out.new (first_value_text self.now value) }
     {
         out.put(" = ");
-        self.write_value(alloc, scope, value, out);
+        self.write_value(scope, value, out);
         out.put(";\n");
     }
 }

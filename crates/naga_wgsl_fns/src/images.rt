@@ -21,7 +21,6 @@ use naga_back::is_portable;
 use naga_ir::{Expression, Handle, ImageClass, SampleLevel, SwizzleComponent, TypeInner};
 use naga_scope::Scope;
 use naga_words::{Output, TextSink};
-use std::alloc::Global;
 
 impl FunctionText<'_> {
     /// A sampling: its word with the operands, behind them level zero where it is written, and last
@@ -29,7 +28,6 @@ impl FunctionText<'_> {
     #[cycle(expression)]
     pub(crate) fn write_sampling<W: TextSink>(
         &self,
-        alloc: Global,
         scope: &Scope,
         handle: Handle<Expression>,
         out: &mut Output<'_, W>,
@@ -54,14 +52,14 @@ impl FunctionText<'_> {
                 let compares = depth_ref.is_some();
                 let by_name = is_zero_by_name(*gather, compares, *clamp_to_edge);
                 self.write_sampling_head(*image, *gather, *level, compares, *clamp_to_edge, out);
-                self.write_value(alloc, scope, *image, out);
-                self.write_next_operand(alloc, scope, false, *sampler, out);
-                self.write_next_operand(alloc, scope, false, *coordinate, out);
-                self.write_further(alloc, scope, *array_index, out);
-                self.write_further(alloc, scope, *depth_ref, out);
-                self.write_level(alloc, scope, *level, out);
+                self.write_value(scope, *image, out);
+                self.write_next_operand(scope, false, *sampler, out);
+                self.write_next_operand(scope, false, *coordinate, out);
+                self.write_further(scope, *array_index, out);
+                self.write_further(scope, *depth_ref, out);
+                self.write_level(scope, *level, out);
                 out.put(level_str(*level, by_name, self.zero_is_whole(*image)));
-                self.write_offset(alloc, *offset, out);
+                self.write_offset(*offset, out);
                 out.put(")");
             }
             _ => unreachable!(),
@@ -115,7 +113,6 @@ impl FunctionText<'_> {
     #[cycle(expression)]
     fn write_further<W: TextSink>(
         &self,
-        alloc: Global,
         scope: &Scope,
         operand: Option<Handle<Expression>>,
         out: &mut Output<'_, W>,
@@ -126,19 +123,13 @@ impl FunctionText<'_> {
             (furthers_text self.now scope.now.table (option_to_list operand)) }
     {
         if let Some(operand) = operand {
-            self.write_next_operand(alloc, scope, false, operand, out);
+            self.write_next_operand(scope, false, operand, out);
         }
     }
 
     /// The level at which an image is sampled, as far as it is told by operands.
     #[cycle(expression)]
-    fn write_level<W: TextSink>(
-        &self,
-        alloc: Global,
-        scope: &Scope,
-        level: SampleLevel,
-        out: &mut Output<'_, W>,
-    )
+    fn write_level<W: TextSink>(&self, scope: &Scope, level: SampleLevel, out: &mut Output<'_, W>)
         requires can { CanWrite self.now }
         requires level { AreInText self.now (level_operands level) }
         ensures { Writes W.text W.failures out.old out.new
@@ -147,11 +138,11 @@ impl FunctionText<'_> {
         match level {
             SampleLevel::Auto => {}
             SampleLevel::Zero => {}
-            SampleLevel::Exact(level) => self.write_next_operand(alloc, scope, false, level, out),
-            SampleLevel::Bias(bias) => self.write_next_operand(alloc, scope, false, bias, out),
+            SampleLevel::Exact(level) => self.write_next_operand(scope, false, level, out),
+            SampleLevel::Bias(bias) => self.write_next_operand(scope, false, bias, out),
             SampleLevel::Gradient { x, y } => {
-                self.write_next_operand(alloc, scope, false, x, out);
-                self.write_next_operand(alloc, scope, false, y, out);
+                self.write_next_operand(scope, false, x, out);
+                self.write_next_operand(scope, false, y, out);
             }
         }
     }
@@ -159,19 +150,14 @@ impl FunctionText<'_> {
     /// The offset of a sampling, if there is one: a constant that is written out, whether it has a
     /// name or not.
     #[cycle(expression)]
-    fn write_offset<W: TextSink>(
-        &self,
-        alloc: Global,
-        offset: Option<Handle<Expression>>,
-        out: &mut Output<'_, W>,
-    )
+    fn write_offset<W: TextSink>(&self, offset: Option<Handle<Expression>>, out: &mut Output<'_, W>)
         requires can { CanWrite self.now }
         requires offset { AreInText self.now (option_to_list offset) }
         requires constant { IsTrue (offset_is_written (expressions self.now) offset) }
         ensures { Writes W.text W.failures out.old out.new (offset_text self.now offset) }
     {
         if let Some(offset) = offset {
-            self.write_next_operand(alloc, &Scope::without_names(alloc), false, offset, out);
+            self.write_next_operand(&Scope::without_names(self.alloc), false, offset, out);
         }
     }
 }

@@ -5,54 +5,68 @@ ghost use Rattle.std.specs.Option.{option_to_list};
 ghost use Rattle.naga_ir.specs.StatementTree.{emit, return, simple, store};
 ghost use Rattle.naga_ir.specs.StatementViews.{tree_of};
 ghost use Rattle.naga_scope.specs.Changes.{statement_changes};
-ghost use Rattle.naga_scope.specs.Log.{Counted, Extends, HasRoom};
+ghost use Rattle.naga_scope.specs.Log.{Extends};
 ghost use Rattle.naga_words.specs.Output.{Writes};
 ghost use Rattle.naga_wgsl_fns.specs.FunctionText.{AreInText, CanWrite, CanWriteStatement};
 ghost use Rattle.naga_wgsl_fns.specs.FunctionText.{IsInText, IsLet, bound, handles_in};
+ghost use Rattle.naga_wgsl_fns.specs.Positions.{HasScope, PassesStatement, text_at};
 ghost use Rattle.naga_wgsl_fns.specs.Statements.{after_statement, around_text, assignment_text};
 ghost use Rattle.naga_wgsl_fns.specs.Statements.{emitted_text, let_text, line_start};
-ghost use Rattle.naga_wgsl_fns.specs.Statements.{named_behind_statement, statement_text};
+ghost use Rattle.naga_wgsl_fns.specs.Statements.{statement_text};
 
 use crate::functions::FunctionText;
 use crate::indent::Indent;
 use naga_ir::{Expression, Handle, Place, Range, Statement};
 use naga_scope::{Scope, binds};
 use naga_words::{Output, TextSink};
-use std::alloc::Global;
+
+/// Where a line of a function's body stands: what is in scope in front of it, and how deep it is.
+#[derive(Drop)]
+pub(crate) struct Position {
+    pub(crate) scope: Scope,
+    pub(crate) indent: Indent,
+}
+
+impl Position {
+    /// Writes the blanks before a line, and what it starts with, which may be all of it.
+    #[tactic(auto, using(naga_words::proofs::Writing::writes_then, crate::proofs::StatementRows::line_start_row))]
+    pub(crate) fn write_start<W: TextSink>(&self, words: &str, out: &mut Output<'_, W>)
+        ensures { Writes W.text W.failures out.old out.new (line_start self.now.indent words.now) }
+    {
+        out.put(self.indent.as_str());
+        out.put(words);
+    }
+}
 
 impl FunctionText<'_> {
-    /// A `let` for each of these expressions that is to be bound. Behind the call, `scope` is what
-    /// is in scope behind the `Emit`.
+    /// A `let` for each of these expressions that is to be bound. After the call, the scope is
+    /// that after the `Emit`.
     #[tactic(auto, using(naga_words::proofs::Writing::loop_writes))]
     pub(crate) fn write_emit<W: TextSink>(
         &self,
-        alloc: Global,
         range: Range,
-        scope: &mut Scope,
-        indent: &Indent,
+        at: &mut Position,
         out: &mut Output<'_, W>,
     )
         requires can { CanWrite self.now }
-        requires size { length scope.old.table ≡ length self.now.function.now.expressions }
         requires statement { CanWriteStatement self.now (simple (emit range.first range.end)) }
-        requires room { HasRoom scope.old
+        requires scope { HasScope self.now at.old.scope
             (statement_changes (simple (emit range.first range.end))) }
-        ensures text { Writes W.text W.failures out.old out.new
-            (statement_text self.now scope.old.named (handles_in self.now scope.old.table)
-            indent.now (simple (emit range.first range.end))) }
-        ensures after { handles_in self.now scope.new.table
-            ≡ after_statement self.now scope.old.named (simple (emit range.first range.end))
-            (handles_in self.now scope.old.table) }
-        ensures kept { Extends scope.old scope.new }
-        ensures named { scope.new.named ≡ named_behind_statement self.now
-            (simple (emit range.first range.end)) scope.old.named }
-        ensures counted { Counted scope.old scope.new
-            (statement_changes (simple (emit range.first range.end))) }
+        ensures text { Writes W.text W.failures out.old out.new (text_at self.now at.old.scope
+            statement_text at.old.indent (simple (emit range.first range.end))) }
+        ensures passed { PassesStatement self.now at.old at.new
+            (simple (emit range.first range.end)) }
+        ensures after { handles_in self.now at.new.scope.table
+            ≡ after_statement self.now at.old.scope.named
+            (simple (emit range.first range.end))
+            (handles_in self.now at.old.scope.table) }
+        ensures kept { Extends at.old.scope at.new.scope }
     {
         for index in range.first..range.end {
             let handle = Place::from_index(index);
-            self.write_emitted(alloc, scope, handle, indent, out);
-            scope.emit(&self.shader.types, self.function, self.info, handle);
+            self.write_emitted(handle, at, out);
+            at.scope
+                .emit(&self.shader.types, self.function, self.info, handle);
         }
     }
 
@@ -60,142 +74,117 @@ impl FunctionText<'_> {
     #[tactic(auto, using(naga_words::proofs::Writing::writes_nothing), unfolding(crate::specs::Statements::emitted_text))]
     fn write_emitted<W: TextSink>(
         &self,
-        alloc: Global,
-        scope: &Scope,
         handle: Handle<Expression>,
-        indent: &Indent,
+        at: &Position,
         out: &mut Output<'_, W>,
     )
         requires can { CanWrite self.now }
         requires handle { handle < length self.now.function.now.expressions }
         requires root { IsTrue (bound self.now handle) → IsInText self.now handle }
         requires named { IsTrue (bound self.now handle) → IsLet self.now handle }
-        ensures { Writes W.text W.failures out.old out.new (emitted_text self.now scope.now.named
-            (handles_in self.now scope.now.table) indent.now handle) }
+        ensures { Writes W.text W.failures out.old out.new
+            (text_at self.now at.now.scope emitted_text at.now.indent handle) }
     {
         if binds(&self.shader.types, self.function, self.info, handle) {
-            self.write_let(alloc, scope, handle, indent, out);
+            self.write_let(handle, at, out);
         }
     }
 
     fn write_let<W: TextSink>(
         &self,
-        alloc: Global,
-        scope: &Scope,
         handle: Handle<Expression>,
-        indent: &Indent,
+        at: &Position,
         out: &mut Output<'_, W>,
     )
         requires can { CanWrite self.now }
         requires handle { IsInText self.now handle }
         requires named { IsLet self.now handle }
-        ensures { Writes W.text W.failures out.old out.new (let_text self.now scope.now.named
-            (handles_in self.now scope.now.table) indent.now handle) }
+        ensures { Writes W.text W.failures out.old out.new
+            (text_at self.now at.now.scope let_text at.now.indent handle) }
     {
-        write_line_start(indent, "let ", out);
-        self.write_next_name(scope, handle, out);
-        self.write_let_annotation(alloc, handle, out);
+        at.write_start("let ", out);
+        self.write_next_name(&at.scope, handle, out);
+        self.write_let_annotation(handle, out);
         out.put(" = ");
-        self.write_own(alloc, scope, handle, out);
+        self.write_own(&at.scope, handle, out);
         out.put(";\n");
     }
 
     /// A store: to an atomic by `atomicStore`, else an assignment to what is pointed to.
     pub(crate) fn write_store<W: TextSink>(
         &self,
-        alloc: Global,
         statement: &Statement,
         pointer: Handle<Expression>,
         value: Handle<Expression>,
-        scope: &Scope,
-        indent: &Indent,
+        at: &Position,
         out: &mut Output<'_, W>,
     )
         requires can { CanWrite self.now }
         requires stored { tree_of statement.now ≡ simple (store pointer value) }
         requires statement { CanWriteStatement self.now (tree_of statement.now) }
         ensures { Writes W.text W.failures out.old out.new
-            (statement_text self.now scope.now.named (handles_in self.now scope.now.table)
-            indent.now (tree_of statement.now)) }
+            (text_at self.now at.now.scope statement_text at.now.indent (tree_of statement.now)) }
     {
         if self.is_atomic_pointer(pointer) {
-            self.write_act_line(alloc, "atomicStore", statement, scope, indent, out);
+            self.write_act_line("atomicStore", statement, at, out);
         } else {
-            self.write_assignment(alloc, pointer, value, scope, indent, out);
+            self.write_assignment(pointer, value, at, out);
         }
     }
 
     fn write_assignment<W: TextSink>(
         &self,
-        alloc: Global,
         pointer: Handle<Expression>,
         value: Handle<Expression>,
-        scope: &Scope,
-        indent: &Indent,
+        at: &Position,
         out: &mut Output<'_, W>,
     )
         requires can { CanWrite self.now }
         requires pointer { IsInText self.now pointer }
         requires value { IsInText self.now value }
-        ensures { Writes W.text W.failures out.old out.new
-            (assignment_text self.now (handles_in self.now scope.now.table) indent.now pointer
-            value) }
+        ensures { Writes W.text W.failures out.old out.new (assignment_text self.now
+            (handles_in self.now at.now.scope.table) at.now.indent pointer value) }
     {
-        out.put(indent.as_str());
-        self.write_reference(alloc, scope, pointer, out);
+        out.put(at.indent.as_str());
+        self.write_reference(&at.scope, pointer, out);
         out.put(" = ");
-        self.write_value(alloc, scope, value, out);
+        self.write_value(&at.scope, value, out);
         out.put(";\n");
     }
 
     pub(crate) fn write_return<W: TextSink>(
         &self,
-        alloc: Global,
-        scope: &Scope,
         value: Option<Handle<Expression>>,
-        indent: &Indent,
+        at: &Position,
         out: &mut Output<'_, W>,
     )
         requires can { CanWrite self.now }
         requires value { AreInText self.now (option_to_list value) }
         ensures { Writes W.text W.failures out.old out.new
-            (statement_text self.now scope.now.named (handles_in self.now scope.now.table)
-            indent.now (simple (return value))) }
+            (text_at self.now at.now.scope statement_text at.now.indent (simple (return value))) }
     {
         match value {
-            Some(value) => self.write_around(alloc, "return ", value, ";\n", scope, indent, out),
-            None => write_line_start(indent, "return;\n", out),
+            Some(value) => self.write_around("return ", value, ";\n", at, out),
+            None => at.write_start("return;\n", out),
         }
     }
 
     /// A value between what a line starts with and what it ends with.
     pub(crate) fn write_around<W: TextSink>(
         &self,
-        alloc: Global,
         start: &str,
         value: Handle<Expression>,
         end: &str,
-        scope: &Scope,
-        indent: &Indent,
+        at: &Position,
         out: &mut Output<'_, W>,
     )
         requires can { CanWrite self.now }
         requires value { IsInText self.now value }
-        ensures { Writes W.text W.failures out.old out.new
-            (around_text self.now (handles_in self.now scope.now.table) indent.now start.now value
-            end.now) }
+        ensures { Writes W.text W.failures out.old out.new (around_text self.now
+            (handles_in self.now at.now.scope.table) at.now.indent start.now value end.now) }
     {
-        write_line_start(indent, start, out);
-        self.write_value(alloc, scope, value, out);
+        at.write_start(start, out);
+        self.write_value(&at.scope, value, out);
         out.put(end);
     }
-}
-
-/// The blanks before a line, and what it starts with, which may be all of it.
-#[tactic(auto, using(naga_words::proofs::Writing::writes_then, crate::proofs::StatementRows::line_start_row))]
-pub(crate) fn write_line_start<W: TextSink>(indent: &Indent, words: &str, out: &mut Output<'_, W>)
-    ensures { Writes W.text W.failures out.old out.new (line_start indent.now words.now) }
-{
-    out.put(indent.as_str());
-    out.put(words);
 }

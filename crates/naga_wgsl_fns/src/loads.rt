@@ -20,7 +20,6 @@ use naga_ir::{
 };
 use naga_scope::{Scope, scalar_behind};
 use naga_words::{Output, TextSink};
-use std::alloc::Global;
 
 impl FunctionText<'_> {
     /// What is behind a pointer: an atomic by `atomicLoad`, and anything else as the reference that the
@@ -28,7 +27,6 @@ impl FunctionText<'_> {
     #[cycle(expression)]
     pub(crate) fn write_load<W: TextSink>(
         &self,
-        alloc: Global,
         scope: &Scope,
         handle: Handle<Expression>,
         pointer: Handle<Expression>,
@@ -40,9 +38,9 @@ impl FunctionText<'_> {
         ensures { Writes W.text W.failures out.old out.new (load_text self.now scope.now.table pointer) }
     {
         if self.is_atomic_pointer(pointer) {
-            self.write_called(alloc, scope, handle, "atomicLoad", out);
+            self.write_called(scope, handle, "atomicLoad", out);
         } else {
-            self.write_reference(alloc, scope, pointer, out);
+            self.write_reference(scope, pointer, out);
         }
     }
 
@@ -70,7 +68,6 @@ impl FunctionText<'_> {
     #[cycle(expression)]
     pub(crate) fn write_matrix_load<W: TextSink>(
         &self,
-        alloc: Global,
         scope: &Scope,
         handle: Handle<Expression>,
         columns: CooperativeSize,
@@ -87,15 +84,14 @@ impl FunctionText<'_> {
             (made_text self.now scope.now.table (matrix_callee self.now columns rows role place)
             handle) }
     {
-        self.write_matrix_callee(alloc, columns, rows, role, place, out);
+        self.write_matrix_callee(columns, rows, role, place, out);
         out.put("(");
-        self.write_operands(alloc, scope, handle, out);
+        self.write_operands(scope, handle, out);
     }
 
     /// The word that loads a matrix, with the type of that.
     fn write_matrix_callee<W: TextSink>(
         &self,
-        alloc: Global,
         columns: CooperativeSize,
         rows: CooperativeSize,
         role: CooperativeRole,
@@ -115,7 +111,7 @@ impl FunctionText<'_> {
             scalar,
             role,
         });
-        self.write_taking(alloc, load_str(place.row_major), &matrix, out);
+        self.write_taking(load_str(place.row_major), &matrix, out);
         drop(matrix);
     }
 
@@ -134,13 +130,7 @@ impl FunctionText<'_> {
 
     /// A word that takes a type, with that.
     #[tactic(auto, using(naga_words::proofs::Writing::writes_then, crate::proofs::LoadRows::taking_row))]
-    fn write_taking<W: TextSink>(
-        &self,
-        alloc: Global,
-        word: &str,
-        ty: &TypeResolution,
-        out: &mut Output<'_, W>,
-    )
+    fn write_taking<W: TextSink>(&self, word: &str, ty: &TypeResolution, out: &mut Output<'_, W>)
         requires can { CanWrite self.now }
         requires formed { IsTrue (is_spelled self.now.shader.now.types ty.now) }
         requires fits { IsTrue (resolution_fits (length self.now.shader.now.overrides)
@@ -149,7 +139,7 @@ impl FunctionText<'_> {
     {
         out.put(word);
         out.put("<");
-        self.write_type_of(alloc, ty, out);
+        self.write_type_of(ty, out);
         out.put(">");
     }
 }

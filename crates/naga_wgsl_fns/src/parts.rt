@@ -27,14 +27,12 @@ use itoa::Buffer;
 use naga_ir::{Expression, Handle, SwizzleComponent, Type_, TypeInner, UniqueArena, VectorSize};
 use naga_scope::{Availability, Scope, whole_known};
 use naga_words::{Output, TextSink};
-use std::alloc::Global;
 
 impl FunctionText<'_> {
     /// A part at an index, as a value: with `&`, where it is one of what is pointed at.
     #[cycle(expression)]
     pub(crate) fn write_part_value<W: TextSink>(
         &self,
-        alloc: Global,
         scope: &Scope,
         handle: Handle<Expression>,
         base: Handle<Expression>,
@@ -47,9 +45,9 @@ impl FunctionText<'_> {
             (part_value_text self.now scope.now.table handle base) }
     {
         if self.points(base) {
-            self.write_part_address(alloc, scope, handle, base, out);
+            self.write_part_address(scope, handle, base, out);
         } else {
-            self.write_part(alloc, scope, handle, base, out);
+            self.write_part(scope, handle, base, out);
         }
     }
 
@@ -57,7 +55,6 @@ impl FunctionText<'_> {
     #[cycle(expression)]
     pub(crate) fn write_part_reference<W: TextSink>(
         &self,
-        alloc: Global,
         scope: &Scope,
         handle: Handle<Expression>,
         base: Handle<Expression>,
@@ -70,9 +67,9 @@ impl FunctionText<'_> {
             (part_reference_text self.now scope.now.table handle base) }
     {
         if self.points(base) {
-            self.write_part(alloc, scope, handle, base, out);
+            self.write_part(scope, handle, base, out);
         } else {
-            self.write_dereference(alloc, scope, handle, out);
+            self.write_dereference(scope, handle, out);
         }
     }
 
@@ -81,7 +78,6 @@ impl FunctionText<'_> {
     #[tactic(auto, using(naga_words::proofs::Writing::writes_then, crate::proofs::PartRows::plain_address_row))]
     fn write_part_address<W: TextSink>(
         &self,
-        alloc: Global,
         scope: &Scope,
         handle: Handle<Expression>,
         base: Handle<Expression>,
@@ -94,7 +90,7 @@ impl FunctionText<'_> {
             (plain_address_text self.now scope.now.table handle) }
     {
         out.put("(&");
-        self.write_part(alloc, scope, handle, base, out);
+        self.write_part(scope, handle, base, out);
         out.put(")");
     }
 
@@ -103,7 +99,6 @@ impl FunctionText<'_> {
     #[tactic(auto, using(naga_words::proofs::Writing::writes_then, crate::proofs::PartRows::plain_row))]
     fn write_part<W: TextSink>(
         &self,
-        alloc: Global,
         scope: &Scope,
         handle: Handle<Expression>,
         base: Handle<Expression>,
@@ -114,8 +109,8 @@ impl FunctionText<'_> {
         requires part { base_of (slice_get self.now.function.now.expressions handle) ≡ Some base }
         ensures { Writes W.text W.failures out.old out.new (plain_text self.now scope.now.table handle) }
     {
-        self.write_part_base(alloc, scope, base, out);
-        self.write_part_end(alloc, scope, handle, base, out);
+        self.write_part_base(scope, base, out);
+        self.write_part_end(scope, handle, base, out);
     }
 
     /// What a part is taken of: as a reference where it points, so that the part is one too, else
@@ -123,7 +118,6 @@ impl FunctionText<'_> {
     #[cycle(expression)]
     fn write_part_base<W: TextSink>(
         &self,
-        alloc: Global,
         scope: &Scope,
         base: Handle<Expression>,
         out: &mut Output<'_, W>,
@@ -134,9 +128,9 @@ impl FunctionText<'_> {
             (part_base_text self.now scope.now.table base) }
     {
         if self.points(base) {
-            self.write_reference(alloc, scope, base, out);
+            self.write_reference(scope, base, out);
         } else {
-            self.write_base(alloc, scope, base, out);
+            self.write_base(scope, base, out);
         }
     }
 
@@ -144,7 +138,6 @@ impl FunctionText<'_> {
     #[cycle(expression)]
     fn write_part_end<W: TextSink>(
         &self,
-        alloc: Global,
         scope: &Scope,
         handle: Handle<Expression>,
         base: Handle<Expression>,
@@ -157,7 +150,7 @@ impl FunctionText<'_> {
             (part_end_text self.now scope.now.table handle) }
     {
         match &self.function.expressions[handle] {
-            Expression::Access { index, .. } => self.write_index(alloc, scope, *index, out),
+            Expression::Access { index, .. } => self.write_index(scope, *index, out),
             Expression::AccessIndex { index, .. } => self.write_selector(base, *index, out),
             _ => unreachable!(),
         }
@@ -167,7 +160,6 @@ impl FunctionText<'_> {
     #[tactic(auto, using(naga_words::proofs::Writing::writes_then, crate::proofs::PartRows::index_row))]
     fn write_index<W: TextSink>(
         &self,
-        alloc: Global,
         scope: &Scope,
         index: Handle<Expression>,
         out: &mut Output<'_, W>,
@@ -177,7 +169,7 @@ impl FunctionText<'_> {
         ensures { Writes W.text W.failures out.old out.new (index_text self.now scope.now.table index) }
     {
         out.put("[");
-        self.write_value(alloc, scope, index, out);
+        self.write_value(scope, index, out);
         out.put("]");
     }
 
@@ -308,7 +300,6 @@ impl FunctionText<'_> {
     #[tactic(auto, using(naga_words::proofs::Writing::writes_then, crate::proofs::PartRows::swizzle_row))]
     pub(crate) fn write_swizzle<W: TextSink>(
         &self,
-        alloc: Global,
         scope: &Scope,
         size: VectorSize,
         vector: Handle<Expression>,
@@ -320,7 +311,7 @@ impl FunctionText<'_> {
         ensures { Writes W.text W.failures out.old out.new
             (member_text self.now scope.now.table vector (swizzle_letters size pattern.now)) }
     {
-        self.write_base(alloc, scope, vector, out);
+        self.write_base(scope, vector, out);
         out.put(".");
         write_letters(size, pattern, out);
     }
@@ -330,7 +321,6 @@ impl FunctionText<'_> {
     #[cycle(expression)]
     fn write_base<W: TextSink>(
         &self,
-        alloc: Global,
         scope: &Scope,
         handle: Handle<Expression>,
         out: &mut Output<'_, W>,
@@ -341,9 +331,9 @@ impl FunctionText<'_> {
             (base_text self.now scope.now.table handle) }
     {
         if self.is_signed(scope, handle) {
-            self.write_in_parentheses(alloc, scope, handle, out);
+            self.write_in_parentheses(scope, handle, out);
         } else {
-            self.write_value(alloc, scope, handle, out);
+            self.write_value(scope, handle, out);
         }
     }
 
@@ -351,7 +341,6 @@ impl FunctionText<'_> {
     #[tactic(auto, using(naga_words::proofs::Writing::writes_then, crate::proofs::PartRows::parenthesized_row))]
     fn write_in_parentheses<W: TextSink>(
         &self,
-        alloc: Global,
         scope: &Scope,
         handle: Handle<Expression>,
         out: &mut Output<'_, W>,
@@ -362,7 +351,7 @@ impl FunctionText<'_> {
             (parenthesized_text self.now scope.now.table handle) }
     {
         out.put("(");
-        self.write_value(alloc, scope, handle, out);
+        self.write_value(scope, handle, out);
         out.put(")");
     }
 

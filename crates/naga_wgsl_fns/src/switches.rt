@@ -1,28 +1,25 @@
 //! Switches.
 
-ghost use Rattle.std.specs.Prelude.{◌≡◌, ◌<◌, ◌+◌, ◌++◌, [], IsTrue, if◌then◌else◌, length, suc};
+ghost use Rattle.std.specs.Prelude.{◌≡◌, ◌<◌, ◌+◌, [], IsTrue, if◌then◌else◌, suc};
 ghost use Rattle.naga_form.specs.Statements.{label_form};
 ghost use Rattle.naga_ir.specs.StatementTree.{no_statements, switch};
 ghost use Rattle.naga_ir.specs.StatementViews.{cases_of};
 ghost use Rattle.naga_scope.specs.Changes.{block_changes, cases_changes, statement_changes};
-ghost use Rattle.naga_scope.specs.Log.{Counted, HasRoom, Same};
+ghost use Rattle.naga_scope.specs.Log.{Same};
 ghost use Rattle.naga_words.specs.Output.{Writes};
 ghost use Rattle.naga_wgsl_fns.specs.FunctionText.{CanWrite, CanWriteBlock, CanWriteCases};
-ghost use Rattle.naga_wgsl_fns.specs.FunctionText.{CanWriteStatement, handles_in};
+ghost use Rattle.naga_wgsl_fns.specs.FunctionText.{CanWriteStatement};
+ghost use Rattle.naga_wgsl_fns.specs.Positions.{HasScope, PassesBlock, PassesCases};
+ghost use Rattle.naga_wgsl_fns.specs.Positions.{PassesStatement, text_at};
 ghost use Rattle.naga_wgsl_fns.specs.Statements.{case_text, cases_text, group_start, group_text};
-ghost use Rattle.naga_wgsl_fns.specs.Statements.{label_text};
-ghost use Rattle.naga_wgsl_fns.specs.Statements.{labels_of, named_behind, named_behind_cases};
-ghost use Rattle.naga_wgsl_fns.specs.Statements.{named_behind_statement, statement_text};
-ghost use Rattle.naga_wgsl_fns.specs.Statements.{stands_alone, waiting_text};
+ghost use Rattle.naga_wgsl_fns.specs.Statements.{label_text, labels_of, stands_alone};
+ghost use Rattle.naga_wgsl_fns.specs.Statements.{statement_text, waiting_text};
 
 use crate::functions::FunctionText;
-use crate::indent::Indent;
-use crate::lines::write_line_start;
+use crate::lines::Position;
 use crate::literal::write_number;
 use naga_ir::{Block, Expression, Handle, SwitchCase, SwitchValue};
-use naga_scope::Scope;
 use naga_words::{Output, TextSink};
-use std::alloc::Global;
 
 impl FunctionText<'_> {
     /// A switch. The scope stays.
@@ -30,60 +27,27 @@ impl FunctionText<'_> {
     #[tactic(auto, using(naga_words::proofs::Writing::writes_then, crate::proofs::SwitchRows::switch_row, crate::proofs::StatementParts::selector_inside, crate::proofs::StatementParts::cases_inside))]
     pub(crate) fn write_switch<W: TextSink>(
         &self,
-        alloc: Global,
         selector: Handle<Expression>,
         cases: &[SwitchCase],
-        scope: &mut Scope,
-        indent: &mut Indent,
+        at: &mut Position,
         out: &mut Output<'_, W>,
     )
         requires can { CanWrite self.now }
-        requires size { length scope.old.table ≡ length self.now.function.now.expressions }
         requires statement { CanWriteStatement self.now (switch selector (cases_of cases.now)) }
-        requires room { HasRoom scope.old
+        requires scope { HasScope self.now at.old.scope
             (statement_changes (switch selector (cases_of cases.now))) }
-        ensures text { Writes W.text W.failures out.old out.new
-            (statement_text self.now scope.old.named (handles_in self.now scope.old.table)
-            indent.old (switch selector (cases_of cases.now))) }
-        ensures same { Same scope.old scope.new }
-        ensures named { scope.new.named ≡ named_behind_statement self.now
-            (switch selector (cases_of cases.now)) scope.old.named }
-        ensures counted { Counted scope.old scope.new
-            (statement_changes (switch selector (cases_of cases.now))) }
-        ensures indent { indent.new ≡ indent.old }
+        ensures text { Writes W.text W.failures out.old out.new (text_at self.now at.old.scope
+            statement_text at.old.indent (switch selector (cases_of cases.now))) }
+        ensures passed { PassesStatement self.now at.old at.new
+            (switch selector (cases_of cases.now)) }
+        ensures same { Same at.old.scope at.new.scope }
     {
-        self.write_around(alloc, "switch ", selector, " {\n", scope, indent, out);
-        self.write_cases_deeper(alloc, cases, scope, indent, out);
-        write_line_start(indent, "}\n", out);
-    }
-
-    /// The cases of a switch, one level deeper.
-    #[cycle(statement)]
-    fn write_cases_deeper<W: TextSink>(
-        &self,
-        alloc: Global,
-        cases: &[SwitchCase],
-        scope: &mut Scope,
-        indent: &mut Indent,
-        out: &mut Output<'_, W>,
-    )
-        requires can { CanWrite self.now }
-        requires size { length scope.old.table ≡ length self.now.function.now.expressions }
-        requires cases { CanWriteCases self.now (cases_of cases.now) }
-        requires room { HasRoom scope.old (cases_changes (cases_of cases.now)) }
-        ensures text { Writes W.text W.failures out.old out.new
-            (cases_text self.now scope.old.named (handles_in self.now scope.old.table)
-            (suc indent.old) [] (cases_of cases.now)) }
-        ensures same { Same scope.old scope.new }
-        ensures named { scope.new.named
-            ≡ named_behind_cases self.now (cases_of cases.now) scope.old.named }
-        ensures counted { Counted scope.old scope.new (cases_changes (cases_of cases.now)) }
-        ensures indent { indent.new ≡ indent.old }
-    {
-        let level = indent.level();
-        indent.deepen(out);
-        self.write_cases(alloc, cases, scope, indent, out);
-        indent.back_to(level);
+        self.write_around("switch ", selector, " {\n", at, out);
+        let level = at.indent.level();
+        at.indent.deepen(out);
+        self.write_cases(cases, at, out);
+        at.indent.back_to(level);
+        at.write_start("}\n", out);
     }
 
     /// The cases of a switch. One that falls through has no statements, and gives its label to the
@@ -92,61 +56,48 @@ impl FunctionText<'_> {
     #[tactic(auto, using(naga_words::proofs::Writing::loop_writes))]
     fn write_cases<W: TextSink>(
         &self,
-        alloc: Global,
         cases: &[SwitchCase],
-        scope: &mut Scope,
-        indent: &mut Indent,
+        at: &mut Position,
         out: &mut Output<'_, W>,
     )
         requires can { CanWrite self.now }
-        requires size { length scope.old.table ≡ length self.now.function.now.expressions }
         requires cases { CanWriteCases self.now (cases_of cases.now) }
-        requires room { HasRoom scope.old (cases_changes (cases_of cases.now)) }
+        requires scope { HasScope self.now at.old.scope (cases_changes (cases_of cases.now)) }
         ensures text { Writes W.text W.failures out.old out.new
-            (cases_text self.now scope.old.named (handles_in self.now scope.old.table)
-            indent.old [] (cases_of cases.now)) }
-        ensures same { Same scope.old scope.new }
-        ensures named { scope.new.named
-            ≡ named_behind_cases self.now (cases_of cases.now) scope.old.named }
-        ensures counted { Counted scope.old scope.new (cases_changes (cases_of cases.now)) }
-        ensures indent { indent.new ≡ indent.old }
+            (text_at self.now at.old.scope cases_text at.old.indent [] (cases_of cases.now)) }
+        ensures passed { PassesCases self.now at.old at.new (cases_of cases.now) }
+        ensures same { Same at.old.scope at.new.scope }
     {
         let mut first = 0;
         for index in 0..cases.len() {
             let case = &cases[index];
-            self.write_case(alloc, &cases[first..index], case, scope, indent, out);
+            self.write_case(&cases[first..index], case, at, out);
             first = first_waiting(case, first, index);
         }
     }
 
     /// A case that doesn't fall through, with the labels of those that wait for it.
     #[cycle(statement)]
-    #[tactic(auto, using(naga_words::proofs::Writing::writes_nothing), unfolding(crate::specs::Statements::case_text))]
+    #[tactic(auto, using(naga_words::proofs::Writing::writes_nothing, crate::proofs::Passing::nothing_passed), unfolding(crate::specs::Statements::case_text))]
     fn write_case<W: TextSink>(
         &self,
-        alloc: Global,
         waiting: &[SwitchCase],
         case: &SwitchCase,
-        scope: &mut Scope,
-        indent: &mut Indent,
+        at: &mut Position,
         out: &mut Output<'_, W>,
     )
         requires can { CanWrite self.now }
-        requires size { length scope.old.table ≡ length self.now.function.now.expressions }
         requires body { CanWriteBlock self.now case.now.body }
         requires empty { IsTrue case.now.fall_through → case.now.body ≡ no_statements }
-        requires room { HasRoom scope.old (block_changes case.now.body) }
-        ensures text { Writes W.text W.failures out.old out.new
-            (case_text self.now scope.old.named (handles_in self.now scope.old.table) indent.old
-            (labels_of waiting.now) (label_form case.now.value) case.now.fall_through
-            case.now.body) }
-        ensures same { Same scope.old scope.new }
-        ensures named { scope.new.named ≡ named_behind self.now case.now.body scope.old.named }
-        ensures counted { Counted scope.old scope.new (block_changes case.now.body) }
-        ensures indent { indent.new ≡ indent.old }
+        requires scope { HasScope self.now at.old.scope (block_changes case.now.body) }
+        ensures text { Writes W.text W.failures out.old out.new (text_at self.now at.old.scope
+            case_text at.old.indent (labels_of waiting.now) (label_form case.now.value)
+            case.now.fall_through case.now.body) }
+        ensures passed { PassesBlock self.now at.old at.new case.now.body }
+        ensures same { Same at.old.scope at.new.scope }
     {
         if !case.fall_through {
-            self.write_group(alloc, waiting, case.value, &case.body, scope, indent, out);
+            self.write_group(waiting, case.value, &case.body, at, out);
         }
     }
 
@@ -155,31 +106,25 @@ impl FunctionText<'_> {
     #[tactic(auto, using(naga_words::proofs::Writing::writes_then, crate::proofs::SwitchRows::group_row))]
     fn write_group<W: TextSink>(
         &self,
-        alloc: Global,
         waiting: &[SwitchCase],
         value: SwitchValue,
         body: &Block,
-        scope: &mut Scope,
-        indent: &mut Indent,
+        at: &mut Position,
         out: &mut Output<'_, W>,
     )
         requires can { CanWrite self.now }
-        requires size { length scope.old.table ≡ length self.now.function.now.expressions }
         requires body { CanWriteBlock self.now body.now }
-        requires room { HasRoom scope.old (block_changes body.now) }
-        ensures text { Writes W.text W.failures out.old out.new
-            (group_text self.now scope.old.named (handles_in self.now scope.old.table)
-            indent.old (labels_of waiting.now) (label_form value) body.now) }
-        ensures same { Same scope.old scope.new }
-        ensures named { scope.new.named ≡ named_behind self.now body.now scope.old.named }
-        ensures counted { Counted scope.old scope.new (block_changes body.now) }
-        ensures indent { indent.new ≡ indent.old }
+        requires scope { HasScope self.now at.old.scope (block_changes body.now) }
+        ensures text { Writes W.text W.failures out.old out.new (text_at self.now at.old.scope
+            group_text at.old.indent (labels_of waiting.now) (label_form value) body.now) }
+        ensures passed { PassesBlock self.now at.old at.new body.now }
+        ensures same { Same at.old.scope at.new.scope }
     {
-        out.put(indent.as_str());
+        out.put(at.indent.as_str());
         write_group_start(waiting, value, out);
         out.put(" {\n");
-        self.write_inner(alloc, body, scope, indent, out);
-        write_line_start(indent, "}\n", out);
+        self.write_inner(body, at, out);
+        at.write_start("}\n", out);
     }
 }
 

@@ -16,31 +16,20 @@ use naga_info::TypeResolution;
 use naga_ir::{Expression, Handle, Type_};
 use naga_words::types::write_resolution_in;
 use naga_words::{Output, TextSink, WriterTypeContext};
-use std::alloc::Global;
 
 impl FunctionText<'_> {
     /// The type with this handle.
-    pub(crate) fn write_type<W: TextSink>(
-        &self,
-        alloc: Global,
-        ty: Handle<Type_>,
-        out: &mut Output<'_, W>,
-    )
+    pub(crate) fn write_type<W: TextSink>(&self, ty: Handle<Type_>, out: &mut Output<'_, W>)
         requires can { CanWrite self.now }
         requires formed { IsTrue (is_spelled self.now.shader.now.types (resolution.Handle ty)) }
         ensures { Writes W.text W.failures out.old out.new (type_text self.now ty) }
     {
-        self.of_module().write_type(alloc, ty, out);
+        self.of_module().write_type(self.alloc, ty, out);
     }
 
     /// A colon, and the type of an expression.
     #[tactic(auto, using(naga_words::proofs::Writing::writes_then, crate::proofs::TypeRows::annotation_row))]
-    fn write_annotation<W: TextSink>(
-        &self,
-        alloc: Global,
-        ty: &TypeResolution,
-        out: &mut Output<'_, W>,
-    )
+    fn write_annotation<W: TextSink>(&self, ty: &TypeResolution, out: &mut Output<'_, W>)
         requires can { CanWrite self.now }
         requires formed { IsTrue (is_spelled self.now.shader.now.types ty.now) }
         requires fits { IsTrue (resolution_fits (length self.now.shader.now.overrides)
@@ -48,16 +37,11 @@ impl FunctionText<'_> {
         ensures { Writes W.text W.failures out.old out.new (annotation_text self.now ty.now) }
     {
         out.put(": ");
-        self.write_type_of(alloc, ty, out);
+        self.write_type_of(ty, out);
     }
 
     /// The type of an expression.
-    pub(crate) fn write_type_of<W: TextSink>(
-        &self,
-        alloc: Global,
-        ty: &TypeResolution,
-        out: &mut Output<'_, W>,
-    )
+    pub(crate) fn write_type_of<W: TextSink>(&self, ty: &TypeResolution, out: &mut Output<'_, W>)
         requires can { CanWrite self.now }
         requires formed { IsTrue (is_spelled self.now.shader.now.types ty.now) }
         requires fits { IsTrue (resolution_fits (length self.now.shader.now.overrides)
@@ -68,16 +52,11 @@ impl FunctionText<'_> {
             module: self.shader,
             names: self.names,
         };
-        write_resolution_in(&context, alloc, ty, out);
+        write_resolution_in(&context, self.alloc, ty, out);
     }
 
     /// The same, where types are told.
-    fn write_let_type<W: TextSink>(
-        &self,
-        alloc: Global,
-        handle: Handle<Expression>,
-        out: &mut Output<'_, W>,
-    )
+    fn write_let_type<W: TextSink>(&self, handle: Handle<Expression>, out: &mut Output<'_, W>)
         requires can { CanWrite self.now }
         requires handle { handle < length self.now.function.now.expressions }
         requires named { IsLet self.now handle }
@@ -86,7 +65,7 @@ impl FunctionText<'_> {
     {
         let ty = &self.info[handle].ty;
         if !self.tables.names_undeclared(self.shader, ty) {
-            self.write_annotation(alloc, ty, out);
+            self.write_annotation(ty, out);
         }
     }
 
@@ -94,7 +73,6 @@ impl FunctionText<'_> {
     /// for it and it names no struct that no text declares.
     pub(crate) fn write_let_annotation<W: TextSink>(
         &self,
-        alloc: Global,
         handle: Handle<Expression>,
         out: &mut Output<'_, W>,
     )
@@ -104,7 +82,7 @@ impl FunctionText<'_> {
         ensures { Writes W.text W.failures out.old out.new (let_annotation_text self.now handle) }
     {
         if annotates_types(self.flags) {
-            self.write_let_type(alloc, handle, out);
+            self.write_let_type(handle, out);
         }
     }
 }

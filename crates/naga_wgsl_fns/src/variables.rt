@@ -11,7 +11,6 @@ use crate::functions::FunctionText;
 use naga_ir::{AddressSpace, Expression, GlobalVariable, Handle};
 use naga_scope::Scope;
 use naga_words::{Output, TextSink};
-use std::alloc::Global;
 
 impl FunctionText<'_> {
     /// A variable of the module as a value: with `&`, where it is a reference.
@@ -36,7 +35,6 @@ impl FunctionText<'_> {
     #[cycle(expression)]
     pub(crate) fn write_global_reference<W: TextSink>(
         &self,
-        alloc: Global,
         scope: &Scope,
         handle: Handle<Expression>,
         variable: Handle<GlobalVariable>,
@@ -49,7 +47,7 @@ impl FunctionText<'_> {
             (global_reference_text self.now scope.now.table handle variable) }
     {
         if self.is_handle_variable(variable) {
-            self.write_dereference(alloc, scope, handle, out);
+            self.write_dereference(scope, handle, out);
         } else {
             self.write_global_name(variable, out);
         }

@@ -6,7 +6,7 @@ use Rattle.naga_wgsl_fns.proofs.acts.write_barrier.Goals as goal
 
 pub returns : goal.returns
 returns g c =
-    let i = c.args.indent.now in
+    let i = c.args.at.now.indent in
     writes_as (sym (barriers_row i c.args.barrier))
     (writes_then (writes_as (ap (λ b. barrier_text i b (codes "storageBarrier();\n")) (c.contains.ensures tt)) c.write_barrier_if.ensures)
     (writes_then (writes_as (ap (λ b. barrier_text i b (codes "workgroupBarrier();\n")) (c.contains-2.ensures tt)) c.write_barrier_if-2.ensures)

@@ -31,29 +31,15 @@ write_item-requires-clause-start g c =
     c.function_of.result.1.now c.args.plan c.function_of.ensures.function c.function_of.ensures.known c.requires.planned in
     let named : ℕ → List ℕ = λ number.
     option_map_or string_bytes (slice_get c.as_slice.result.now number) [] in
-    ap (λ (p : TextPoint). handles_of named p.table) c.into_parts-scope.ensures.scope
-    ∙ plan.starts named
-
-pub write_item-requires-clause-named : goal.write_item-requires-clause-named
-write_item-requires-clause-named g c =
-    let plan = plan_found (annotates_types c.args.flags) c.args.module.now c.args.info.now
-    (function_number c.args.module.now c.args.ty.now) c.function_of.result.0.now
-    c.function_of.result.1.now c.args.plan c.function_of.ensures.function c.function_of.ensures.known c.requires.planned in
-    ap (λ (p : TextPoint). p.named) c.into_parts-scope.ensures.scope ∙ plan.no_name
-
-pub write_item-requires-clause-size : goal.write_item-requires-clause-size
-write_item-requires-clause-size g c =
-    let plan = plan_found (annotates_types c.args.flags) c.args.module.now c.args.info.now
-    (function_number c.args.module.now c.args.ty.now) c.function_of.result.0.now
-    c.function_of.result.1.now c.args.plan c.function_of.ensures.function c.function_of.ensures.known c.requires.planned in
-    ap (λ (p : TextPoint). length p.table) c.into_parts-scope.ensures.scope ∙ plan.size
-
-pub write_item-requires-clause-room : goal.write_item-requires-clause-room
-write_item-requires-clause-room g c =
-    let plan = plan_found (annotates_types c.args.flags) c.args.module.now c.args.info.now
-    (function_number c.args.module.now c.args.ty.now) c.function_of.result.0.now
-    c.function_of.result.1.now c.args.plan c.function_of.ensures.function c.function_of.ensures.known c.requires.planned in
-    subst (λ (p : TextPoint). HasRoom p (block_changes c.function_of.result.0.now.body)) (sym c.into_parts-scope.ensures.scope) plan.changes
+    let point = c.into_parts-scope.ensures.scope in
+    record {
+      start = ap (λ (p : TextPoint). handles_of named p.table) point ∙ plan.starts named;
+      named = ap (λ (p : TextPoint). p.named) point ∙ plan.no_name;
+      scope = record {
+        size = ap (λ (p : TextPoint). length p.table) point ∙ plan.size;
+        room = subst (λ (p : TextPoint). HasRoom p (block_changes c.function_of.result.0.now.body)) (sym point) plan.changes;
+      };
+    }
 
 pub returns-in-Ok-clause-text_ok : goal.returns-in-Ok-clause-text_ok
 returns-in-Ok-clause-text_ok g c =

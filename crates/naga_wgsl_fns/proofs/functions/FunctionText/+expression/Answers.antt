@@ -1,5 +1,5 @@
 use Rattle.std.proofs.Common.{[], ◌<◌, false, ap, arith, ◌∙◌, length, refl, subst, sym, true}
-use Rattle.std.specs.Option.{option_map_or}
+use Rattle.std.specs.Option.{option_map, option_map_or}
 use Rattle.std.proofs.Common.{Some}
 use Rattle.naga_ir.specs.Operands.{expression_operands}
 use Rattle.std.specs.List.{AllByRecursion}
@@ -10,7 +10,7 @@ use Rattle.module_meaning.specs.Sampling.{sampling_is_written}
 use Rattle.naga_ir.specs.Operands.{level_operands}
 use Rattle.naga_wgsl_fns.proofs.ImageRows.{furthers_none, furthers_one, furthers_two, no_offset}
 use Rattle.naga_wgsl_fns.proofs.ImageRows.{offset_row, sampling_whole}
-use Rattle.naga_wgsl_fns.proofs.Wanted.{all_in_text, are_sampled, highest_below}
+use Rattle.naga_wgsl_fns.proofs.Wanted.{all_in_text, highest_below, sampled_in}
 use Rattle.naga_wgsl_fns.proofs.ModuleTexts.{can_in}
 use Rattle.naga_wgsl_fns.proofs.VariableRows.{handle_variable_reference, kept_reference}
 use Rattle.naga_wgsl_fns.proofs.Wanted.{global_within, offset_has_form}
@@ -31,7 +31,6 @@ use Rattle.naga_wgsl_fns.specs.Expressions.{operands_left, operands_text}
 use Rattle.naga_wgsl_fns.proofs.ExpressionRows.{operands_more, operands_none, operands_start}
 use Rattle.naga_wgsl_fns.proofs.ExpressionRows.{no_value_row, own_at, own_called, own_made, own_row}
 use Rattle.naga_wgsl_fns.proofs.ConversionRows.{conversion_row, own_conversion}
-use Rattle.naga_wgsl_fns.proofs.ImageRows.{query_called, texel_word}
 use Rattle.naga_wgsl_fns.proofs.Wanted.{IsOperand, argument_within, local_within}
 use Rattle.naga_wgsl_fns.proofs.Wanted.{made_value, operands_in}
 use Rattle.naga_wgsl_fns.proofs.LoadRows.{atomic_loaded, matrix_row, other_loaded, own_matrix_load}
@@ -187,8 +186,15 @@ write_own-write_infix-requires g t c κs within =
       (within, (c.requires.can, (operands.0.1, operands.1.0.1))),
     )
 
-pub write_own-returns-in_default : goal.write_own-returns-in_default
-write_own-returns-in_default g t c =
+pub write_own-returns-in-Some : goal.write_own-returns-in-Some
+write_own-returns-in-Some g t c =
+    writes_as
+    (own_called c.args.self.now c.args.scope.now.table c.requires.can c.requires.handle c.index.ensures
+    (sym c.called_str.ensures ∙ ap (option_map (λ w. w.now)) c.in-Some.is))
+    c.write_called.ensures
+
+pub write_own-returns-in-None : goal.write_own-returns-in-None
+write_own-returns-in-None g t c =
     writes_as
     (no_value_row c.args.self.now c.args.scope.now.table c.args.handle c.requires.can c.requires.handle c.index.result.now
     c.index.ensures
@@ -206,19 +212,11 @@ write_own-returns-in_default g t c =
       load = c.in_default.not-Load;
       unary = c.in_default.not-Unary;
       binary = c.in_default.not-Binary;
-      choice = c.in_default.not-Select;
-      splat = c.in_default.not-Splat;
       swizzle = c.in_default.not-Swizzle;
       converted = c.in_default.not-As;
-      derivative = c.in_default.not-Derivative;
-      mathematical = c.in_default.not-Math;
-      relational = c.in_default.not-Relational;
       sampled = c.in_default.not-ImageSample;
-      loaded = c.in_default.not-ImageLoad;
-      asked = c.in_default.not-ImageQuery;
-      counted = c.in_default.not-ArrayLength;
       matrix_load = c.in_default.not-CooperativeLoad;
-      product = c.in_default.not-CooperativeMultiplyAdd;
+      called = sym c.called_str.ensures ∙ ap (option_map (λ w. w.now)) c.in-None.is;
     }))
     c.put.ensures
 
@@ -257,46 +255,6 @@ write_own-returns-in-Compose g t c =
     writes_as
     (own_made c.args.self.now c.args.scope.now.table _ _ c.requires.can c.requires.handle value c.index.ensures c.in-Compose.is refl)
     c.write_made-in-Compose.ensures
-
-pub write_own-returns-in-Select : goal.write_own-returns-in-Select
-write_own-returns-in-Select g t c =
-    writes_as
-    (own_called c.args.self.now c.args.scope.now.table c.requires.can c.requires.handle c.index.ensures c.in-Select.is refl refl)
-    c.write_called.ensures
-
-pub write_own-returns-in-Splat : goal.write_own-returns-in-Splat
-write_own-returns-in-Splat g t c =
-    writes_as
-    (own_called c.args.self.now c.args.scope.now.table c.requires.can c.requires.handle c.index.ensures c.in-Splat.is c.vector_str.ensures refl)
-    c.write_called-in-Splat.ensures
-
-pub write_own-math_function_str-requires : goal.write_own-math_function_str-requires
-write_own-math_function_str-requires g t c =
-    written_as c.args.self.now c.requires.can
-    c.index.ensures c.requires.handle c.in-Math.is
-
-pub write_own-returns-in-Derivative : goal.write_own-returns-in-Derivative
-write_own-returns-in-Derivative g t c =
-    writes_as
-    (own_called c.args.self.now c.args.scope.now.table c.requires.can c.requires.handle c.index.ensures c.in-Derivative.is c.derivative_str.ensures refl)
-    c.write_called-in-Derivative.ensures
-
-pub write_own-returns-in-Math : goal.write_own-returns-in-Math
-write_own-returns-in-Math g t c =
-    writes_as
-    (own_called c.args.self.now c.args.scope.now.table c.requires.can c.requires.handle c.index.ensures c.in-Math.is c.math_function_str.ensures refl)
-    c.write_called-in-Math.ensures
-
-pub write_own-relational_function_str-requires : goal.write_own-relational_function_str-requires
-write_own-relational_function_str-requires g t c =
-    written_as c.args.self.now c.requires.can
-    c.index.ensures c.requires.handle c.in-Relational.is
-
-pub write_own-returns-in-Relational : goal.write_own-returns-in-Relational
-write_own-returns-in-Relational g t c =
-    writes_as
-    (own_called c.args.self.now c.args.scope.now.table c.requires.can c.requires.handle c.index.ensures c.in-Relational.is c.relational_function_str.ensures refl)
-    c.write_called-in-Relational.ensures
 
 pub write_operands-loop-operand-init : goal.write_operands-loop-operand-init
 write_operands-loop-operand-init g t c =
@@ -485,34 +443,6 @@ write_own-returns-in-As g t c =
     (own_conversion c.args.self.now c.args.scope.now.table c.requires.can c.requires.handle allowed c.index.ensures c.in-As.is)
     c.write_conversion.ensures
 
-pub write_own-returns-in-ImageLoad : goal.write_own-returns-in-ImageLoad
-write_own-returns-in-ImageLoad g t c =
-    writes_as
-    (own_called c.args.self.now c.args.scope.now.table c.requires.can c.requires.handle c.index.ensures c.in-ImageLoad.is
-    (texel_word c.args.self.now c.requires.can
-    c.index.ensures c.requires.handle c.in-ImageLoad.is)
-    refl)
-    c.write_called-in-ImageLoad.ensures
-
-pub write_own-returns-in-ImageQuery : goal.write_own-returns-in-ImageQuery
-write_own-returns-in-ImageQuery g t c =
-    writes_as
-    (own_called c.args.self.now c.args.scope.now.table c.requires.can c.requires.handle c.index.ensures c.in-ImageQuery.is c.image_query_str.ensures
-    (query_called c.args.self.now c.args.scope.now.table _ _))
-    c.write_called-in-ImageQuery.ensures
-
-pub write_own-returns-in-ArrayLength : goal.write_own-returns-in-ArrayLength
-write_own-returns-in-ArrayLength g t c =
-    writes_as
-    (own_called c.args.self.now c.args.scope.now.table c.requires.can c.requires.handle c.index.ensures c.in-ArrayLength.is refl refl)
-    c.write_called-in-ArrayLength.ensures
-
-pub write_own-returns-in-CooperativeMultiplyAdd : goal.write_own-returns-in-CooperativeMultiplyAdd
-write_own-returns-in-CooperativeMultiplyAdd g t c =
-    writes_as
-    (own_called c.args.self.now c.args.scope.now.table c.requires.can c.requires.handle c.index.ensures c.in-CooperativeMultiplyAdd.is refl refl)
-    c.write_called-in-CooperativeMultiplyAdd.ensures
-
 pub write_further-returns-in-Some : goal.write_further-returns-in-Some
 write_further-returns-in-Some g t c =
     let self = c.args.self.now in
@@ -639,10 +569,7 @@ write_sampling-write_further-requires g t c κs within =
     let self = c.args.self.now in
     let h = c.args.handle in
     let e = c.in-ImageSample in
-    let s = are_sampled self h e.image e.sampler e.coordinate (option_to_list e.array_index)
-    (option_to_list e.depth_ref) (level_operands e.level) (option_to_list e.offset)
-    (operands_in self c.requires.can c.index.ensures c.in-ImageSample.is
-    c.requires.handle) in
+    let s = sampled_in self c.requires.can c.index.ensures c.in-ImageSample.is c.requires.handle in
     let image = s.image.0 in
     let before = highest_below self h (option_to_list e.array_index) (omega (arith, image)) s.array in
     (omega (arith, before, c.decreases), (within, (c.requires.can, all_in_text self h (option_to_list e.array_index) s.array)))
@@ -652,10 +579,7 @@ write_sampling-write_further-requires-in-ImageSample g t c κs within =
     let self = c.args.self.now in
     let h = c.args.handle in
     let e = c.in-ImageSample in
-    let s = are_sampled self h e.image e.sampler e.coordinate (option_to_list e.array_index)
-    (option_to_list e.depth_ref) (level_operands e.level) (option_to_list e.offset)
-    (operands_in self c.requires.can c.index.ensures c.in-ImageSample.is
-    c.requires.handle) in
+    let s = sampled_in self c.requires.can c.index.ensures c.in-ImageSample.is c.requires.handle in
     let image = s.image.0 in
     let before = highest_below self h (option_to_list e.depth_ref) (omega (arith, image)) s.depth in
     (omega (arith, before, c.decreases), (within, (c.requires.can, all_in_text self h (option_to_list e.depth_ref) s.depth)))
@@ -665,10 +589,7 @@ write_sampling-write_level-requires g t c κs within =
     let self = c.args.self.now in
     let h = c.args.handle in
     let e = c.in-ImageSample in
-    let s = are_sampled self h e.image e.sampler e.coordinate (option_to_list e.array_index)
-    (option_to_list e.depth_ref) (level_operands e.level) (option_to_list e.offset)
-    (operands_in self c.requires.can c.index.ensures c.in-ImageSample.is
-    c.requires.handle) in
+    let s = sampled_in self c.requires.can c.index.ensures c.in-ImageSample.is c.requires.handle in
     let image = s.image.0 in
     let before = highest_below self h (level_operands e.level) (omega (arith, image)) s.level in
     (omega (arith, before, c.decreases), (within, (c.requires.can, all_in_text self h (level_operands e.level) s.level)))
@@ -678,10 +599,7 @@ write_sampling-write_offset-requires g t c κs within =
     let self = c.args.self.now in
     let h = c.args.handle in
     let e = c.in-ImageSample in
-    let s = are_sampled self h e.image e.sampler e.coordinate (option_to_list e.array_index)
-    (option_to_list e.depth_ref) (level_operands e.level) (option_to_list e.offset)
-    (operands_in self c.requires.can c.index.ensures c.in-ImageSample.is
-    c.requires.handle) in
+    let s = sampled_in self c.requires.can c.index.ensures c.in-ImageSample.is c.requires.handle in
     let image = s.image.0 in
     let before = highest_below self h (option_to_list e.offset) (omega (arith, image)) s.offset in
     let constant =

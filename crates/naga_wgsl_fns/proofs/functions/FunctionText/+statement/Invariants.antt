@@ -44,9 +44,6 @@ decreases-write_loop_body g l = 16 * block_size l.body.now + 3
 abbrev pub decreases-write_last : goal.decreases-write_last
 decreases-write_last g l = 16 * block_size l.continuing.now + 4
 
-abbrev pub decreases-write_last_deeper : goal.decreases-write_last_deeper
-decreases-write_last_deeper g l = 16 * block_size l.continuing.now + 5
-
 abbrev pub decreases-write_break_if : goal.decreases-write_break_if
 decreases-write_break_if g l = 16 * block_size l.continuing.now + 6
 
@@ -59,20 +56,14 @@ decreases-write_continuing g l = 16 * block_size l.continuing.now + 7
 abbrev pub decreases-write_turn_here : goal.decreases-write_turn_here
 decreases-write_turn_here g l = 16 * (block_size l.body.now + block_size l.continuing.now) + 8
 
-abbrev pub decreases-write_turn_deeper : goal.decreases-write_turn_deeper
-decreases-write_turn_deeper g l = 16 * (block_size l.body.now + block_size l.continuing.now) + 9
-
 abbrev pub decreases-write_turn : goal.decreases-write_turn
-decreases-write_turn g l = 16 * (block_size l.body.now + block_size l.continuing.now) + 10
+decreases-write_turn g l = 16 * (block_size l.body.now + block_size l.continuing.now) + 9
 
 abbrev pub decreases-write_loop : goal.decreases-write_loop
-decreases-write_loop g l = 16 * (block_size l.body.now + block_size l.continuing.now) + 11
+decreases-write_loop g l = 16 * (block_size l.body.now + block_size l.continuing.now) + 10
 
 abbrev pub decreases-write_cases : goal.decreases-write_cases
 decreases-write_cases g l = 16 * cases_size (cases_of l.cases.now) + 1
-
-abbrev pub decreases-write_cases_deeper : goal.decreases-write_cases_deeper
-decreases-write_cases_deeper g l = 16 * cases_size (cases_of l.cases.now) + 2
 
 abbrev pub decreases-write_switch : goal.decreases-write_switch
 decreases-write_switch g l = 16 * cases_size (cases_of l.cases.now) + 3
@@ -83,31 +74,31 @@ decreases-write_statement g l = 16 * statement_size (tree_of l.statement.now)
 abbrev pub invariant-write_lines-loop-statement : goal.invariant-write_lines-loop-statement
 invariant-write_lines-loop-statement g l = record {
   leaves : Leaves (output_view g.W.TextSink.text g.W.TextSink.failures l.initial.out) (output_view g.W.TextSink.text g.W.TextSink.failures l.out)
-      (block_text l.self l.initial.scope.named (handles_in l.self l.initial.scope.table) l.initial.indent (block_of l.statements))
-      (block_text l.self l.scope.named (handles_in l.self l.scope.table) l.initial.indent (block_of (drop l.statement-index l.statements)));
+      (block_text l.self l.initial.at.scope.named (handles_in l.self l.initial.at.scope.table) l.initial.at.indent (block_of l.statements))
+      (block_text l.self l.at.scope.named (handles_in l.self l.at.scope.table) l.initial.at.indent (block_of (drop l.statement-index l.statements)));
   block : CanWriteBlock l.self (block_of (drop l.statement-index l.statements));
-  behind : after_statements l.self l.scope.named (block_of (drop l.statement-index l.statements)) (handles_in l.self l.scope.table)
-      ≡ after_statements l.self l.initial.scope.named (block_of l.statements) (handles_in l.self l.initial.scope.table);
-  named : named_behind l.self (block_of (drop l.statement-index l.statements)) l.scope.named ≡ named_behind l.self (block_of l.statements) l.initial.scope.named;
-  kept : Extends l.initial.scope l.scope;
-  counted : length l.scope.log + block_changes (block_of (drop l.statement-index l.statements)) ≤ length l.initial.scope.log + block_changes (block_of l.statements);
-  names : l.scope.named + block_changes (block_of (drop l.statement-index l.statements)) ≤ l.initial.scope.named + block_changes (block_of l.statements);
+  behind : after_statements l.self l.at.scope.named (block_of (drop l.statement-index l.statements)) (handles_in l.self l.at.scope.table)
+      ≡ after_statements l.self l.initial.at.scope.named (block_of l.statements) (handles_in l.self l.initial.at.scope.table);
+  named : named_behind l.self (block_of (drop l.statement-index l.statements)) l.at.scope.named ≡ named_behind l.self (block_of l.statements) l.initial.at.scope.named;
+  kept : Extends l.initial.at.scope l.at.scope;
+  counted : length l.at.scope.log + block_changes (block_of (drop l.statement-index l.statements)) ≤ length l.initial.at.scope.log + block_changes (block_of l.statements);
+  names : l.at.scope.named + block_changes (block_of (drop l.statement-index l.statements)) ≤ l.initial.at.scope.named + block_changes (block_of l.statements);
   smaller : block_size (block_of (drop l.statement-index l.statements)) ≤ block_size (block_of l.statements);
-  indent : l.indent ≡ l.initial.indent;
+  indent : l.at.indent ≡ l.initial.at.indent;
 }
 
 -- the labels of the cases from the first on wait for the next case that doesn't fall through
 abbrev pub invariant-write_cases-loop-index : goal.invariant-write_cases-loop-index
 invariant-write_cases-loop-index g l = record {
   leaves : Leaves (output_view g.W.TextSink.text g.W.TextSink.failures l.initial.out) (output_view g.W.TextSink.text g.W.TextSink.failures l.out)
-      (cases_text l.self l.initial.scope.named (handles_in l.self l.initial.scope.table) l.initial.indent [] (cases_of l.cases))
-      (cases_text l.self l.scope.named (handles_in l.self l.initial.scope.table) l.initial.indent (labels_between l.first l.index l.cases) (cases_of (drop l.index l.cases)));
+      (cases_text l.self l.initial.at.scope.named (handles_in l.self l.initial.at.scope.table) l.initial.at.indent [] (cases_of l.cases))
+      (cases_text l.self l.at.scope.named (handles_in l.self l.initial.at.scope.table) l.initial.at.indent (labels_between l.first l.index l.cases) (cases_of (drop l.index l.cases)));
   cases : CanWriteCases l.self (cases_of (drop l.index l.cases));
   first : l.first ≤ l.index;
-  named : named_behind_cases l.self (cases_of (drop l.index l.cases)) l.scope.named ≡ named_behind_cases l.self (cases_of l.cases) l.initial.scope.named;
-  same : Same l.initial.scope l.scope;
-  names : l.scope.named + cases_changes (cases_of (drop l.index l.cases)) ≤ l.initial.scope.named + cases_changes (cases_of l.cases);
+  named : named_behind_cases l.self (cases_of (drop l.index l.cases)) l.at.scope.named ≡ named_behind_cases l.self (cases_of l.cases) l.initial.at.scope.named;
+  same : Same l.initial.at.scope l.at.scope;
+  names : l.at.scope.named + cases_changes (cases_of (drop l.index l.cases)) ≤ l.initial.at.scope.named + cases_changes (cases_of l.cases);
   fewer : cases_changes (cases_of (drop l.index l.cases)) ≤ cases_changes (cases_of l.cases);
   smaller : cases_size (cases_of (drop l.index l.cases)) ≤ cases_size (cases_of l.cases);
-  indent : l.indent ≡ l.initial.indent;
+  indent : l.at.indent ≡ l.initial.at.indent;
 }

@@ -14,17 +14,17 @@ write_around-requires-clause-value g c =
 pub returns-in-Some : goal.returns-in-Some
 returns-in-Some g c =
     let self = c.args.self.now in
-    let k = c.args.scope.now.named in
-    let s = handles_in self c.args.scope.now.table in
-    let i = c.args.indent.now in
+    let k = c.args.at.now.scope.named in
+    let s = handles_in self c.args.at.now.scope.table in
+    let i = c.args.at.now.indent in
     writes_as (sym (return_value_row self k s i c.in-Some.value) ∙ ap (λ o. statement_text self k s i (simple (return o))) (sym c.in-Some.is))
     c.write_around.ensures
 
 pub returns-in-None : goal.returns-in-None
 returns-in-None g c =
     let self = c.args.self.now in
-    let k = c.args.scope.now.named in
-    let s = handles_in self c.args.scope.now.table in
-    let i = c.args.indent.now in
+    let k = c.args.at.now.scope.named in
+    let s = handles_in self c.args.at.now.scope.table in
+    let i = c.args.at.now.indent in
     writes_as (sym (return_row self k s i) ∙ ap (λ o. statement_text self k s i (simple (return o))) (sym c.in-None.is))
-    c.write_line_start.ensures
+    c.write_start.ensures

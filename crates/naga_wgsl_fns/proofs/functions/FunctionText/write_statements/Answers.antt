@@ -11,8 +11,8 @@ write_here-requires-clause-body g c = body_of c.args.self.now c.requires.can
 pub returns : goal.returns
 returns g c =
     let self = c.args.self.now in
-    let k = c.args.scope.now.named in
-    let s = handles_in self c.args.scope.now.table in
+    let k = c.args.at.now.scope.named in
+    let s = handles_in self c.args.at.now.scope.table in
     let b = self.function.now.body in
-    writes_as (ap (λ i. block_text self k s (suc i) b) c.new-indent.ensures)
+    writes_as (ap (λ i. block_text self k s (suc i) b) c.requires.level)
     (c.deepen.ensures.text (λ i. block_text self k s i b) _ c.write_here.ensures.text)

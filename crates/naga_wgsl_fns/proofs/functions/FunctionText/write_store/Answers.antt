@@ -34,9 +34,9 @@ write_assignment-requires-clause-value g c =
 pub returns-then-is_atomic_pointer : goal.returns-then-is_atomic_pointer
 returns-then-is_atomic_pointer g c =
     let self = c.args.self.now in
-    let k = c.args.scope.now.named in
-    let s = handles_in self c.args.scope.now.table in
-    let i = c.args.indent.now in
+    let k = c.args.at.now.scope.named in
+    let s = handles_in self c.args.at.now.scope.table in
+    let i = c.args.at.now.indent in
     writes_as
     (ap (λ st. act_text self s i (codes "atomicStore") (own_operands st) (own_result st)) c.requires.stored
     ∙ (store_to_atomic self k s i c.args.pointer c.args.value (sym c.is_atomic_pointer.ensures ∙ c.if-is_atomic_pointer.true)
@@ -46,9 +46,9 @@ returns-then-is_atomic_pointer g c =
 pub returns-else-is_atomic_pointer : goal.returns-else-is_atomic_pointer
 returns-else-is_atomic_pointer g c =
     let self = c.args.self.now in
-    let k = c.args.scope.now.named in
-    let s = handles_in self c.args.scope.now.table in
-    let i = c.args.indent.now in
+    let k = c.args.at.now.scope.named in
+    let s = handles_in self c.args.at.now.scope.table in
+    let i = c.args.at.now.indent in
     writes_as
     (store_to_other self k s i c.args.pointer c.args.value (sym c.is_atomic_pointer.ensures ∙ c.if-is_atomic_pointer.false)
     ∙ ap (statement_text self k s i) (sym c.requires.stored))

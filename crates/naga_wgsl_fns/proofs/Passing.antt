@@ -1,0 +1,58 @@
+-- What has been passed after statements: none, some and others, and some at a level of their own.
+use Rattle.std.proofs.Common.{◌≡◌, ℕ, ◌+◌, true, refl, ap, ◌∙◌, arith, length}
+use Rattle.naga_ir.specs.StatementTree.{BlockTree, no_statements, statement, has_no_statements}
+use Rattle.naga_scope.specs.Availabilities.{TextPoint}
+use Rattle.naga_scope.specs.Changes.{block_changes}
+use Rattle.naga_scope.specs.Log.{Same}
+use Rattle.naga_wgsl_fns.specs.Positions.{Passed, PassesBlock}
+use Rattle.naga_wgsl_fns.specs.Statements.{named_behind}
+use Rattle.naga_wgsl_fns.specs.declared.functions.FunctionText.{FunctionText}
+use Rattle.naga_wgsl_fns.specs.declared.lines.Position.{Position}
+
+pub none_passed : (at : Position) → Passed at at at.scope.named 0
+none_passed at = record {
+  named = refl;
+  counted = record { log = omega arith; names = omega arith };
+  indent = refl;
+}
+
+-- of a block without statements
+pub nothing_passed : (f : FunctionText) (b : BlockTree) (at : Position) → has_no_statements b ≡ true → PassesBlock f at at b
+nothing_passed f no_statements at none = none_passed at
+nothing_passed f (statement st b) at none = absurd cc
+
+-- one block, and another after it
+pub both_passed : (f : FunctionText) (b d : BlockTree) {before middle after : Position} → Passed before middle (named_behind f b before.scope.named) (block_changes b)
+    → Passed middle after (named_behind f d middle.scope.named) (block_changes d)
+    → Passed before after (named_behind f d (named_behind f b before.scope.named)) (block_changes b + block_changes d)
+both_passed f b d {before} {middle} {after} one other =
+    let log = one.counted.log in
+    let names = one.counted.names in
+    let logs = other.counted.log in
+    let more = other.counted.names in
+    record {
+      named = other.named ∙ ap (named_behind f d) one.named;
+      counted = record { log = omega (arith, log, logs); names = omega (arith, names, more) };
+      indent = other.indent ∙ one.indent;
+    }
+
+-- back at a point of the scope
+pub passed_back : {before after : Position} {names changes : ℕ} (now : TextPoint) → Passed before after names changes → Same before.scope now → now.named ≡ after.scope.named
+    → Passed before (record { scope = now; indent = after.indent }) names changes
+passed_back {before} {after} {names} {changes} now passed same kept =
+    let log = ap length same.log in
+    let more = passed.counted.names in
+    record {
+      named = kept ∙ passed.named;
+      counted = record { log = omega (arith, log); names = omega (arith, kept, more) };
+      indent = passed.indent;
+    }
+
+-- back at a level
+pub level_back : {after : Position} {names changes : ℕ} (before : Position) (deeper left : ℕ) → Passed (record before { indent = deeper }) after names changes → left ≡ before.indent
+    → Passed before (record { scope = after.scope; indent = left }) names changes
+level_back {after} {names} {changes} before deeper left passed back = record {
+  named = passed.named;
+  counted = passed.counted;
+  indent = back;
+}
