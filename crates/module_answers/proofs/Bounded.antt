@@ -1,6 +1,6 @@
 -- What is told of a module that is not written.
-use Rattle.std.proofs.Common.{◌≡◌, ℕ, ◌<◌, List, [], Result, ap, length, refl, subst}
-use Rattle.std.specs.Prelude.{IsTrue, None, OnErr}
+use Rattle.std.proofs.Common.{◌≡◌, ℕ, ◌<◌, List, [], Result, ap, length, refl, subst, sym}
+use Rattle.std.specs.Prelude.{Err, IfErr, IsErrAnd, IsTrue, None, Ok, OnErr}
 use Rattle.naga_words.specs.Sink.{IsBehind}
 use Rattle.naga_ir.specs.declared.module.Module.{Module}
 use Rattle.naga_info.specs.declared.info.ModuleInfo.{ModuleInfo}
@@ -23,6 +23,13 @@ depth_unwritten flags limits m info (unwritten.TooDeep nested) tells = (tells, r
 depth_unwritten flags limits m info (unwritten.NotAccepted fault) tells = absurd tells
 depth_unwritten flags limits m info unwritten.TooLong tells = absurd tells
 depth_unwritten flags limits m info (unwritten.Memory error) tells = (refl, refl)
+
+-- so it is with the answer of a call that ends with this reason
+pub as_unwritten : {T : Type 0} (flags : WriterFlags) (limits : Limits) (m : Module) (info : ModuleInfo) (r : Result T Unwritten) (reason : Unwritten) →
+    IsErrAnd r (λ e. e ≡ reason) → TellsDepth limits.nesting m reason → IfErr r (IsUnwritten flags limits m m info info)
+as_unwritten flags limits m info (Ok x) reason reported tells = tt
+as_unwritten flags limits m info (Err e) reason reported tells =
+    subst (IsUnwritten flags limits m m info info) (sym reported) (depth_unwritten flags limits m info reason tells)
 
 -- a sink that began empty tells that the text of one is too long
 pub is_too_long : (flags : WriterFlags) (limits : Limits) (given m : Module) (old new : ModuleInfo) (answer : Result Unit Error) (content now : List ℕ) →

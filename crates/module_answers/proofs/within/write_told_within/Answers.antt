@@ -6,12 +6,13 @@ use Rattle.naga_wgsl_out.specs.Checked.{IsCounted}
 use Rattle.naga_wgsl_out.specs.Headline.{FaithfulWriting}
 use Rattle.naga_wgsl_out.specs.Writing.{AppendsItsText, written_text}
 use Rattle.told_floats.specs.Told.{IsToldModule}
-use Rattle.module_answers.proofs.Bounded.{depth_unwritten, is_too_long}
+use Rattle.module_answers.proofs.Bounded.{as_unwritten, is_too_long}
 use Rattle.module_answers.proofs.within.write_told_within.Goals as goal
 
 pub returns-in_err-look_into-clause-unwritten : goal.returns-in_err-look_into-clause-unwritten
 returns-in_err-look_into-clause-unwritten c =
-    depth_unwritten c.args.flags c.args.limits c.args.«module».now c.args.info.now _ c.in_err-look_into.ensures.deep
+    as_unwritten c.args.flags c.args.limits c.args.«module».now c.args.info.now c.from_residual.result _
+    c.from_residual.ensures.1 c.in_err-look_into.ensures.deep
 
 pub returns-in-Some-clause-nested : goal.returns-in-Some-clause-nested
 returns-in-Some-clause-nested c = c.in_ok-look_into.ensures.flat
