@@ -27,7 +27,7 @@ use Rattle.naga_ir.specs.declared.statement.Range.{Range}
 use Rattle.naga_ir.specs.declared.statement.Statement.{Statement}
 use Rattle.naga_back.specs.Indentation.{indentation}
 use Rattle.naga_scope.proofs.Listed.{first_of}
-use Rattle.module_meaning.specs.Ranges.{statement_in_range}
+use Rattle.module_meaning.specs.Ranges.{named_in_range, statement_in_range}
 use Rattle.module_meaning.specs.StatementShapes.{barrier_bits}
 use Rattle.shader_runs.specs.Program as shapes
 use Rattle.shader_runs.specs.Program.{binds, from}
@@ -388,7 +388,7 @@ lines_none f k s i items n past = ap (λ (ss : List Statement). block_text f k s
 -- ---- what is in range
 pub emit_within : (callees expressions first last : ℕ) → IsTrue (statement_in_range callees expressions (simple (emit first last))) → last ≤ expressions
 emit_within callees expressions first last range =
-    leb-true last expressions (and_parts (nat_le first expressions) (nat_le last expressions) range).1
+    leb-true last expressions (and_parts (nat_le first expressions) (nat_le last expressions) (and_parts (named_in_range callees expressions (emit first last)) _ range).0).1
 
 pub ruleset lines = (lines_more, lines_none, first_of)
 
