@@ -95,6 +95,10 @@ module _ (m : Module) (info : ModuleInfo) (f : ir_function.Function) (es : List 
           && all_constant (constant_to m info f es ordered levels)
           (option_map_or expression_operands o []))) ≡
           true
+      by (Some (expression.Literal value)) is each = refl
+      by (Some (expression.Constant handle)) is each = refl
+      by (Some (expression.Override handle)) is each = refl
+      by (Some (expression.ZeroValue ty)) is each = refl
       by (Some (expression.Compose ty components)) is each =
           all_there tree_of levels each components.items
           (composed x (constructor d.context (Handle ty) (length components.items))
@@ -103,7 +107,6 @@ module _ (m : Module) (info : ModuleInfo) (f : ir_function.Function) (es : List 
           ap (λ b. b && true) (each value (splat x (Splat size) (tree_of value) is))
       by (Some _) is each = absurd cc
       by None is each = absurd cc
-      by _ is each = refl
 
   -- so is it in scope wherever that is kept which is in scope at the start
   out_usable : (s : Handles) → KeepsStart shape s → (x : ℕ) (c : ConstantTree) →
@@ -127,13 +130,16 @@ module _ (m : Module) (info : ModuleInfo) (f : ir_function.Function) (es : List 
       by : (o : Option ir.Expression) → slice_get f.expressions x ≡ o →
           is_some (option_and_then (tree_over d (tree_within x d f.expressions) x) o) ≡ true →
           usable_by f o (s x) ≡ true
+      by (Some (expression.Literal value)) here is = refl
+      by (Some (expression.Constant handle)) here is = refl
+      by (Some (expression.Override handle)) here is = refl
+      by (Some (expression.ZeroValue ty)) here is = refl
       by (Some (expression.Compose ty components)) here is =
           present (expression.Compose ty components) here refl
       by (Some (expression.Splat size value)) here is =
           present (expression.Splat size value) here refl
       by (Some _) here is = absurd cc
       by None here is = absurd cc
-      by _ here is = refl
 
   module _ (s : Handles) (n handle : ℕ) where
     abbrev checked : List ℕ → Checked
