@@ -442,6 +442,29 @@ fn type_reason_at<'a>(module: &Module, fault: Fault, handle: Handle<Type_>) -> O
     }
 }
 
+/// Why this item is at fault.
+fn item_reason<'a>(
+    module: &'a Module,
+    info: &'a ModuleInfo,
+    fault: Fault,
+    item: Item,
+) -> Option<Reason<'a>>
+    ensures { option_map shown result ≡ item_reason «module».now info.now fault item }
+{
+    match item {
+        Item::Module => module_reason(module, info, fault),
+        Item::Type(handle) => type_reason_at(module, fault, handle),
+        Item::Constant(handle) => constant_reason(module, info, fault, handle),
+        Item::Override(handle) => override_reason(module, info, fault, handle),
+        Item::GlobalVariable(handle) => variable_reason(module, info, fault, handle),
+        Item::GlobalExpression(handle) => global_expression_reason(module, info, fault, handle),
+        Item::Function(handle, place) => function_reason_at(module, info, fault, handle, place),
+        Item::EntryPoint(index, place) => {
+            entry_point_reason_at(module, info, fault, index, place)
+        }
+    }
+}
+
 /// Why the module is not accepted at a place, for a fault of a kind: none where no more can be told
 /// than the kind, and where the fault is none of this module.
 pub(crate) fn fault_reason<'a>(
@@ -451,17 +474,5 @@ pub(crate) fn fault_reason<'a>(
 ) -> Option<Reason<'a>>
     ensures { option_map shown result ≡ fault_reason «module».now info.now unaccepted }
 {
-    let fault = unaccepted.fault;
-    match unaccepted.item {
-        Item::Module => module_reason(module, info, fault),
-        Item::Type(handle) => type_reason_at(module, fault, handle),
-        Item::Constant(handle) => constant_reason(module, info, fault, handle),
-        Item::Override(handle) => override_reason(module, info, fault, handle),
-        Item::GlobalVariable(handle) => variable_reason(module, info, fault, handle),
-        Item::GlobalExpression(handle) => global_expression_reason(module, info, fault, handle),
-        Item::Function(handle, place) => { function_reason_at(module, info, fault, handle, place) }
-        Item::EntryPoint(index, place) => {
-            entry_point_reason_at(module, info, fault, index, place)
-        }
-    }
+    item_reason(module, info, unaccepted.fault, unaccepted.item)
 }

@@ -4,8 +4,8 @@ use crate::words::{Counted, ListName, Many, Need, TypeClass};
 use std::fmt;
 
 /// What was wanted where a module is not accepted, and what stands there. A type is told as WGSL
-/// spells it, structs and overrides by their labels; or as `types[5]`, by its handle, where it has
-/// no such spelling, and where two types that are spelled alike are told apart.
+/// spells it, structs and overrides by their labels; or, if it is one of the module, as `types[5]`,
+/// by its handle, where it has no such spelling, and where the other one is spelled alike.
 #[derive(Debug, Drop)]
 pub enum Wanted {
     /// A value of one type is wanted, and one of another stands there:

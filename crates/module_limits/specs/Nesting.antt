@@ -1,6 +1,6 @@
 -- How deep a module is nested: the operands of its expressions, the parts of its types, and the
--- blocks of its statements. Whoever goes into one of these after the other goes so deep and no
--- deeper.
+-- blocks of its statements. Whoever goes into one of these from the other goes no deeper than the
+-- sum of their depths.
 --
 -- Throughout, m is a module, f a function, p an entry point, e an expression, k a constant or a
 -- member of a struct, and levels is how deep something may be nested.

@@ -1,10 +1,11 @@
 //! Bounds that a host sets for a module that others made: how deep it may be nested, so that no
-//! call takes more of the stack than there is, and how long its text may get, so that none takes
-//! more memory.
+//! call takes more of the stack than there is, and how long its text may get, so that the text
+//! takes no more memory. Names and tables take memory besides, by the length of the labels and the
+//! number of the items.
 //!
-//! Both are asked of a module before it is known to be accepted. [`nested_past`] goes through all
-//! of a module in one pass over each of its lists, with a table of a number for each item and no
-//! deeper into blocks than the bound; and a [`BoundedText`] takes a text up to its bound.
+//! [`nested_past`] is asked of a module before it is known to be accepted. It goes through all of
+//! it in one pass over each of its lists, with a table of a number for each item and no deeper into
+//! blocks than the bound. A [`BoundedText`] takes a text up to its bound.
 #![tactic(auto)]
 
 mod blocks;

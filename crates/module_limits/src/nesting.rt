@@ -45,8 +45,10 @@ impl fmt::Display for Nested {
 /// number for each expression of one function at a time, for each of the module's own, and for each
 /// type.
 ///
-/// Calls that write a module, or ask whether it is accepted, go no deeper than it is nested. So a
-/// host that asks this first knows how much of the stack they take: `docs/SPEED.md` says it.
+/// Calls that write a module, or ask whether it is accepted, go into its blocks, from there into
+/// operands, from a constant there into the module's own expressions, and from each of these into
+/// types: no deeper than four times these levels in all. So a host that asks this first knows how
+/// much of the stack they take: `docs/SPEED.md` says it.
 ///
 /// ```text
 /// match nested_past(alloc, &module, 4_000)? {

@@ -161,10 +161,12 @@ impl Kept {
     }
 
     /// Puts a line before those that were kept.
-    fn put(&mut self, line: Line) -> Result<(), AllocError>
-        ensures { OnOk result (self.new ≡ record self.old { lines = line ∷ self.old.lines }) }
+    fn put(&mut self, level: usize, head: Row) -> Result<(), AllocError>
+        ensures { OnOk result (self.new ≡ record self.old {
+          lines = record { level = level; row = head } ∷ self.old.lines;
+        }) }
     {
-        self.lines.insert(0, line)?;
+        self.lines.insert(0, Line { level, row: head })?;
         Ok(())
     }
 
@@ -176,10 +178,7 @@ impl Kept {
         if begins_with_gap(&self.lines) {
             Ok(())
         } else {
-            self.put(Line {
-                level: 0,
-                row: Row::Gap,
-            })
+            self.put(0, Row::Gap)
         }
     }
 
@@ -201,11 +200,8 @@ impl Kept {
         ensures { OnOk result (self.new ≡ with_marked line.now self.old) }
     {
         let level = line.level;
-        self.put(Line {
-            level,
-            row: Row::Mark,
-        })?;
-        self.put(*line)?;
+        self.put(level, Row::Mark)?;
+        self.put(level, line.row)?;
         self.level = level;
         self.opened = true;
         Ok(())
@@ -218,7 +214,7 @@ impl Kept {
         }) }
     {
         if shown {
-            self.put(*line)
+            self.put(line.level, line.row)
         } else {
             self.leave_out()
         }

@@ -10,7 +10,7 @@ ghost use Rattle.naga_listing.specs.Lines.{items_below, part_lines, section, spo
 ghost use Rattle.naga_listing.specs.Lines.{statement_lines};
 ghost use Rattle.naga_listing.specs.Lines.{two_lines};
 
-use crate::lookup::item_at;
+use crate::lookup::{entry_point_at, item_at};
 use crate::places::{Line, Listed, Row, Spot, Title};
 use naga_ir::{Block, Function, Module, Place, Statement, SwitchCase};
 use std::alloc::{AllocError, Global};
@@ -40,7 +40,7 @@ fn add_parts(lines: &mut Vec<Line>, module: &Module, listed: &Listed) -> Result<
             Some(function) => add_function(lines, function),
             None => Ok(()),
         },
-        Listed::EntryPoint(index) => match module.entry_points.get(*index) {
+        Listed::EntryPoint(index) => match entry_point_at(module, *index) {
             Some(entry_point) => add_function(lines, &entry_point.function),
             None => Ok(()),
         },

@@ -3,7 +3,7 @@
 ghost use Rattle.std.specs.Prelude.{◌≡◌, slice_get};
 ghost use Rattle.std.specs.Option.{option_copied};
 
-use naga_ir::{Arena, Handle, Item, Module, Place, Type_};
+use naga_ir::{Arena, EntryPoint, Handle, Item, Module, Place, Type_};
 
 /// The item at a handle, if there is one.
 #[tactic(auto, using(std::proofs::lemmas::Option::slice_get_past))]
@@ -28,4 +28,11 @@ pub(crate) fn type_at(module: &Module, handle: Handle<Type_>) -> Option<&Type_>
     } else {
         None
     }
+}
+
+/// The entry point of a module at an index, if there is one.
+pub(crate) fn entry_point_at(module: &Module, index: usize) -> Option<&EntryPoint>
+    ensures { option_copied result ≡ slice_get «module».now.entry_points.items index }
+{
+    module.entry_points.get(index)
 }

@@ -10,7 +10,7 @@ ghost use Rattle.naga_listing.specs.Named.{listed_spots, most_named, named_spots
 ghost use Rattle.naga_listing.specs.Named.{part_spots};
 ghost use Rattle.naga_listing.specs.Named.{size_spots, statement_spots, type_spots, typed_spots};
 
-use crate::lookup::{item_at, type_at};
+use crate::lookup::{entry_point_at, item_at, type_at};
 use crate::numbers::statement_at;
 use crate::places::{Listed, Place, Spot};
 use naga_ir::{
@@ -50,7 +50,7 @@ fn listed_spots(
             Some(function) => part_spots(alloc, function, spot),
             None => Ok(Vec::new(alloc)),
         },
-        Listed::EntryPoint(index) => match module.entry_points.get(*index) {
+        Listed::EntryPoint(index) => match entry_point_at(module, *index) {
             Some(entry_point) => part_spots(alloc, &entry_point.function, spot),
             None => Ok(Vec::new(alloc)),
         },

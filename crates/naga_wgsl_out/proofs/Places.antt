@@ -147,12 +147,17 @@ module _ (explicit : Bool) (m : Module) (info : ModuleInfo) (ty : FunctionType) 
       let same : other ≡ refusal = cc in
       subst (IsRefusalOf explicit m info ty) same here
 
+-- a handle is one of a function
+abbrev pub HasHandle : Module → FunctionType → Type 0
+HasHandle m (item.Function h) = h < length m.functions
+HasHandle m (item.EntryPoint i) = Unit {0}
+
 -- it stands in the module, and is the first where all in front of the function have plans
 pub refusal_stands : (explicit : Bool) (m : Module) (info : ModuleInfo) (ty : FunctionType) (refusal : Refusal) →
-    IsRefusalOf explicit m info ty refusal → StandsIn explicit m info refusal
-refusal_stands explicit m info (item.Function h) refusal r =
-    subst (λ p. StandsAt explicit m info p refusal.construct) (sym r.1) r.2
-refusal_stands explicit m info (item.EntryPoint i) refusal r =
+    HasHandle m ty → IsRefusalOf explicit m info ty refusal → StandsIn explicit m info refusal
+refusal_stands explicit m info (item.Function h) refusal there r =
+    subst (λ p. StandsAt explicit m info p refusal.construct) (sym r.1) (there, r.2)
+refusal_stands explicit m info (item.EntryPoint i) refusal there r =
     subst (λ p. StandsAt explicit m info p refusal.construct) (sym r.1) r.2
 
 pub refusal_first : (explicit : Bool) (m : Module) (info : ModuleInfo) (ty : FunctionType) (refusal : Refusal) →
@@ -168,6 +173,7 @@ pub before_writable : (explicit : Bool) (m : Module) (info : ModuleInfo) (names 
 before_writable explicit m info names n namer declarations has all = record {
   declarations = declarations;
   nameable = has.nameable;
+  keys = has.keys;
   planned = all.planned;
 }
 

@@ -112,7 +112,8 @@ StandsInLabels m it =
 abbrev pub StandsAt : (explicit : Bool) → Module → ModuleInfo → RefusalPlace → Construct → Type 0
 StandsAt explicit m info place.Labels it = StandsInLabels m it
 StandsAt explicit m info (place.Declaration at) it = StandsInDeclaration m at it
-StandsAt explicit m info (place.Function h at) it = StandsInFunction explicit m info h (it, at)
+StandsAt explicit m info (place.Function h at) it =
+    (h < length m.functions) × StandsInFunction explicit m info h (it, at)
 StandsAt explicit m info (place.EntryPoint i at) it =
     StandsInFunction explicit m info (length m.functions + i) (it, at)
 
@@ -120,12 +121,13 @@ abbrev pub StandsIn : (explicit : Bool) → Module → ModuleInfo → Refusal �
 StandsIn explicit m info refusal = StandsAt explicit m info refusal.place refusal.construct
 
 -- ---- which one is told
--- each declaration has a form, each item a name, and each function and entry point in front of the one
--- with this number a plan
+-- each declaration has a form, each item a name and a key that can be told, and each function and
+-- entry point in front of the one with this number a plan
 pub record AreWritableBefore (explicit : Bool) (m : Module) (info : ModuleInfo)
     (number : ℕ) : Type 0 where
   pub declarations : DeclarationsHaveForms m
   pub nameable : ItemsAreFull m → ⊥
+  pub keys : KeyIsOutOfRange m → ⊥
   pub planned : (i : ℕ) → i < number → HasPlan explicit m info i
 
 -- a module is looked at by its declarations, by the labels of its items, and by its functions and

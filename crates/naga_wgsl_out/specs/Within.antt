@@ -79,14 +79,14 @@ IsUnasked old new error = (error ≡ Memory alloc_error) × (new ≡ old)
 
 abbrev pub AnswersWithin : {Y : Type 0} → WriterFlags → Limits → Module → (old new : ModuleInfo) →
     Result (String Y) LimitedError → Type 0
-AnswersWithin flags limits m old new (Err (limited.TooDeep nested)) =
+AnswersWithin {Y} flags limits m old new (Err (limited.TooDeep nested)) =
     (nested_past limits.nesting m ≡ Some nested) × (new ≡ old)
-AnswersWithin flags limits m old new (Err (limited.NotAccepted fault)) =
+AnswersWithin {Y} flags limits m old new (Err (limited.NotAccepted fault)) =
     (nested_past limits.nesting m ≡ None) × Fails m old fault × (new ≡ old)
-AnswersWithin flags limits m old new (Err (limited.Refused error)) =
+AnswersWithin {Y} flags limits m old new (Err (limited.Refused error)) =
     IsUnasked old new error
-    ⊎ IsLookedInto flags limits m old new (Err (limited.Refused error))
-AnswersWithin flags limits m old new (Err limited.TooLong) =
-    IsLookedInto flags limits m old new (Err limited.TooLong)
-AnswersWithin flags limits m old new (Ok text) =
-    IsLookedInto flags limits m old new (Ok text)
+    ⊎ IsLookedInto {Y = Y} flags limits m old new (Err (limited.Refused error))
+AnswersWithin {Y} flags limits m old new (Err limited.TooLong) =
+    IsLookedInto {Y = Y} flags limits m old new (Err limited.TooLong)
+AnswersWithin {Y} flags limits m old new (Ok text) =
+    IsLookedInto {Y = Y} flags limits m old new (Ok text)

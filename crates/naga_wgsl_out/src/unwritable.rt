@@ -1,6 +1,6 @@
 //! Why a module is refused, and where.
 
-ghost use Rattle.std.specs.Prelude.{IfOk, IfSome, IsTrue, MatchOption};
+ghost use Rattle.std.specs.Prelude.{◌≡◌, IfOk, IfSome, IsTrue, MatchOption};
 ghost use Rattle.module_meaning.specs.Accepted.{is_accepted};
 ghost use Rattle.module_meaning.specs.DeclarationForms.{DeclarationsHaveForms};
 ghost use Rattle.module_meaning.specs.FunctionNumbers.{IsFunctionOf, function_number};

@@ -35,11 +35,12 @@ pub enum LimitedError {
 /// Does with a module what [`write_checked`](crate::wgsl::write_checked) does, within limits: for a
 /// module that others made, of which nothing is known.
 ///
-/// [`LimitedError::TooDeep`] comes exactly where something of the module is nested deeper than
-/// `limits.nesting`, by [`nested_past`], before anything else is asked of it and before the stack
-/// is taken. [`LimitedError::TooLong`] comes only where the module's text has more than
-/// `limits.text` bytes, and a text that has more never comes: it is cut as soon as it has passed
-/// the limit, so that no more memory than that and a piece more is taken for it, and no more time.
+/// [`LimitedError::TooDeep`] comes where something of the module is nested deeper than
+/// `limits.nesting`, by [`nested_past`], if there is memory to find out; before anything else is
+/// asked of it, and before the stack is taken. [`LimitedError::TooLong`] comes only where the
+/// module's text has more than `limits.text` bytes, and a text that has more never comes: it is cut
+/// as soon as it has passed the limit, so that it takes no more bytes than that and a piece more,
+/// and no more time.
 /// What is known of the module is as it was where it is nested too deep or not accepted; else its
 /// uses are counted, but where memory was wanting before.
 ///
@@ -67,7 +68,7 @@ pub fn write_checked_within(
 }
 
 /// The same with a module that is nested no deeper than it may be.
-#[tactic(auto, using(crate::proofs::Within::answers_within))]
+#[tactic(auto, using(crate::proofs::Bounded::answers_within))]
 fn write_flat(
     alloc: Global,
     module: &Module,

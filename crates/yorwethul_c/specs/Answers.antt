@@ -118,7 +118,7 @@ pub record IsTooLong (flags : ℕ) : Type 0 where
   pub longer : longest_text < length (layout (written_program m info writer))
 
 -- The writer stopped at an accepted module, by an error of this status. So a refusal is for a
--- listed construct that stands in the module.
+-- listed construct that stands in the module, or the sink failed.
 pub record IsStopped (flags : ℕ) (told : Status) : Type 0 where
   pub flags_are_known : flags ≤ 7
   pub writer : WriterFlags

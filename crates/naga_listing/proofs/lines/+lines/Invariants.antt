@@ -5,25 +5,25 @@ use Rattle.naga_listing.specs.Lines.{after_block, after_cases, block_lines, case
 use Rattle.naga_listing.proofs.lines.+lines.Given as goal
 
 abbrev pub decreases-add_statement : goal.decreases-add_statement
-decreases-add_statement l = 5 * statement_size (tree_of l.statement.now)
+decreases-add_statement l = 6 * statement_size (tree_of l.statement.now)
 
 abbrev pub decreases-add_inside : goal.decreases-add_inside
-decreases-add_inside l = 5 * statement_size (tree_of l.statement.now) - 1
+decreases-add_inside l = 6 * statement_size (tree_of l.statement.now) - 1
 
 abbrev pub decreases-add_two : goal.decreases-add_two
-decreases-add_two l = 5 * (block_size l.accept.now + block_size l.reject.now) + 3
+decreases-add_two l = 6 * (block_size l.accept.now + block_size l.reject.now) + 4
 
 abbrev pub decreases-add_block : goal.decreases-add_block
-decreases-add_block l = 5 * block_size l.block.now + 1
+decreases-add_block l = 6 * block_size l.block.now + 1
 
 abbrev pub decreases-add_headed : goal.decreases-add_headed
-decreases-add_headed l = 5 * block_size l.block.now + 2
+decreases-add_headed l = 6 * block_size l.block.now + 2
 
 abbrev pub decreases-add_another : goal.decreases-add_another
-decreases-add_another l = 5 * block_size l.block.now + 3
+decreases-add_another l = 6 * block_size l.block.now + 3
 
 abbrev pub decreases-add_cases : goal.decreases-add_cases
-decreases-add_cases l = 5 * cases_size (cases_of l.cases.now)
+decreases-add_cases l = 6 * cases_size (cases_of l.cases.now)
 
 abbrev pub invariant-add_block-loop-statement : goal.invariant-add_block-loop-statement
 invariant-add_block-loop-statement l = record {

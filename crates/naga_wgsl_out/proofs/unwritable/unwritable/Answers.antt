@@ -15,7 +15,7 @@ returns-in-Some-clause-stands c =
 pub returns-in-Some-clause-first : goal.returns-in-Some-clause-first
 returns-in-Some-clause-first c = c.in-Some.ensures.first
 
-pub returns-in-Err-clause-stands : goal.returns-in-Err-clause-stands
-returns-in-Err-clause-stands c =
+pub returns-in_ok-construct-in-Err-clause-stands : goal.returns-in_ok-construct-in-Err-clause-stands
+returns-in_ok-construct-in-Err-clause-stands c =
     labels_stand c.args.«module».now c.in-Err.error c.in_ok-construct.construct c.in-Err.ensures.err
     c.in_ok-construct.ensures.ok c.in_ok-construct.ensures.refused
