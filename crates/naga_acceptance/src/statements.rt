@@ -484,15 +484,6 @@ pub(crate) fn own_is_sound(
 {
     let types = &module.types;
     match statement {
-        Statement::Emit(_)
-        | Statement::Kill
-        | Statement::ControlBarrier(_)
-        | Statement::MemoryBarrier(_)
-        | Statement::ImageStore { .. }
-        | Statement::ImageAtomic { .. }
-        | Statement::RayQuery { .. }
-        | Statement::RayPipelineFunction(_)
-        | Statement::Block(_) => true,
         Statement::If { condition, .. } => is_condition(types, known, *condition),
         Statement::Switch { selector, cases } => is_selection(types, known, *selector, cases),
         Statement::Loop { break_if, .. } => match break_if {
@@ -534,6 +525,7 @@ pub(crate) fn own_is_sound(
             known,
             data_.pointer,
         ),
+        _ => true,
     }
 }
 

@@ -193,9 +193,7 @@ each_both (e ∷ es) offset are all = (are.0, each_both es offset are.1 all)
 
 low : (c : SwizzleComponent) → component_number c < 4
 low component.X = omega arith
-low component.Y = omega arith
-low component.Z = omega arith
-low component.W = omega arith
+low _ = omega arith
 
 module _ (e : Expression) (es offset : List Expression) (are : Each IsExpression (e ∷ es))
     (last : Each IsExpression offset) where

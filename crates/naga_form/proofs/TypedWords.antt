@@ -204,9 +204,7 @@ none_formless_mathematical = refl
 formless_begins : (x : Formless) → not_formless (formless_word x) ≡ false
 unfolding not_formless
 formless_begins (Cast kind width) = refl
-formless_begins (PartAt index) = refl
-formless_begins (ValueOf numbers components) = refl
-formless_begins (MatrixLoad columns rows role row_major) = refl
+formless_begins _ = refl
 
 formless_is_none : (x : Formless) → operator_of (formless_word x) ≡ None
 formless_is_none x =
@@ -298,22 +296,16 @@ abbrev has_byte : (place byte : ℕ) → List ℕ → Bool
 has_byte place byte w = nat_eq (get_or w place 0) byte
 
 no_formless_reinterpret : (w : List ℕ) (x : Formless) → with_type (codes "bitcast") w ≡ formless_word x → ⊥
-no_formless_reinterpret w (Cast kind width) e = false≢true (ap (has_byte 0 32) e)
-no_formless_reinterpret w (PartAt index) e = false≢true (ap (has_byte 0 32) e)
-no_formless_reinterpret w (ValueOf numbers components) e = false≢true (ap (has_byte 0 32) e)
 no_formless_reinterpret w (MatrixLoad columns rows role row_major) e = false≢true (ap (has_byte 0 99) e)
+no_formless_reinterpret w _ e = false≢true (ap (has_byte 0 32) e)
 
 no_formless_load : (w : List ℕ) (x : Formless) → with_type (codes "coopLoad") w ≡ formless_word x → ⊥
-no_formless_load w (Cast kind width) e = false≢true (ap (has_byte 0 32) e)
-no_formless_load w (PartAt index) e = false≢true (ap (has_byte 0 32) e)
-no_formless_load w (ValueOf numbers components) e = false≢true (ap (has_byte 0 32) e)
 no_formless_load w (MatrixLoad columns rows role row_major) e = false≢true (ap (has_byte 8 32) e)
+no_formless_load w _ e = false≢true (ap (has_byte 0 32) e)
 
 no_formless_transposed : (w : List ℕ) (x : Formless) → with_type (codes "coopLoadT") w ≡ formless_word x → ⊥
-no_formless_transposed w (Cast kind width) e = false≢true (ap (has_byte 0 32) e)
-no_formless_transposed w (PartAt index) e = false≢true (ap (has_byte 0 32) e)
-no_formless_transposed w (ValueOf numbers components) e = false≢true (ap (has_byte 0 32) e)
 no_formless_transposed w (MatrixLoad columns rows role row_major) e = false≢true (ap (has_byte 8 32) e)
+no_formless_transposed w _ e = false≢true (ap (has_byte 0 32) e)
 
 -- ---- the law
 some_none : (o : Operator) → Some o ≡ None → ⊥

@@ -10,9 +10,9 @@ use Rattle.shader_runs.specs.Outcome.{ReachedOrHalted, Gives, Halts, Next, and_t
 use Rattle.shader_runs.specs.Outcome.{after_switch, branch_by, with_integer, closed_outcome}
 use Rattle.shader_runs.specs.Outcome.{closed_if, or_stuck, reach, unless}
 use Rattle.shader_runs.specs.Program.{expression_of, Label, Numbered, Statement, Emit}
-use Rattle.shader_runs.specs.Program.{Store, Block, If, Switch, Loop, Break, Continue, Return, Kill}
+use Rattle.shader_runs.specs.Program.{Store, Block, If, Switch, Loop, Break, Continue, Return}
 use Rattle.shader_runs.specs.Program.{Barrier, Act, Statements, end, then, Cases, no_case, case}
-use Rattle.shader_runs.specs.Program.{Module, binds, from, holds_continue, any_continue}
+use Rattle.shader_runs.specs.Program.{Module, binds, from, holds_continue, any_continue, Jumps}
 use Rattle.shader_runs.specs.ProgramRun.{Call, KeptValues, used_value, emit, emit_as, barrier_words}
 use Rattle.shader_runs.specs.ProgramRun.{ask_each, same_label, label_if, run, run_all}
 use Rattle.shader_runs.specs.Text.{Tree, Line, Let, Braces, IfElse, SwitchOn, LoopOf, Lines, last}
@@ -84,10 +84,7 @@ both_done (mistyped {e = e}) k t q = absurd (not_stopped _ k e t q)
 
 then_done : {S : Type 0} (o : Outcome S) → and_then o (λ s t. Done s t) ≡ o
 then_done (Done s t) = refl
-then_done (Continued s t) = refl
-then_done (Broke s t) = refl
-then_done (Returned v t) = refl
-then_done (Stopped x t) = refl
+then_done _ = refl
 
 -- what is done in two steps
 pub then_parts : {S : Type 0} (o : Outcome S) (g : Next S) (s : S) (t : List Event) → and_then o g ≡ Done s t → (s1 : S) × (t1 : List Event) × (o ≡ Done s1 t1) × (g s1 t1 ≡ Done s t)
@@ -315,15 +312,15 @@ module _ (p : Module) (c : Call) (n : Names) (d : Respond) (facts : Facts p c n 
   goes_on (Switch h cs) k s names kept kept1 t t1 r m e =
       let w = own_lines (Switch h cs) k s names kept kept1 t t1 r m e in
       closing_line _ s names kept kept1 t t1 (switch_closes (value_at (naming c n) s h) (form_cases (naming c n) k [] cs s) names t) r (w.0, w.1, w.2.1)
-  goes_on Break k s names kept kept1 t t1 r m e = absurd (not_broke kept kept1 t t1 e)
-  goes_on Continue k s names kept kept1 t t1 r m e = absurd (not_continued kept kept1 t t1 e)
-  goes_on (Return None) k s names kept kept1 t t1 r m e = absurd (not_returned None kept1 t t1 e)
-  goes_on (Return (Some h)) k s names kept kept1 t t1 r m e = absurd (value_returned (used_value c kept h) e)
+  goes_on (Jumps Break) k s names kept kept1 t t1 r m e = absurd (not_broke kept kept1 t t1 e)
+  goes_on (Jumps Continue) k s names kept kept1 t t1 r m e = absurd (not_continued kept kept1 t t1 e)
+  goes_on (Jumps (Return None)) k s names kept kept1 t t1 r m e = absurd (not_returned None kept1 t t1 e)
+  goes_on (Jumps (Return (Some h))) k s names kept kept1 t t1 r m e = absurd (value_returned (used_value c kept h) e)
     where
       value_returned : (o : Option Value) → or_stuck o t (λ v. Returned (Some v) t) ≡ Done kept1 t1 → ⊥
       value_returned None e = not_stopped _ kept1 t t1 e
       value_returned (Some v) e = not_returned (Some v) kept1 t t1 e
-  goes_on Kill k s names kept kept1 t t1 r m e = absurd (not_stopped _ kept1 _ t1 e)
+  goes_on (Jumps _) k s names kept kept1 t t1 r m e = absurd (not_stopped _ kept1 _ t1 e)
 
   -- the list in front of a region, as `form` writes it
   abbrev Written_in : ℕ → Statement → Region → Handles → Lines

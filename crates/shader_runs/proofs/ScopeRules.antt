@@ -14,7 +14,7 @@ use Rattle.shader_runs.specs.Program.{Return, Act, Statements, end, then, Cases,
 use Rattle.shader_runs.specs.Program.{Function, argument_count, local_count, expression_of}
 use Rattle.shader_runs.specs.Program.{operands_of, is_counted, binds_as, binds, from}
 use Rattle.shader_runs.specs.Program.{holds_continue}
-use Rattle.shader_runs.specs.Program.{is_pure, is_emittable}
+use Rattle.shader_runs.specs.Program.{is_pure, is_emittable, Jumps}
 use Rattle.shader_runs.specs.Scope.{Availability, Absent, Barred, Everywhere, Inline, Bound}
 use Rattle.shader_runs.specs.Scope.{Handles}
 use Rattle.shader_runs.specs.Scope.{Naming, before_local, bound_name, is_present, is_new, usable_as}
@@ -113,11 +113,7 @@ emittable_introduced None h = h
 usable_by : (f : Function) (e : Option Expression) (st : Availability) →
     usable_as f e st ≡ cond (can_be_introduced e) (is_present st) (usable_as f e Absent)
 usable_by f (Some (Constant c)) st = refl
-usable_by f (Some (Argument i)) st = refl
-usable_by f (Some (Local i)) st = refl
-usable_by f (Some (Global held i)) st = refl
-usable_by f (Some _) st = refl
-usable_by f None st = refl
+usable_by f _ st = refl
 
 usable_introduced : (f : Function) (e : Option Expression) (st : Availability) →
     IsTrue (can_be_introduced e) → usable_as f e st ≡ is_present st
@@ -534,11 +530,7 @@ module _ (f : Function) (at later : Point) (s now : Handles) (t : Tracks f at s)
   introduced_forgotten h Absent q =
       subst (IntroducedSkipped h) q
       (other_introduced h (λ p. absurd (true≢false (sym p ∙ ap is_present q))))
-  introduced_forgotten h Barred q =
-      subst (IntroducedSkipped h) q (other_introduced h (λ p. ap is_new q))
-  introduced_forgotten h Inline q =
-      subst (IntroducedSkipped h) q (other_introduced h (λ p. ap is_new q))
-  introduced_forgotten h (Bound x) q =
+  introduced_forgotten h _ q =
       subst (IntroducedSkipped h) q (other_introduced h (λ p. ap is_new q))
 
   used_forgotten : (h : ℕ) → (IsTrue (usable f (forgotten_handles s now) h) ↔ InScope f at.visible h)
@@ -609,7 +601,7 @@ mutual
       (statements_rule f k b at s t)
       (λ i. statements_rule f k1 d continuing s1 (tracks_turn f k b at s t i))
       (λ i j. if_used f.function break_if s2 (tracks_turn f k1 d continuing s1 (tracks_turn f k b at s t i) j) e)
-  statement_rule f k (Return v) at s t = if_used f.function at s t v
+  statement_rule f k (Jumps (Return v)) at s t = if_used f.function at s t v
   statement_rule f k (Act a xs r) at s t =
       both (usable_all f.function s xs) (may_give r s) (each_used f.function at s t xs)
       (λ i. result_rule f.function at s r t)

@@ -60,6 +60,26 @@ pub data Label : Type 0 where
   Numbered : ℤ → Label
   Default : Label
 
+-- what goes on elsewhere than behind the statement: behind the loop or the switch, with the next turn
+-- of the loop, in the caller, which may be given an A, or nowhere
+pub data Jump (A : Type 0) : Type 0 where
+  Break : Jump A
+  Continue : Jump A
+  Return : Option A → Jump A
+  Kill : Jump A
+
+-- it goes on with the next turn
+abbrev pub is_continue : {A : Type 0} → Jump A → Bool
+is_continue Continue = true
+is_continue _ = false
+
+-- the same jump, with what it returns told in another way
+abbrev pub jump_told : {A B : Type 0} → (Option A → Option B) → Jump A → Jump B
+jump_told tell Break = Break
+jump_told tell Continue = Continue
+jump_told tell (Return v) = Return (tell v)
+jump_told tell Kill = Kill
+
 mutual
   -- an Emit names count handles from the first on
   pub data Statement : Type 0 where
@@ -69,10 +89,7 @@ mutual
     If : (condition : ℕ) → (accept reject : Statements) → Statement
     Switch : (selector : ℕ) → Cases → Statement
     Loop : (body continuing : Statements) → (break_if : Option ℕ) → Statement
-    Break : Statement
-    Continue : Statement
-    Return : Option ℕ → Statement
-    Kill : Statement
+    Jumps : Jump ℕ → Statement
     Barrier : BarrierBits → Statement
     Act : Action → (operands : List ℕ) → (result : Option ℕ) → Statement
 
@@ -179,10 +196,7 @@ abbrev mutual
   holds_continue (If c a b) = any_continue a || any_continue b
   holds_continue (Switch h cases) = some_case_continues cases
   holds_continue (Loop b d e) = false
-  holds_continue Break = false
-  holds_continue Continue = true
-  holds_continue (Return v) = false
-  holds_continue Kill = false
+  holds_continue (Jumps j) = is_continue j
   holds_continue (Barrier bits) = false
   holds_continue (Act a xs r) = false
 

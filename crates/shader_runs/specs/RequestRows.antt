@@ -8,7 +8,7 @@ use Rattle.shader_runs.specs.Outcome.{Gives}
 use Rattle.shader_runs.specs.Program.{Fixed, NamedConstant, no_constant, constant}
 use Rattle.shader_runs.specs.Program.{Argument, Global, Operator, Access, Request, Result}
 use Rattle.shader_runs.specs.Program.{Asked, Emit, Store, Return, Barrier, BarrierBits, Act}
-use Rattle.shader_runs.specs.Program.{Function}
+use Rattle.shader_runs.specs.Program.{Function, Jumps}
 use Rattle.shader_runs.specs.Text.{Tree, Name, LiteralOf, Index, Assign, TextFunction}
 use Rattle.shader_runs.specs.WorkedModules.{texel, ballot, pair_type, pair, in_memory, resource}
 use Rattle.shader_runs.specs.WorkedModules.{named_function, Example, IsWorked, start_events}
@@ -39,7 +39,7 @@ count_function =
     Act (Asked (codes "atomicStore")) (0 ∷ 1 ∷ []) None
     ∷ Act (Asked (codes "atomicAdd")) (0 ∷ 1 ∷ []) (Some 2)
     ∷ Emit 3 2
-    ∷ Return (Some 4) ∷ [])
+    ∷ Jumps (Return (Some 4)) ∷ [])
 
 -- its module
 abbrev pub atomic_example : Example
@@ -109,7 +109,7 @@ sample_function =
     ∷ row (Argument 1) i32
     ∷ bound_row sample texel_type ∷ []) (
     Emit 4 1
-    ∷ Return (Some 4) ∷ [])
+    ∷ Jumps (Return (Some 4)) ∷ [])
 
 -- its arguments' names
 abbrev pub sample_arguments : List Bytes
@@ -175,7 +175,7 @@ texel_function =
     ∷ row (Access 0 5) (OtherType image_type)
     ∷ bound_row load texel_type ∷ []) (
     Emit 5 3
-    ∷ Return (Some 7) ∷ [])
+    ∷ Jumps (Return (Some 7)) ∷ [])
 
 -- its arguments' names
 abbrev pub texel_arguments : List Bytes
@@ -331,7 +331,7 @@ together_function =
     ∷ Store 2 5
     ∷ Act (Asked (codes "traceRay")) (1 ∷ 4 ∷ 2 ∷ []) None
     ∷ Act (Asked (codes "subgroupBallot")) [] (Some 6)
-    ∷ Return (Some 6) ∷ [])
+    ∷ Jumps (Return (Some 6)) ∷ [])
 
 -- its arguments' names
 abbrev pub together_arguments : List Bytes

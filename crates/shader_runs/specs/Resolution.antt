@@ -18,15 +18,15 @@ use Rattle.shader_runs.specs.Program.{Argument, Local, Global, Load, Operator, A
 use Rattle.shader_runs.specs.Program.{Logical, Swizzle, Request, Action, Asked, Called, Statement}
 use Rattle.shader_runs.specs.Program.{Emit, Store, Block, If, Switch, Loop, Return, Barrier, Act}
 use Rattle.shader_runs.specs.Program.{Statements, end, then, Cases, no_case, case, Function}
-use Rattle.shader_runs.specs.Program.{expression_of, binds, from, holds_continue, Module}
+use Rattle.shader_runs.specs.Program.{expression_of, binds, from, holds_continue, Module, Jumps}
 use Rattle.shader_runs.specs.ProgramRun.{barrier_words}
 use Rattle.shader_runs.specs.Scope.{Availability, Bound, Handles, Naming, at_start, named_after}
 use Rattle.shader_runs.specs.Scope.{named_by, named_by_all, after_one, after, after_all}
 use Rattle.shader_runs.specs.Text.{Tree, Name, LiteralOf, Apply, Deref, AddressOf, Index, PartOf}
 use Rattle.shader_runs.specs.Text.{LogicalOf, Trees, no_more, more, Line, Let, Assign, Braces}
-use Rattle.shader_runs.specs.Text.{IfElse, SwitchOn, LoopOf, ReturnLine, Perform, Lines, last}
+use Rattle.shader_runs.specs.Text.{IfElse, SwitchOn, LoopOf, Perform, Lines, last}
 use Rattle.shader_runs.specs.Text.{before, Groups, no_group, group, Variable, TextFunction}
-use Rattle.shader_runs.specs.Text.{TextModule}
+use Rattle.shader_runs.specs.Text.{TextModule, JumpLine}
 use Rattle.shader_runs.specs.TextRun.{has_continue}
 
 -- what a name or a word stands for: an item of the module, or an argument, a variable or a `let` of
@@ -137,7 +137,7 @@ abbrev mutual
       let inside = names_left l b names in
       lines_targets l names b
       ++ (lines_targets l1 inside d ++ tree_targets_if (names_left l1 d inside) e)
-  line_targets l names (ReturnLine e) = tree_targets_if names e
+  line_targets l names (JumpLine (Return e)) = tree_targets_if names e
   line_targets l names (Perform word es) =
       Some (word_target word (names word)) ∷ trees_targets names es
   line_targets l names _ = []
@@ -366,7 +366,7 @@ abbrev mutual
       statements_targets f k l b s numbers
       ++ (statements_targets f k1 l1 d s1 numbers1
       ++ value_targets_if f.function (after_all f k1 d s1) numbers2 e)
-  statement_targets f k l (Return v) s numbers = value_targets_if f.function s numbers v
+  statement_targets f k l (Jumps (Return v)) s numbers = value_targets_if f.function s numbers v
   statement_targets f k l (Barrier bits) s numbers = words_targets (barrier_words bits)
   statement_targets f k l (Act a xs r) s numbers =
       result_targets l r

@@ -12,7 +12,7 @@ use Rattle.shader_runs.specs.Program.{is_emittable, Statement}
 use Rattle.shader_runs.specs.Program.{Emit, Store, Block, If, Switch, Loop, Return, Act, Statements}
 use Rattle.shader_runs.specs.Program.{end, then, Cases, no_case, case, Function, argument_count}
 use Rattle.shader_runs.specs.Program.{local_count, expression_of, operands_of, is_named, binds}
-use Rattle.shader_runs.specs.Program.{from, holds_continue}
+use Rattle.shader_runs.specs.Program.{from, holds_continue, Jumps}
 
 -- a handle at a point: not emitted here; emitted where an operand was out of scope; a constant tree
 -- that wasn't emitted here; written where it is used; or bound under a name
@@ -241,7 +241,7 @@ abbrev mutual
       let s1 = after_all f k b s in
       let k1 = named_by_all f.function b k in
       fits_all f k b s && (fits_all f k1 d s1 && usable_if f.function (after_all f k1 d s1) e)
-  fits f k (Return v) s = usable_if f.function s v
+  fits f k (Jumps (Return v)) s = usable_if f.function s v
   fits f k (Act a xs r) s = usable_all f.function s xs && may_give r s
   fits f k _ s = true
 

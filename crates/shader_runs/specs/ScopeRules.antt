@@ -11,7 +11,7 @@ use Rattle.shader_runs.specs.Program.{Switch, Loop, Return, Act, Statements, end
 use Rattle.shader_runs.specs.Program.{no_case, case, Function, argument_count, local_count}
 use Rattle.shader_runs.specs.Program.{expression_of, operands_of, is_counted, binds, from}
 use Rattle.shader_runs.specs.Program.{holds_continue}
-use Rattle.shader_runs.specs.Program.{is_pure, is_emittable}
+use Rattle.shader_runs.specs.Program.{is_pure, is_emittable, Jumps}
 use Rattle.shader_runs.specs.Scope.{Naming, before_local, fits_function}
 use Rattle.shader_runs.specs.Premises.{AllBelow}
 
@@ -190,7 +190,7 @@ abbrev mutual
       let continuing = behind_turn f b at in
       let break_if = behind_turn f d continuing in
       StatementsHold f at b × StatementsHold f continuing d × InScopeIf f break_if.visible e
-  StatementHolds f at (Return v) = InScopeIf f at.visible v
+  StatementHolds f at (Jumps (Return v)) = InScopeIf f at.visible v
   StatementHolds f at (Act a xs r) = EachInScope f at.visible xs × MayResult f at r
   StatementHolds f at _ = Unit {0}
 

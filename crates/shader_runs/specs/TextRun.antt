@@ -15,21 +15,21 @@ use Rattle.shader_runs.specs.Value.{LocalRoot, integer_in, place_in, place_at, p
 use Rattle.shader_runs.specs.Value.{Selector, takes_several}
 use Rattle.shader_runs.specs.Value.{Value, Pointer}
 use Rattle.shader_runs.specs.Value.{Spelled, PartWord, IndexWord, ShortCircuit}
-use Rattle.shader_runs.specs.World.{Event, Entry, Ask, Read, Write, Discard, entries, World}
+use Rattle.shader_runs.specs.World.{Event, Entry, Ask, Read, Write, entries, World}
 use Rattle.shader_runs.specs.World.{Meaning, Vocabulary, bind}
-use Rattle.shader_runs.specs.Outcome.{Stuck, Unreturned, Discarded, Outcome, Done, Continued, Broke}
+use Rattle.shader_runs.specs.Outcome.{Stuck, Unreturned, Outcome, Done, Broke}
 use Rattle.shader_runs.specs.Outcome.{reach, unless, Returned, Stopped, ReachedOrHalted, Gives}
 use Rattle.shader_runs.specs.Outcome.{Halts}
 use Rattle.shader_runs.specs.Outcome.{answer, Next, and_then, turn, turns, after_switch, branch_by}
-use Rattle.shader_runs.specs.Outcome.{with_integer, closed_outcome, closed_if}
-use Rattle.shader_runs.specs.Program.{Label, Numbered}
+use Rattle.shader_runs.specs.Outcome.{with_integer, closed_outcome, closed_if, jump_outcome}
+use Rattle.shader_runs.specs.Program.{Label, Numbered, is_continue}
 use Rattle.shader_runs.specs.ProgramRun.{run_if_arguments_fit, decides, undecided_value, same_label}
 use Rattle.shader_runs.specs.ProgramRun.{label_if}
 use Rattle.shader_runs.specs.Text.{Tree, Name, LiteralOf, Apply, Deref, AddressOf, Index, PartOf}
 use Rattle.shader_runs.specs.Text.{LogicalOf, Trees, no_more, more, Line, Let, Assign, Braces}
-use Rattle.shader_runs.specs.Text.{IfElse, SwitchOn, LoopOf, BreakLine, ContinueLine, ReturnLine}
-use Rattle.shader_runs.specs.Text.{DiscardLine, Perform, Lines, last, before, Groups, no_group}
-use Rattle.shader_runs.specs.Text.{group, Variable, ModuleVariable, TextFunction}
+use Rattle.shader_runs.specs.Text.{IfElse, SwitchOn, LoopOf}
+use Rattle.shader_runs.specs.Text.{Perform, Lines, last, before, Groups, no_group}
+use Rattle.shader_runs.specs.Text.{group, Variable, ModuleVariable, TextFunction, JumpLine}
 
 -- what an expression stands for: a value, or a
 -- reference, the place of a variable or of a part of one
@@ -209,10 +209,7 @@ abbrev mutual
   has_continue (IfElse e a b) = some_continue a || some_continue b
   has_continue (SwitchOn e groups) = some_group_continues groups
   has_continue (LoopOf b d e) = false
-  has_continue BreakLine = false
-  has_continue ContinueLine = true
-  has_continue (ReturnLine e) = false
-  has_continue DiscardLine = false
+  has_continue (JumpLine j) = is_continue j
   has_continue (Perform w es) = false
 
   pub some_continue : Lines → Bool
@@ -263,10 +260,7 @@ abbrev mutual
       turns n (λ names1 t1.
       closed_outcome names1
       (turn (follow_in_loop l n b) (follow_in_loop l n d) (break_line l e) names1 t1)) names t
-  follow l n BreakLine names t = Broke names t
-  follow l n ContinueLine names t = Continued names t
-  follow l n (ReturnLine e) names t = return_line l e names t
-  follow l n DiscardLine names t = Stopped Discarded (Discard ∷ t)
+  follow l n (JumpLine j) names t = jump_outcome (return_line l) j names t
   follow l n (Perform w es) names t =
       perform_outcome (l.operates w) names (word_reached l w names t (evaluate_all l es names t))
 
