@@ -181,15 +181,20 @@ fn tell_unwritten(
     match unwritten {
         Unwritten::NotAccepted(unaccepted) => tell_unaccepted(alloc, known, unaccepted, members),
         Unwritten::Memory(error) => Err(error),
-        reason => tell_refused(
-            alloc,
-            reason,
-            None,
-            &known.module,
-            String::new(alloc),
-            members,
-        ),
+        Unwritten::TooDeep(nested) => tell_limited(alloc, known, nested, members),
+        Unwritten::TooLong => tell_limited(alloc, known, Unwritten::TooLong, members),
     }
+}
+
+/// Tells that the module is past a limit: at no place, and with no text in front of it.
+fn tell_limited(
+    alloc: Global,
+    known: &Known,
+    reason: impl Display + Drop,
+    members: &mut Members,
+) -> Result<(), AllocError> {
+    let text = String::new(alloc);
+    tell_refused(alloc, reason, None, &known.module, text, members)
 }
 
 fn tell_written(
