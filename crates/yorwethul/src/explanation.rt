@@ -6,7 +6,7 @@ use module_answers::{
 };
 use naga_json::Known;
 use naga_listing::explain;
-use naga_wgsl_out::info::{Item, Unaccepted};
+use naga_wgsl_out::info::Unaccepted;
 use naga_wgsl_out::wgsl::{Error, Refusal};
 use std::alloc::{AllocError, Global};
 
@@ -78,20 +78,10 @@ fn of_unaccepted(
     known: &Known,
     unaccepted: Unaccepted,
 ) -> Result<Explanation, AllocError> {
+    let place = listed_place(unaccepted.item);
+    let told = JsonPlace(unaccepted.item);
     let fault = fault_text(alloc, &known.module, &known.info, unaccepted)?;
-    of_fault(alloc, known, unaccepted.item, fault.as_str())
-}
-
-/// The same by the item and what is told of the fault.
-fn of_fault(
-    alloc: Global,
-    known: &Known,
-    item: Item,
-    fault: &str,
-) -> Result<Explanation, AllocError> {
-    let place = listed_place(item);
-    let listing = explain(alloc, &known.module, &known.info, &place, fault)?;
-    let told = JsonPlace(item);
+    let listing = explain(alloc, &known.module, &known.info, &place, fault.as_str())?;
     not_written(format!(in alloc; "not accepted: {told}: {fault}\n\n{listing}"))
 }
 

@@ -168,21 +168,12 @@ fn tell_known(
 ) -> Result<(), AllocError> {
     match write_in(alloc, style, known) {
         Ok(written) => tell_written(alloc, written, &known.module, members),
-        Err(unwritten) => tell_unwritten(alloc, known, unwritten, members),
-    }
-}
-
-fn tell_unwritten(
-    alloc: Global,
-    known: &Known,
-    unwritten: Unwritten,
-    members: &mut Members,
-) -> Result<(), AllocError> {
-    match unwritten {
-        Unwritten::NotAccepted(unaccepted) => tell_unaccepted(alloc, known, unaccepted, members),
-        Unwritten::Memory(error) => Err(error),
-        Unwritten::TooDeep(nested) => tell_limited(alloc, known, nested, members),
-        Unwritten::TooLong => tell_limited(alloc, known, Unwritten::TooLong, members),
+        Err(Unwritten::NotAccepted(unaccepted)) => {
+            tell_unaccepted(alloc, known, unaccepted, members)
+        }
+        Err(Unwritten::Memory(error)) => Err(error),
+        Err(Unwritten::TooDeep(nested)) => tell_limited(alloc, known, nested, members),
+        Err(Unwritten::TooLong) => tell_limited(alloc, known, Unwritten::TooLong, members),
     }
 }
 
