@@ -23,29 +23,25 @@ Where PROGRAM is `-`, no program is asked: the texts are the model's own, which 
 of as many entry points as a name's key can tell, and of one more.
 """
 
-import json
 import random
-import subprocess
 import sys
 from pathlib import Path
 
 sys.path.append(str(Path(__file__).resolve().parents[3] / "crates/wgsl_cases/runs"))
 
 from acceptance import is_accepted, is_read
+from asking import STYLES, answers_to
 from declaration_rows import MOST, check_declaration_rows, many
 from generator import generate, generate_structs
 from numerals import told
 from refusals import refusal
 from rows import check_rows
-from serde import line_of
+from serde import line_of, lines_of
 from statement_rows import check_statement_rows
 from tally import Tally
 from texts import answers_of
 
 BATCH = 5000
-# whether a text is plain, without what only standard compilers ask for and with floats as they are; and whether its
-# `let`s tell types
-STYLES = [(is_plain, explicit) for is_plain in (True, False) for explicit in (False, True)]
 NOT_ACCEPTED, NOT_READ = "not accepted", "not read"
 
 
@@ -81,11 +77,8 @@ def texts_of(program, samples):
     """What the program says of each module in each style, one after another."""
     if program == "-":
         return [own_text(module, *style) for module in samples for style in STYLES]
-    lines = [line_of(module, explicit, is_plain) for module in samples for is_plain, explicit in STYLES]
-    answer = subprocess.run([program, "--lines"], input="".join(lines).encode(), stdout=subprocess.PIPE, check=True)
-    answers = answer.stdout.decode().split("\n")[:-1]
-    assert len(answers) == len(lines), (len(answers), len(lines))
-    return [text_in(json.loads(answer)) for answer in answers]
+    lines = [line for module in samples for line in lines_of(module, STYLES)]
+    return list(map(text_in, answers_to(program, lines)))
 
 
 def own_text(module, is_plain, explicit):

@@ -221,6 +221,21 @@ class EntryPointMaker(FunctionMaker):
             self.put_typed("zero", self.wanted)
 
 
+def some_lacking_type(r):
+    """A type of a scalar without a word."""
+    scalar = r.choice([("abstract", 8), ("abstract float", 8), ("float", 3), ("sint", 3), ("bool", 4)])
+    return r.choice([
+        ("scalar", scalar), ("vector", 2, scalar), ("array", ("scalar", scalar), 3, 4), ("atomic", scalar),
+        ("matrix", 2, 2, scalar), ("cooperative", 8, 8, scalar, "A"), ("value pointer", 0, scalar, FUNCTION),
+        ("image", 1, False, ("sampled", "bool", False))])
+
+
+def some_other_type(r):
+    """Another type without a form."""
+    return r.choice([
+        ("value pointer", r.choice([0, 2, 4]), F32, HANDLE), ("array", ("value pointer", 2, I32, HANDLE), 2, 4)])
+
+
 class FaultMaker:
     """Makes one fault in what a module declares."""
 
@@ -238,19 +253,19 @@ class FaultMaker:
         module = self.module
         return [*(c for c in module.constants if c.label is not None), *module.overrides, *module.variables]
 
-    def replaced(self, ty, init=None):
-        """An item of this type in the place of another one, or a new one."""
+    def declared(self, ty, init=None):
+        """A new item of this type."""
         r, place = self.r, self.module.handle_of(ty)
-        items = self.items()
         kind = r.choice(["constant", "override", "variable"])
         if kind == "constant":
             init = self.own.zero(ty) if init is None else init
-            self.module.constants.append(Constant("c", place, init))
+            item, items = Constant("c", place, init), self.module.constants
         elif kind == "override":
-            self.module.overrides.append(Override("o", place, init))
+            item, items = Override("o", place, init), self.module.overrides
         else:
-            self.module.variables.append(Variable("v", place, ("private", 0), init))
-        return items
+            item, items = Variable("v", place, ("private", 0), init), self.module.variables
+        items.append(item)
+        return item
 
     def builtin(self):
         """A builtin value without a word, in a struct, a function or an entry point."""
@@ -261,10 +276,13 @@ class FaultMaker:
         if structs and r.random() < 0.4:
             ty = r.choice(structs)
             module.bindings[ty, r.randrange(len(ty[1]))] = binding
-        elif bodies:
+            return ty, binding
+        if bodies:
             f = r.choice(bodies)
             places = [*range(len(f.arguments)), *(["result"] if f.result is not None else [])]
             f.bindings[r.choice(places)] = binding
+            return f, binding
+        return None
 
     def within(self, ty, h):
         """The initialiser, or one that has it as a part."""
@@ -298,10 +316,7 @@ class FaultMaker:
             x = own.put("conversion", ty, [0 if ty[1] == I32 else 1, 4], [x])
         else:
             x = own.put("access index", ty, [0], [own.put("splat", ("vector", 2, ty[1]), [2], [x])])
-        if what == "global":
-            self.replaced(ty, x)
-        else:
-            self.replaced(*self.within(ty, x))
+        return self.declared(ty, x) if what == "global" else self.declared(*self.within(ty, x))
 
     def literal(self, number):
         ty = ("scalar", LITERALS[number])
@@ -309,21 +324,22 @@ class FaultMaker:
         return ty, self.own.put("literal", ty, [number, some_bits(self.r, LITERALS[number])])
 
     def float(self):
-        self.replaced(*self.within(*self.literal(self.r.choice([5, 5, 6, 9]))))
+        return self.declared(*self.within(*self.literal(self.r.choice([5, 5, 6, 9]))))
 
     def abstract(self):
         _, h = self.literal(self.r.choice([10, 11]))
         ty = self.r.choice([("vector", 2, F32), ("array", ("scalar", I32), 2, 4)])
         self.module.handle_of(ty)
-        self.replaced(ty, self.own.put_typed("compose", ty, [h, h]))
+        return self.declared(ty, self.own.put_typed("compose", ty, [h, h]))
 
     def stage(self):
         for p in self.module.entry_points:
             if p.stage in ("Mesh", "Task", "AnyHit", "ClosestHit", "Miss"):
                 p.mesh, p.task, p.ray = p.mesh if p.stage != "Mesh" else None, None, None
-                return
+                return p
         p = EntryPoint("stage", self.r.choice(["Mesh", "Task", "AnyHit", "ClosestHit", "Miss"]), self.module)
         self.module.entry_points.append(p)
+        return p
 
     def declared_as(self, ty):
         """A type that is told by a member, an item, or an argument."""
@@ -339,7 +355,7 @@ class FaultMaker:
         elif what < 0.5 and module.bodies():
             r.choice(module.bodies()).locals.append(("late", ty, None))
         else:
-            self.replaced(ty)
+            self.declared(ty)
 
     def undeclared(self):
         structs = StructMaker(self.r, self.module)
@@ -348,16 +364,10 @@ class FaultMaker:
             self.declared_as(structs.some_over(ty))
 
     def scalar(self):
-        scalar = self.r.choice([("abstract", 8), ("abstract float", 8), ("float", 3), ("sint", 3), ("bool", 4)])
-        self.declared_as(self.r.choice([
-            ("scalar", scalar), ("vector", 2, scalar), ("array", ("scalar", scalar), 3, 4), ("atomic", scalar),
-            ("matrix", 2, 2, scalar), ("cooperative", 8, 8, scalar, "A"), ("value pointer", 0, scalar, FUNCTION),
-            ("image", 1, False, ("sampled", "bool", False))]))
+        self.declared_as(some_lacking_type(self.r))
 
     def type(self):
-        self.declared_as(self.r.choice([
-            ("value pointer", self.r.choice([0, 2, 4]), F32, HANDLE),
-            ("array", ("value pointer", 2, I32, HANDLE), 2, 4)]))
+        self.declared_as(some_other_type(self.r))
 
     # ---- what is not accepted
     def initialiser(self):

@@ -102,10 +102,13 @@ class FunctionMaker:
                 f.bindings[number] = some_binding(self.r)
 
     def put(self, kind, ty, what=(), operands=()):
-        """Adds an expression, now and then of another type, whose type stands by itself or is told by its handle."""
+        """Adds an expression, now and then of another type."""
         if None in operands:
             return None
-        ty = self.r.choice(self.types) if self.chance(0.002) else ty
+        return self.put_as(kind, self.r.choice(self.types) if self.chance(0.002) else ty, what, operands)
+
+    def put_as(self, kind, ty, what=(), operands=()):
+        """Adds an expression of this type, which stands by itself or is told by its handle."""
         ty = self.told(ty)
         e = Expression(kind, ty, what, operands)
         e.by_handle = ty in self.module.types and self.chance(0.9995 if ty[0] == "struct" else 0.7)

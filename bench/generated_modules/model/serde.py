@@ -59,8 +59,15 @@ LEAF_NAMES = {
 def line_of(module, explicit, is_plain=True):
     """The module with what is known of it, in a line, as one whose `let`s are to tell types or not, in a plain text or
     in one that tells floats and has what standard compilers ask for."""
-    asked = {**module.json(), "plain": is_plain, "explicit_types": explicit}
-    return json.dumps(asked, separators=(",", ":"), allow_nan=False) + "\n"
+    return lines_of(module, [(is_plain, explicit)])[0]
+
+
+def lines_of(module, styles):
+    """Such a line for each style."""
+    known = json.dumps(module.json(), separators=(",", ":"), allow_nan=False).removesuffix("}")
+    return [
+        f'{known},"plain":{json.dumps(is_plain)},"explicit_types":{json.dumps(explicit)}}}\n'
+        for is_plain, explicit in styles]
 
 
 class Serde:

@@ -78,11 +78,11 @@ fn of_unaccepted(
     known: &Known,
     unaccepted: Unaccepted,
 ) -> Result<Explanation, AllocError> {
-    let fault = fault_text(alloc, &known.module, &known.info, unaccepted)?;
     let place = listed_place(unaccepted.item);
+    let told = JsonPlace(unaccepted.item);
+    let fault = fault_text(alloc, &known.module, &known.info, unaccepted)?;
     let listing = explain(alloc, &known.module, &known.info, &place, fault.as_str())?;
-    let place = JsonPlace(unaccepted.item);
-    not_written(format!(in alloc; "not accepted: {place}: {fault}\n\n{listing}"))
+    not_written(format!(in alloc; "not accepted: {told}: {fault}\n\n{listing}"))
 }
 
 fn not_written(text: Result<String, AllocError>) -> Result<Explanation, AllocError> {

@@ -168,28 +168,24 @@ fn tell_known(
 ) -> Result<(), AllocError> {
     match write_in(alloc, style, known) {
         Ok(written) => tell_written(alloc, written, &known.module, members),
-        Err(unwritten) => tell_unwritten(alloc, known, unwritten, members),
+        Err(Unwritten::NotAccepted(unaccepted)) => {
+            tell_unaccepted(alloc, known, unaccepted, members)
+        }
+        Err(Unwritten::Memory(error)) => Err(error),
+        Err(Unwritten::TooDeep(nested)) => tell_limited(alloc, known, nested, members),
+        Err(Unwritten::TooLong) => tell_limited(alloc, known, Unwritten::TooLong, members),
     }
 }
 
-fn tell_unwritten(
+/// Tells that the module is past a limit: at no place, and with no text in front of it.
+fn tell_limited(
     alloc: Global,
     known: &Known,
-    unwritten: Unwritten,
+    reason: impl Display + Drop,
     members: &mut Members,
 ) -> Result<(), AllocError> {
-    match unwritten {
-        Unwritten::NotAccepted(unaccepted) => tell_unaccepted(alloc, known, unaccepted, members),
-        Unwritten::Memory(error) => Err(error),
-        reason => tell_refused(
-            alloc,
-            reason,
-            None,
-            &known.module,
-            String::new(alloc),
-            members,
-        ),
-    }
+    let text = String::new(alloc);
+    tell_refused(alloc, reason, None, &known.module, text, members)
 }
 
 fn tell_written(

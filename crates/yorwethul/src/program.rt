@@ -236,8 +236,12 @@ fn print_written<O: Write, E: Write>(
 
 /// Tells what the module is refused for, where that stands, and the label of the function there.
 fn refuse_at<E: Write>(refusal: Refusal, module: &Module, err: &mut E) -> u8 {
-    let told = JsonRefusal(refusal);
-    match label_at(module, refusal.place) {
+    let label = label_at(module, refusal.place);
+    refuse_in(JsonRefusal(refusal), label, err)
+}
+
+fn refuse_in<E: Write>(told: JsonRefusal, label: Option<&str>, err: &mut E) -> u8 {
+    match label {
         Some(label) => refuse(format_args!("{told}, in {label:?}"), err),
         None => refuse(told, err),
     }
