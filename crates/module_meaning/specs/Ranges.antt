@@ -1,7 +1,7 @@
 -- Whether all that a module and what is known of it name is there, and stands where it may be
 -- named: handles, `Emit` ranges and argument numbers lie in their arenas and lists; an expression's
 -- operands and a type's parts stand before it, and a callee before its caller; a global expression
--- names no argument and no local, and stands behind the initialiser of each constant and override
+-- names no argument and no local, and stands after the initialiser of each constant and override
 -- that it names; and each number is one of its type: a literal's value, and those of Numbers.
 --
 -- Throughout, m is a module, t is a type, h a handle, here the handle of what is looked at, e an

@@ -119,7 +119,7 @@ label_reads (label.I32 (negsuc n)) = refl
 label_reads (label.U32 n) = refl
 label_reads label.Default = refl
 
--- a label behind others
+-- a label after others
 labels_with : (labels : List tree.Label) (value : SwitchValue) → map label_read (labels ++ label_form value ∷ []) ≡ map label_read labels ++ label_shape value ∷ []
 labels_with labels value =
     map-append label_read labels (label_form value ∷ [])

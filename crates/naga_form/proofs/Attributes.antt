@@ -50,7 +50,7 @@ use Rattle.naga_form.specs.Attributes.{is_perspective, incoming_attributes, memb
 use Rattle.naga_form.specs.Attributes.{size_attributes, stage_attributes}
 
 -- ---- locations
--- what is told behind a number
+-- what is told after a number
 abbrev location_attributes : (source : Option ℕ) → (perspective center : Bool) → (i s : List ℕ) → (per_primitive : Bool) → List Attribute
 location_attributes source perspective center i s per_primitive =
     attribute_of (Numbered BlendSource) source ++

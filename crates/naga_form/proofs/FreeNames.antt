@@ -1,5 +1,5 @@
 -- Names that stand free of every word of a program of shapes: each begins with the number 1, with
--- which no word of an operator, of a request or of a type begins, and behind it are the kind of the
+-- which no word of an operator, of a request or of a type begins, and after it are the kind of the
 -- item and its number. What is proved of a module's run under some names holds under these, and
 -- what is said of the run alone holds whatever the names of the module's text are.
 use Rattle.std.proofs.Common.{◌≡◌, ◌≢◌, ℕ, ◌<◌, Bool, true, false, List, [], ◌∷◌, length, refl, sym, ap, ◌∙◌}
@@ -32,7 +32,7 @@ free_names asks = record {
   vocabulary = record { is_request = asks; is_operator = λ word. true };
 }
 
--- the names in a function behind so many others
+-- the names in a function after so many others
 abbrev pub free_within : (asks : Bytes → Bool) → (earlier : ℕ) → Names
 free_within asks earlier = record {
   outer = free_names asks;
@@ -47,7 +47,7 @@ free_within asks earlier = record {
 abbrev pub freely_named : (asks : Bytes → Bool) → (earlier : ℕ) → Function → Naming
 freely_named asks earlier f = record { function = f; names = free_within asks earlier }
 
--- functions, each behind those that follow in the list
+-- functions, each after those that follow in the list
 abbrev pub free_naming : (asks : Bytes → Bool) → List Function → List Naming
 free_naming asks [] = []
 free_naming asks (f ∷ fs) = freely_named asks (length fs) f ∷ free_naming asks fs

@@ -63,7 +63,7 @@ pub bits_free : (word : List ℕ) → operates_freely (with_type (codes "bitcast
 unfolding is_request is_built_in is_builtin builtin_words
 bits_free word = refl
 
--- what stands for what has no form: a blank, and behind it no blank
+-- what stands for what has no form: a blank, and after it no blank
 pub formless_free : (what : Formless) → formless_asks what ≡ false →
     operates_freely (run_word (WithoutForm what)) ≡ true
 unfolding is_request is_built_in is_builtin builtin_words

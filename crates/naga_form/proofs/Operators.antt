@@ -265,7 +265,7 @@ module _ (operand : ℕ → PlainForm) (like : ℕ → runs.Plain) where
   operator_read n type op spelled hs same =
       ap runs.AsValue (called_read type op spelled hs same)
 
-  -- no constants behind the operands
+  -- no constants after the operands
   none_behind : (hs : List ℕ) → runs.value_forms like hs ≡ runs.value_forms_then like hs no_more
   none_behind [] = refl
   none_behind (h ∷ hs) = ap (more (runs.value_form (like h))) (none_behind hs)

@@ -191,7 +191,7 @@ module _ (flags : WriterFlags) (m : Module) (info : ModuleInfo) (g : ℕ) (f : i
       after_shape_is k (simple_shape d.context st) fit s well (subst (HasRoom k) (labels_given st) room)
   after_is k _ fit s well room = well
 
-  -- behind a statement, and behind a block
+  -- after a statement, and after a block
   room_behind : (k : ℕ) (st : StatementTree) (b : BlockTree) → HasRoom k (labels_in f st ++ block_labels f b) →
       HasRoom (named_by own.function (statement_shape d.context st) k) (block_labels f b)
   room_behind k st b room = room_rest k (named_by own.function (statement_shape d.context st) k) (labels_in f st) (block_labels f b) room (named_by_is m info f es st k)

@@ -58,7 +58,7 @@ head_alone (b ∷ bytes) e =
     ap (λ x. if x then [] else b ∷ head_word bytes) (word_byte_goes_on b parts.0) ∙ ap (λ bs. b ∷ bs) (head_alone bytes parts.1)
 
 -- ---- no other operator's word is one of these
--- a word with a `<` behind it
+-- a word with a `<` after it
 abbrev opens : List ℕ → Bool
 opens w = is_word_text (head_word w) && list_any (nat_eq 60) w
 
@@ -182,7 +182,7 @@ transposed_opens w = refl
 spelling_is_none : (w : List ℕ) → SpellsAType w → operator_of w ≡ None
 spelling_is_none w is = ap operator_of (sym is.1.1) ∙ type_is_none is.0 is.1.0
 
--- what no text has holds a blank and a number that is no letter's: at its start, or behind the word
+-- what no text has holds a blank and a number that is no letter's: at its start, or after the word
 -- that loads a matrix
 abbrev is_formless_at : (place : ℕ) → List ℕ → Bool
 is_formless_at place w = nat_eq (get_or w place 0) 32 && nat_lt (get_or w (suc place) 4) 4

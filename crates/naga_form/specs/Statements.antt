@@ -126,7 +126,7 @@ label_form (label.I32 (negsuc n)) = SignedLabel true (suc n)
 label_form (label.U32 n) = UnsignedLabel n
 label_form label.Default = DefaultLabel
 
--- the labels of a group: these, and behind them its own
+-- the labels of a group: these, and after them its own
 abbrev pub labels_form : List Label → Label → Labels
 labels_form [] own = LastLabel own
 labels_form (l ∷ ls) own = MoreLabels l (labels_form ls own)

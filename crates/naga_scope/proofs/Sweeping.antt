@@ -55,7 +55,7 @@ from_there h j le = by (cases_order j h)
 
 -- ---- the sweep
 module _ (expression_has_form : Expression → Bool) (es : List Expression) (roots : List ℕ) (first : List Bool) where
-  -- Behind this handle, what is marked has a form and its operands are marked. What is marked is
+  -- After this handle, what is marked has a form and its operands are marked. What is marked is
   -- written, and what was is.
   pub record Swept (marks : List Bool) (end : ℕ) : Type 0 where
     pub sound : (h : ℕ) → is_marked marks h ≡ true → IsWritten es roots h

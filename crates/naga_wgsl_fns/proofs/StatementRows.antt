@@ -312,7 +312,7 @@ module _ (f : FunctionText) where
   unfolding lets_text
   lets_none k s i index last past = ap (lets_text f k s i) (range_none index last past)
 
-  -- what is in scope behind it, and how many names are given
+  -- what is in scope after it, and how many names are given
   pub emitted_after : (k k1 : ℕ) (s s1 : Handles) (index last handle : ℕ) → index < last → handle ≡ index
       → k1 ≡ named_after (naming f).function handle k → s1 ≡ after_one (naming f) k handle s
       → after_emit (naming f) k (from index (last - index)) s ≡ after_emit (naming f) k1 (from (index + 1) (last - (index + 1))) s1

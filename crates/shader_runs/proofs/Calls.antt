@@ -524,7 +524,7 @@ module _ (p : Module) (n : ModuleNames) (uses : Bytes → WordUse) (uses_fit : U
     abbrev kept : KeptValues
     kept = constants_kept f.function env m
 
-    -- one first value, and those of the variables behind it
+    -- one first value, and those of the variables after it
     first_reached : IsTrue (has_types env.parts f.function.argument_types vs) →
         length vs ≡ argument_count f.function → (i : ℕ) (o : Option ℕ) →
         IsTrue (usable_if (before_local f.function i) (at_start f.function) o) →

@@ -73,7 +73,7 @@ module _ (calls : ℕ → List Value → Course) where
       go rest (BrokeWith s) e = tt
       go rest (ReturnedWith v) e = tt
 
-  -- a process with at most n turns of each loop, behind any events
+  -- a process with at most n turns of each loop, after any events
   module _ (n : ℕ) where
     abbrev Enters : Process → Type 0
     Enters p = (t : List Event) → Entered (course n p) t

@@ -1,4 +1,4 @@
--- What a statement's lines leave behind them: whether there is a `continue`, how many `let`s, and
+-- What a statement's lines leave after them: whether there is a `continue`, how many `let`s, and
 -- the names in scope.
 use Rattle.std.proofs.Common.{◌≡◌, ℕ, suc, Bool, true, false, cond, ◌||◌, List, [], ◌∷◌, ◌++◌}
 use Rattle.std.proofs.Common.{Option, Some, None, refl, sym, ap, ◌∙◌}
@@ -59,7 +59,7 @@ module _ (f : Naming) where
 
 module _ (f : Naming) where
   -- ---- names
-  -- behind an emitted handle, several, a result, a statement
+  -- after an emitted handle, several, a result, a statement
   abbrev pub names_after : (k l h : ℕ) → Lookup → Lookup
   names_after k l h names = cond (binds f.function h) (bind names (bound_name f k h) (Some (LetTarget l))) names
 

@@ -1,6 +1,6 @@
 -- One world for all pasts, all starts and all bounds on loop turns: it goes through the history from
 -- the newest entry back, and answers as the first run would want it that asks here and began with
--- that entry, behind what stood before it.
+-- that entry, after what stood before it.
 use Rattle.std.proofs.Common.{◌≡◌, ℕ, suc, ◌+◌, ◌<◌, ◌≤◌, ◌⊎◌, inl, inr, List, [], ◌∷◌, length}
 use Rattle.std.proofs.Common.{Option, Some, None, refl, sym, ap, ◌∙◌, subst, arith}
 use Rattle.std.specs.Prelude.{IsTrue, false}
@@ -39,11 +39,11 @@ answer_of o = option_map_or default_value o (Truth false)
 
 -- under these values of the constants and this meaning
 module _ (env : Environment) (m : Meaning) (functions : List Function) where
-  -- a call with as many turns as it takes to come to the event behind the first i
+  -- a call with as many turns as it takes to come to the event after the first i
   abbrev call_to : ℕ → ℕ → List Value → Course
   call_to i g vs = call_course env m functions (suc i) g vs
 
-  -- the type that is wanted behind i events
+  -- the type that is wanted after i events
   abbrev wanted : ℕ → List Event → Option ValueType
   wanted i [] = None
   wanted i (Entry g vs firsts ∷ t) = or_else (asked (call_to i g vs) t i) (wanted i t)
@@ -145,7 +145,7 @@ right_keeps : (q : ReachedOrHalted Pause) → HasNoMistake q → KeepsTypes (cal
 right_keeps (Halts Mistyped e) h = absurd h
 right_keeps _ h = tt
 
--- a function of a module, behind a past and with these arguments
+-- a function of a module, after a past and with these arguments
 module _ (p : Module) (n : ModuleNames) (fs : List Naming) (fits : ModuleFits p n fs)
     (settings : Settings) (fit : SettingsFit p settings) (m : Meaning) (typed : IsTyped p m) (g : ℕ)
     (f : Function) (there : function_numbered p.functions g ≡ Some f) (vs : List Value)
@@ -201,7 +201,7 @@ module _ (p : Module) (n : ModuleNames) (fs : List Naming) (fits : ModuleFits p 
       go (inl e) = inl (sym (as_many world j fewer) ∙ e ∙ as_many world k right)
       go (inr l) = inr (omega (arith, l, as_many world j fewer))
 
-  -- what is asked behind i events is asked with i + 1 turns
+  -- what is asked after i events is asked with i + 1 turns
   asked_in_time : (j : ℕ) {u : List Event} {k : ValueType} → AsksAt (call j) past u k → AsksAt (call (suc (length u))) past u k
   asked_in_time j {u} {k} a = go (cases_lt j (suc (length u)))
     where

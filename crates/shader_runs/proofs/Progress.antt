@@ -529,7 +529,7 @@ module _ (p : Module) (c : Call) (n : Names) (sound : Sound p c) (bound : ℕ) w
       (λ place. used_proceeds c.environment.parts (handle_type c.function v)
       (used_value c kept v) t _ (uses p c n sound s kept y v z) (λ value i. done y))
 
-  -- what holds behind a block
+  -- what holds after a block
   block_proceeds : (s s1 : Handles) (breaks continues held : Bool) → Extends s s1 → (o : Outcome KeptValues) → Body s s1 breaks continues held o → Line s s breaks continues held o
   block_proceeds s s1 breaks continues held x o b =
       weaker (λ k y. typed_less c s s1 k x y) (λ k q. (typed_less c s s1 k x q.0, q.1, q.2)) (λ k b. b) b

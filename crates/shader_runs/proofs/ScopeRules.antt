@@ -345,7 +345,7 @@ module _ (f : Function) (h : ℕ) (at : Point) (s : Handles) (t : Tracks f at s)
   abbrev Usable : Bool
   Usable = usable_all f s (operands_at f h)
 
-  -- behind an Emit that gives nothing, or the handle
+  -- after an Emit that gives nothing, or the handle
   abbrev WithOne : Bool → Point
   WithOne c =
       record { visible = cond c at.visible (Emitted h ∷ at.visible); passed = cond c at.passed (Emitted h ∷ at.passed) }
@@ -423,7 +423,7 @@ result_rule : (f : Function) (at : Point) (s : Handles) (r : Option ℕ) → Tra
 result_rule f at s None t = (λ i. tt, λ d. refl)
 result_rule f at s (Some h) t = new_rule f at s h t
 
--- behind an Emit
+-- after an Emit
 abbrev behind_each : Function → List ℕ → Point → Point
 behind_each f hs at = record { visible = with_emitted f hs at.visible; passed = with_emitted f hs at.passed }
 
@@ -440,7 +440,7 @@ tracks_emit f k (h ∷ hs) at s t i =
     let t1 = tracks_emitted f.function h at s t kind (bound_name f k h) in
     tracks_emit f k1 hs (behind_one f.function h at) s1 t1 (and_right first rest i)
 
--- behind a statement
+-- after a statement
 pub tracks_after : (f : Naming) (k : ℕ) (st : Statement) (at : Point) (s : Handles) → Tracks f.function at s →
     IsTrue (fits f k st s) → Tracks f.function (behind f.function st at) (after f k st s)
 tracks_after f k (Emit first count) at s t i = tracks_emit f k (from first count) at s t i

@@ -1,4 +1,4 @@
--- A text's run with more turns is the run with fewer turns, or that one ran out of turns behind as
+-- A text's run with more turns is the run with fewer turns, or that one ran out of turns after as
 -- many events.
 use Rattle.std.proofs.Common.{◌≡◌, ℕ, zero, suc, ◌+◌, ◌<◌, ◌≤◌, ◌⊎◌, inl, inr, Bool, true, false}
 use Rattle.std.proofs.Common.{cond, nat_eq, List, [], ◌∷◌, length, Option, Some, None, refl, sym}
@@ -64,7 +64,7 @@ reached_ends = record { events = reached_events; out = λ e. Halts OutOfTurns e 
 abbrev pub outcome_ends : {S : Type 0} → Ends (Outcome S)
 outcome_ends = record { events = events_of; out = λ e. Stopped OutOfTurns e }
 
--- both runs from t end alike, or the first is out of turns behind k more events
+-- both runs from t end alike, or the first is out of turns after k more events
 pub data Settles {X : Type 0} (m : Ends X) (k : ℕ) (t : List Event) : X → X → Type 0 where
   same : {q : X} → Later t (m.events q) → Settles m k t q q
   out_of_turns : {e : List Event} {q : X} → k + length t ≤ length e → Settles m k t (m.out e) q

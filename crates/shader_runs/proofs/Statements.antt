@@ -481,7 +481,7 @@ module _ (p : Module) (c : Call) (n : Names) (d : Respond) (facts : Facts p c n 
       (action_answer c a v.0 t) q'
       (responded_written s names kept r a xs (Some h) m.1 m.0 v.0 v.1 v.2 t))
 
-  -- what is to be shown of the cases of a switch, behind waiting labels: entered, or on the way to
+  -- what is to be shown of the cases of a switch, after waiting labels: entered, or on the way to
   -- the label x
   pub record Cases_row (k : ℕ) (cs : Cases) (s : Handles) : Type 0 where
     pub entered : (labels : List Label) → IsFollowed labels cs →

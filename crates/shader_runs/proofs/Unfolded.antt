@@ -33,7 +33,7 @@ use Rattle.shader_runs.specs.ProgramRun.{tree_value}
 use Rattle.shader_runs.proofs.Callees.{body_runs}
 
 -- ---- cases without a fall
--- the statements of a case, and those of the next one behind them where it falls through
+-- the statements of a case, and those of the next one after them where it falls through
 abbrev pub followed : (falls : Bool) → (own next : Statements) → Statements
 followed true own next = then (Block own) (then (Block next) end)
 followed false own next = own

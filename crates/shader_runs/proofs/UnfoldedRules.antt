@@ -71,7 +71,7 @@ mutual
       ∙ counted_once (any_continue b) (any_continue (unfolded_on cs)) (some_case_continues cs)
       (next_continues cs)
 
-  -- what a case falls to is among the cases behind it
+  -- what a case falls to is among the cases after it
   next_continues : (cs : Cases) →
       (any_continue (unfolded_on cs) || some_case_continues cs) ≡ some_case_continues cs
   next_continues no_case = refl
@@ -138,7 +138,7 @@ module _ (f : Function) (body : Statements) where
   emitted_alike (h ∷ hs) gs =
       ap (with_emitted other hs) (one_alike h gs) ∙ emitted_alike hs (with_one f h gs)
 
-  -- behind a statement, unfolded or not
+  -- after a statement, unfolded or not
   statement_gives : (st : Statement) (gs : List IntroducedHandle) →
       with_statement other (unfolded st) gs ≡ with_statement f st gs
   statement_gives (Emit first count) gs = emitted_alike (from first count) gs

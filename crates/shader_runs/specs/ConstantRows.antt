@@ -68,7 +68,7 @@ pair_initialiser =
     (constant (NamedConstant 1) (constant (NamedConstant 2) no_constant))
 
 -- the constant P; the constant N, which P names and which
--- is declared behind it; the override m; a variable v
+-- is declared after it; the override m; a variable v
 abbrev pub module_of : ConstantTree → Module
 module_of i =
     record {

@@ -1,6 +1,6 @@
 -- The abstract text that is written for a module.
 --
--- Throughout, f is a function with its names, n are names, s the handles in scope (s1 those behind
+-- Throughout, f is a function with its names, n are names, s the handles in scope (s1 those after
 -- a part), k is how many names have been given, h a handle, e an expression or a
 -- constant tree, st a statement, b a body, i an index, j a short circuit, w a word, x a name, a
 -- selector, a variable or a handle, and l a label or a local.
@@ -50,7 +50,7 @@ abbrev pub value_forms : (ℕ → Plain) → List ℕ → Trees
 value_forms operand [] = no_more
 value_forms operand (x ∷ xs) = more (value_form (operand x)) (value_forms operand xs)
 
--- operands in their value forms, and what stands behind them
+-- operands in their value forms, and what stands after them
 abbrev pub value_forms_then : (ℕ → Plain) → List ℕ → Trees → Trees
 value_forms_then operand [] tail = tail
 value_forms_then operand (x ∷ xs) tail =

@@ -345,7 +345,7 @@ AreDistinct p f =
     (a b : NameKey) → IsName p f.function a → IsName p f.function b →
     name_at f.names a ≡ name_at f.names b → a ≡ b
 
--- one function of a module, behind these
+-- one function of a module, after these
 pub record FunctionFits (p : Module) (n : ModuleNames) (callees : List Function)
     (f : Naming) : Type 0 where
   pub outer : f.names.outer ≡ n
@@ -359,7 +359,7 @@ pub record FunctionFits (p : Module) (n : ModuleNames) (callees : List Function)
   pub distinct : AreDistinct p f
   pub scope : IsTrue (fits_function f)
 
--- each function behind those before it
+-- each function after those before it
 abbrev pub AllFit : Module → ModuleNames → List Naming → Type 0
 AllFit p n [] = Unit {0}
 AllFit p n (f ∷ fs) = FunctionFits p n (functions_of fs) f × AllFit p n fs

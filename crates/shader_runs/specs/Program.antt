@@ -60,7 +60,7 @@ pub data Label : Type 0 where
   Numbered : ℤ → Label
   Default : Label
 
--- what goes on elsewhere than behind the statement: behind the loop or the switch, with the next turn
+-- what goes on elsewhere than after the statement: after the loop or the switch, with the next turn
 -- of the loop, in the caller, which may be given an A, or nowhere
 pub data Jump (A : Type 0) : Type 0 where
   Break : Jump A
@@ -127,7 +127,7 @@ local_count f = length f.first_values
 abbrev pub local_pointer : Function → ℕ → Bytes
 local_pointer f i = get_or f.local_pointers i []
 
--- the function of this number, that of the functions behind it
+-- the function of this number, that of the functions after it
 abbrev pub function_numbered : List Function → ℕ → Option Function
 function_numbered [] g = None
 function_numbered (f ∷ fs) g = cond (nat_eq g (length fs)) (Some f) (function_numbered fs g)
@@ -234,7 +234,7 @@ variable_type (AtPlace pointer) = PointerType pointer
 abbrev pub variable_shape_at : List VariableShape → ℕ → VariableShape
 variable_shape_at vs i = get_or vs i (Held BooleanType)
 
--- a module: the types of its named constants and, behind them, of its
+-- a module: the types of its named constants and, after them, of its
 -- overrides; the initialisers of the named constants; its variables;
 -- what its types are made of; and its functions, then its entry
 -- points, in their order, the last one first

@@ -211,7 +211,7 @@ after_load parts k w h None kept t = Done (update kept h None) t
 after_load parts k w h (Some v) kept t =
     or_stuck (place_in v) t (λ p. keep_typed parts k h (w t (Read p)) kept (Read p ∷ t))
 
--- the operands' values, and those of the constants behind them
+-- the operands' values, and those of the constants after them
 abbrev pub joined_values : Option (List Value) → Option (List Value) → Option (List Value)
 joined_values None us = None
 joined_values (Some vs) None = None
@@ -407,7 +407,7 @@ abbrev pub first_used_all : Call → KeptValues → List (Option ℕ) → Option
 first_used_all c kept [] = Some []
 first_used_all c kept (o ∷ os) = with_first (first_used c kept o) (first_used_all c kept os)
 
--- a body's run behind the entry, with the first values of the locals
+-- a body's run after the entry, with the first values of the locals
 abbrev pub run_from_entry : ℕ → List Value → Option (List (Option Value)) → List Event →
     (List Event → ReachedOrHalted (Option Value)) → ReachedOrHalted (Option Value)
 run_from_entry g vs None t body = Halts Stuck t
@@ -427,7 +427,7 @@ run_if_arguments_fit true a t = a
 run_if_arguments_fit false a t = Halts Stuck t
 
 -- a call of one of these functions, the last one
--- first: its number is that of the functions behind it
+-- first: its number is that of the functions after it
 abbrev pub run_call : Environment → World → Meaning → ℕ → List Function → ℕ → List Value →
     List Event → ReachedOrHalted (Option Value)
 run_call env w m n [] g vs t = Halts Stuck t

@@ -126,7 +126,7 @@ sample_example =
       functions = named_function (codes "shade") sample_arguments [] sample_function ∷ [];
     }
 
--- its text, with these operands behind the layer
+-- its text, with these operands after the layer
 abbrev pub sample_text : List Tree → List TextFunction
 sample_text behind =
     let image = Name (codes "image") in
@@ -140,7 +140,7 @@ sample_text behind =
 abbrev pub sample_values : List Value
 sample_values = coordinate ∷ number 1 ∷ []
 
--- its events, with these operands behind the layer
+-- its events, with these operands after the layer
 abbrev pub sampling_events : List Value → List Event
 sampling_events behind =
     let image = Opaque layers_type 400 in
@@ -311,7 +311,7 @@ ray_type = codes "RayDesc"
 abbrev pub ballot_type : ValueType
 ballot_type = OtherType (codes "vec4<u32>")
 
--- an argument is stored for the work group, read by all behind all barriers, and is the payload of
+-- an argument is stored for the work group, read by all after all barriers, and is the payload of
 -- a ray; then the subgroup votes
 abbrev pub together_function : Function
 together_function =
@@ -365,7 +365,7 @@ together_text =
     ∷ let_own 6 (call_of (codes "subgroupBallot") [])
     ∷ return_of (named_by 6) ∷ [])) ∷ []
 
--- each barrier is an event, and what is read behind them is what was stored
+-- each barrier is an event, and what is read after them is what was stored
 abbrev pub TogetherRow : Type 0
 TogetherRow =
     let cell = Rooted (GlobalRoot cell_type 0) in

@@ -30,7 +30,7 @@ abbrev mutual
   any_break (then s ss) = holds_break s || any_break ss
 
 abbrev mutual
-  -- a run may come to what stands behind the statement
+  -- a run may come to what stands after the statement
   pub may_end : Statement → Bool
   may_end (Block b) = may_end_all b
   may_end (If c a b) = may_end_all a || may_end_all b

@@ -130,7 +130,7 @@ late_text =
     ∷ Assign (Name a_name) (digits 2)
     ∷ return_of (sum_of (named_by 2) (digits 1)) ∷ []))
 
--- [late]: the sum is written behind the store
+-- [late]: the sum is written after the store
 abbrev pub LateRow : Type 0
 LateRow =
     let events = Write a_place (number 2) ∷ Read a_place ∷ entered_with_one in
@@ -168,7 +168,7 @@ inline_text =
     ∷ let_own 3 (Name a_name)
     ∷ return_of (named_by 3) ∷ []))
 
--- what the sum's store and the read are behind the entry
+-- what the sum's store and the read are after the entry
 abbrev pub sum_events : List Event
 sum_events = Read a_place ∷ Write a_place (number 8) ∷ entered_with (number 4 ∷ []) (None ∷ [])
 
@@ -563,7 +563,7 @@ select_text reject accept =
 abbrev pub select_values : List Value
 select_values = Truth true ∷ number 1 ∷ number 2 ∷ []
 
--- [select]: the operand that is taken where the condition holds stands behind the other
+-- [select]: the operand that is taken where the condition holds stands after the other
 abbrev pub SelectRow : Type 0
 SelectRow =
     let naming = only (codes "sel") (c_name ∷ codes "a" ∷ codes "b" ∷ []) [] select_function in
@@ -584,7 +584,7 @@ continue_function =
     ∷ row (Operator (codes "+") (1 ∷ 1 ∷ [])) i32 ∷ []) (
     Loop body continuing (Some 0) ∷ [])
 
--- a sum of a loop's body is used behind the loop
+-- a sum of a loop's body is used after the loop
 abbrev pub after_loop_function : Function
 after_loop_function =
     let body = statements (Emit 3 1 ∷ Store 2 3 ∷ []) in
@@ -612,11 +612,11 @@ pub record AreRefused : Type 0 where
 
 -- ---- what other writers would give for these functions, and what it does
 
--- stuck behind the entry
+-- stuck after the entry
 abbrev pub stuck_behind_entry : List Value → ReachedOrHalted (Option Value)
 stuck_behind_entry vs = Halts Stuck (entered_with vs [])
 
--- what [store] reads is written out behind the store
+-- what [store] reads is written out after the store
 abbrev pub load_inlined_text : TextFunction
 load_inlined_text =
     text_of (codes "g") [] (a_first ∷ []) (lines (
@@ -643,7 +643,7 @@ copied_in_sibling_text =
     let_own 2 (named_by 2)
     ∷ return_of (named_by 2) ∷ []))
 
--- a name of a loop's body is used behind the loop
+-- a name of a loop's body is used after the loop
 abbrev pub after_loop_text : TextFunction
 after_loop_text =
     let body = lines (let_own 3 x_plus_x ∷ []) in
@@ -711,8 +711,8 @@ unknown_line = perform (codes "frobnicate") []
 abbrev pub operator_line : Line
 operator_line = perform (codes "select") (digits 1 ∷ digits 2 ∷ [])
 
--- the module and its own text return 1. Behind a line that calls an unknown word, or one that wants
--- a value of it, a text is stuck. So it is behind a line that performs an operator
+-- the module and its own text return 1. After a line that calls an unknown word, or one that wants
+-- a value of it, a text is stuck. So it is after a line that performs an operator
 pub record UnknownWordsAreStuck : Type 0 where
   pub written :
       IsShownAlone (only (codes "f") [] [] one_function) (one_text []) []

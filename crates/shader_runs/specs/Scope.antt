@@ -1,7 +1,7 @@
 -- What is bound and what is in scope at each point of a function, and the check of both.
 --
 -- Throughout, f is a function with its names, h a handle, s are the handles in scope (s1 those
--- behind a part), k is how many names have been given, e an expression, st a statement, b a body, i
+-- after a part), k is how many names have been given, e an expression, st a statement, b a body, i
 -- an index, x a name or a handle, u tells whether operands are usable.
 use Rattle.std.specs.Prelude.{ℕ, zero, suc, Bool, true, false, cond, not, nat_lt, List, [], ◌∷◌}
 use Rattle.std.specs.Prelude.{take, length, Option, Some, None, ◌&&◌, ◌||◌}
@@ -49,7 +49,7 @@ pub record Naming : Type 0 where
   pub function : Function
   pub names : Names
 
--- an emitted handle's name, behind k given ones
+-- an emitted handle's name, after k given ones
 abbrev pub bound_name : Naming → ℕ → ℕ → Bytes
 bound_name f k h = cond (is_named f.function h) (f.names.named k) (f.names.numbered h)
 
@@ -199,7 +199,7 @@ forgotten_one (Bound x) now = Bound x
 abbrev pub forgotten_handles : Handles → Handles → Handles
 forgotten_handles s now h = forgotten_one (s h) (now h)
 
--- names are forgotten behind a statement that holds a `continue`
+-- names are forgotten after a statement that holds a `continue`
 abbrev pub forgotten_if : Bool → Handles → Handles → Handles
 forgotten_if true s now = forgotten_handles s now
 forgotten_if false s now = now

@@ -76,7 +76,7 @@ abbrev pub truth_of : ShortCircuit → Bool → Bool → Bool
 truth_of ShortCircuitAnd c b = c && b
 truth_of ShortCircuitOr c b = c || b
 
--- what is returned behind these events
+-- what is returned after these events
 abbrev pub logical_end : ShortCircuit → Bool → Bool → List Event → CallEnd
 logical_end j c b events =
     Gives (Some (Truth (truth_of j c b)))
@@ -162,7 +162,7 @@ JumpsRow =
 
 -- ---- a block
 
--- a sum has its name in a block, and another one behind it; the local starts with its type's zero
+-- a sum has its name in a block, and another one after it; the local starts with its type's zero
 abbrev pub block_function : Function
 block_function =
     let inner = Emit 3 1 ∷ Store 2 3 ∷ [] in
@@ -183,7 +183,7 @@ block_example =
     functions_alone (
     named_function (codes "nest") (codes "x" ∷ []) (codes "a" ∷ []) block_function ∷ [])
 
--- its text, with these lines behind the block
+-- its text, with these lines after the block
 abbrev pub block_text : List Line → List TextFunction
 block_text behind =
     let a = Name (codes "a") in
@@ -194,7 +194,7 @@ block_text behind =
     text_of (codes "nest") (codes "x" ∷ []) variables (lines (
     Braces (lines inner) ∷ (behind ++ let_own 4 a ∷ product ∷ []))) ∷ []
 
--- its events behind the block
+-- its events after the block
 abbrev pub block_events : List Event
 block_events =
     Read a_place ∷ Write a_place (number 6) ∷ start_events 0 (number 3 ∷ []) (Some (number 0) ∷ [])
@@ -376,7 +376,7 @@ silent_text =
     let loop = LoopOf (lines (skip ∷ [])) last None in
     text_of (codes "wait") (codes "c" ∷ []) [] (lines (loop ∷ [])) ∷ []
 
--- whatever the bound is, it is out of turns, behind the entry alone
+-- whatever the bound is, it is out of turns, after the entry alone
 abbrev pub SilentRow : Type 0
 SilentRow =
     (c : Bool) (n : ℕ) →
@@ -478,7 +478,7 @@ pub record StatementsAreDistinguished : Type 0 where
       follow_example sample_example (sample_text (LiteralOf level_zero ∷ [])) 0 3 sample_values
       ≡ Gives (Some (texel 400)) (sampling_events (level_zero ∷ []))
   pub read_on_the_right : ReadOnTheRight
-  -- a name of a block is used behind it
+  -- a name of a block is used after it
   pub name_behind_block :
       follow_example block_example (block_text []) 0 3 (number 3 ∷ []) ≡ Halts Stuck block_events
   -- a pointer that is passed on by its address

@@ -288,11 +288,11 @@ with_parameters [] vs names = names
 with_parameters (x ∷ xs) [] names = names
 with_parameters (x ∷ xs) (v ∷ vs) names = bind (with_parameters xs vs names) x (Some (IsValue v))
 
--- behind the declaration of a function's variable its name stands for its place
+-- after the declaration of a function's variable its name stands for its place
 abbrev pub with_variable : Variable → (entries index : ℕ) → Scope → Scope
 with_variable x k i names = bind names x.name (Some (IsPlace (Rooted (LocalRoot x.pointer k i))))
 
--- behind the declarations of a function's variables
+-- after the declarations of a function's variables
 abbrev pub with_variables : List Variable → (entries index : ℕ) → Scope → Scope
 with_variables [] k i names = names
 with_variables (x ∷ xs) k i names = with_variables xs k (suc i) (with_variable x k i names)
@@ -328,7 +328,7 @@ is_operation Operates = true
 is_operation _ = false
 
 -- what a word does that is the name of no function which stands before.
--- A function behind can't be called, nor a word that means nothing
+-- A function after can't be called, nor a word that means nothing
 abbrev pub respond_by_use :
     WordUse → World → Meaning → Bytes → List Value → List Event → ReachedOrHalted (Option Value)
 respond_by_use NamesFunction w m word vs t = Halts Stuck t
@@ -361,7 +361,7 @@ abbrev pub first_followed :
 first_followed (Halts x t) rest = Halts x t
 first_followed (Gives v t) rest = put_first (Some v) (rest t)
 
--- a variable's first value, if it has one, and those of the variables behind it
+-- a variable's first value, if it has one, and those of the variables after it
 abbrev pub first_then : Words → Option Tree → Scope → List Event →
     (List Event → ReachedOrHalted (List (Option Value))) → ReachedOrHalted (List (Option Value))
 first_then l None names t rest = put_first None (rest t)

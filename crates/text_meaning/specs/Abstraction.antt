@@ -143,7 +143,7 @@ function_read f =
 abbrev pub constant_read : tree_declarations.NamedConstant → TextConstant
 constant_read c = record { name = c.name; initialiser = expression_read c.value }
 
--- a text's functions, and behind them those of its entry points
+-- a text's functions, and after them those of its entry points
 abbrev pub functions_of : tree_declarations.Program → List tree_functions.Function
 functions_of p = p.functions ++ map (λ e. e.function) p.entry_points
 
