@@ -316,16 +316,29 @@ const OPERAND_FAULT: &str = "not accepted: module.functions[0].expressions[1]: \
     names expressions[1], wanted one before expressions[1]\n";
 
 const OPERAND_LISTING: &str = "\
-not accepted: module.functions[0].expressions[1]: an operand does not stand before the expression
+not accepted: module.functions[0].expressions[1]: an operand does not stand before the expression: \
+    names expressions[1], wanted one before expressions[1]
 
 function 0 \"double\"(\"x\": i32) -> i32
   expressions
      0  FunctionArgument 0 \"x\"                        i32
      1  Binary Add left: [1], right: [0]              i32
-        ^ an operand does not stand before the expression
+        ^ an operand does not stand before the expression: \
+    names expressions[1], wanted one before expressions[1]
   statements
      0  Emit 1..2
      1  Return value: [1]
+";
+
+const LITERAL_LISTING: &str = "\
+refused: float literal: module.functions[0].expressions[0], in \"half\"
+
+function 0 \"half\"() -> f32
+  expressions
+     0  Literal F32(1056964608)                       f32
+        ^ float literal
+  statements
+     0  Return value: [0]
 ";
 
 /// The style of texts by default.
@@ -453,7 +466,7 @@ const MODULES: &[(&str, Task, Style, Told)] = &[
         FLOAT_LITERAL,
         Task::Explain,
         PLAIN,
-        (REFUSED, "refused: float literal\n", ""),
+        (REFUSED, LITERAL_LISTING, ""),
     ),
     (FLOAT_LITERAL, Task::Explain, STANDARD, (0, "written\n", "")),
     (STRUCTS, Task::Check, STANDARD, (0, "accepted\n", "")),
