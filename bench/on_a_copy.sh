@@ -1,5 +1,5 @@
 # Goes to a copy of the namer and what it stands on, with the program of this name above them, and with the
-# libraries that are named behind it. It is read by the scripts beside it, which are run at the top of the
+# libraries that are named after it. It is read by the scripts beside it, which are run at the top of the
 # repository.
 set -e
 name=$1

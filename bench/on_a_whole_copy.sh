@@ -1,5 +1,5 @@
 # Goes to a copy of the libraries, with the proofs that earlier checks kept (some GB), and with the program of this name
-# above them, of the files that are named behind it. The crates that nothing stands on, programs and tests, are left out.
+# above them, of the files that are named after it. The crates that nothing stands on, programs and tests, are left out.
 # It is read by the scripts beside it, which are run at the top of the repository.
 set -e
 name=$1
@@ -9,7 +9,7 @@ copy=$(mktemp -d)
 trap 'rm -rf "$copy"' EXIT
 cp HANDLES "$copy"
 mkdir -p "$copy/crates"
-# a library is what a line names behind its colon
+# a library is what a line names after its colon
 libraries=$(sed 's/#.*//; s/^[^:]*://' crates.txt | tr -s ' ' '\n' | sort -u)
 for library in $libraries; do
     [ -d "crates/$library" ] || continue # it is the kit's

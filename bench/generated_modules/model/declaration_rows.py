@@ -582,7 +582,7 @@ def unaccepted():
     yield whole(overrides=[Override("o", INT, 0)])
     yield whole(constants=[Constant("c", 0, 0)])
     yield whole(variables=[Variable("v", 0, PRIVATE)])
-    # an initialiser behind the name of its item
+    # an initialiser after the name of its item
     yield whole(own=[named("constant", INT, 0), literal(1)], constants=[Constant("c", INT, 1)])
     yield whole(own=[named("override", INT, 0), literal(1)], overrides=[Override("c", INT, 1)])
     yield whole(own=[named("constant", INT, 0)], constants=[Constant("c", INT, 0)])

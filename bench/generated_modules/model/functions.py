@@ -561,7 +561,7 @@ class FunctionMaker:
             self.module.handle_of(f.result)
             f.body.append(returns(h))
             if self.chance(0.02):
-                # what stands behind a return is written all the same
+                # what stands after a return is written all the same
                 self.make_store(len(f.expressions))
         elif self.chance(0.3):
             f.body.append(returns())

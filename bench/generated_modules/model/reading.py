@@ -25,7 +25,7 @@ class TextFunction:
             attributes, rest = read_attributes(rest.removeprefix(" -> "))
             self.result = attributes, read_whole_type(rest)
         self.locals = []
-        # what stands behind the locals is parted from them by an empty line
+        # what stands after the locals is parted from them by an empty line
         while lines and lines[0].startswith("    var "):
             self.locals.append(declared(lines.pop(0).removeprefix("    var ")))
         if self.locals:

@@ -362,7 +362,7 @@ OTHERS = [
     # names that a `continue` skips
     ([given_anew()], "continuing {\n            let _e2 = a;\n", "continuing {\n", False),
     ([folded()], "a = (1i + 1i);", "a = _e3;", False),
-    # a name of a loop behind it
+    # a name of a loop after it
     ([nested_loops()], "    }\n    let _e2 = a;\n", "    }\n", False),
     ([ended()], "case 1, 2", "case 1, 3", False),
     ([ended()], "case 1, 2", "case 2, 1", True),

@@ -27,7 +27,7 @@ def answers_of(module, explicit, is_portable=False):
         standing, own = standing_in(p, names, explicit, is_portable)
         parted = text + "\n" if number else text
         if standing:
-            # whether the line between two entry points stands behind the first one is open
+            # whether the line between two entry points stands after the first one is open
             return False, {names.in_text(t) + refusal(name) for name in standing for t in (text, parted)}
         text = parted + stage_text(p, names) + own
     return True, {names.in_text(text)}

@@ -22,7 +22,7 @@ fn add_tint(alloc: Global, shader: &mut ModuleBuilder) -> Result<(), AllocError>
     let sum = tint.binary(BinaryOperator::Add, colour, weighted, colour_type)?;
     tint.body.emit(weights, sum)?;
     tint.body.store(pointer, sum)?;
-    // emitted behind the store, so that it sees what was stored
+    // emitted after the store, so that it sees what was stored
     let stored = tint.load(pointer, colour_type)?;
     let inverted = tint.unary(UnaryOperator::Negate, stored, colour_type)?;
     tint.body.emit(stored, inverted)?;

@@ -10,7 +10,7 @@ use Rattle.module_meaning.proofs.Fitting.{drop_first}
 use Rattle.naga_acceptance.specs.TextOrder.{case_statements, statements_in, statements_inside}
 use Rattle.fault_details.specs.Shown.{passed}
 
--- goes on behind what was passed
+-- goes on after what was passed
 abbrev pub onward : {X : Type 0} → Result ℕ X → List X → Result ℕ X
 onward (Ok n) xs = passed n xs
 onward (Err x) xs = Err x
@@ -20,7 +20,7 @@ passed_append n [] ys = refl
 passed_append zero (x ∷ xs) ys = refl
 passed_append (suc n) (x ∷ xs) ys = passed_append n xs ys
 
--- the item behind those that are passed is the one of that number
+-- the item after those that are passed is the one of that number
 pub passed_item : {X : Type 0} (n : ℕ) (xs : List X) → result_err (passed n xs) ≡ slice_get xs n
 passed_item n [] = refl
 passed_item zero (x ∷ xs) = refl

@@ -30,7 +30,7 @@ abbrev pub reached : Result ℕ Placed → Result ℕ PlacedStatement
 reached (Ok left) = Ok left
 reached (Err p) = Err (placed p)
 
--- Items are passed, so many: the item behind them, as an error, or else how many are left.
+-- Items are passed, so many: the item after them, as an error, or else how many are left.
 abbrev pub passed : {X : Type 0} → (n : ℕ) → List X → Result ℕ X
 passed n [] = Ok n
 passed zero (x ∷ xs) = Err x

@@ -21,7 +21,7 @@ pub(crate) struct Placed<'a> {
 }
 
 /// Passes so many statements, of this one and those in its blocks: how many are left to pass, or
-/// the statement behind them as an error.
+/// the statement after them as an error.
 #[cycle(statements)]
 #[tactic(auto, using(crate::proofs::Passing::passed_append))]
 fn pass_statement<'a>(

@@ -63,7 +63,7 @@ abbrev down : ℤ → ℕ
 down (pos e) = 0
 down (negsuc e) = suc e
 
--- n * 10 ^ e in digits in front of a point, of which there are some, and behind it
+-- n * 10 ^ e in digits in front of a point, of which there are some, and after it
 pub record IsSplit (n : ℕ) (e : ℤ) (whole fraction : List ℕ) : Type 0 where
   pub some : 0 < length whole
   pub whole_digits : AllDigits 10 whole

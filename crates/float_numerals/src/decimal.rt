@@ -20,7 +20,7 @@ pub(crate) const DOUBLE_INFINITY: u64 = 0x7ff0_0000_0000_0000;
 /// ```
 #[derive(Clone, Copy, Debug, PartialEq, Eq, Hash)]
 pub struct Decimal {
-    /// Whether it stands behind a `-`. So zero has a sign, as it has as a float.
+    /// Whether it stands after a `-`. So zero has a sign, as it has as a float.
     pub negative: bool,
     /// The digits, as one number.
     pub digits: u64,

@@ -66,7 +66,7 @@ text =
 abbrev identifiers : TypeSpecifier → List (Option Item)
 identifiers t = type_items (item_named text) t
 
--- an array of structs whose length is an override's, by its number behind the constant
+-- an array of structs whose length is an override's, by its number after the constant
 of_structs : identifiers (of_two (codes "array") (worked.named_type "S") (worked.named_type "depth")) ≡
     Some (StructItem 0) ∷ Some (ValueItem (ConstantTarget 1)) ∷ []
 of_structs = refl

@@ -21,7 +21,7 @@ use Rattle.module_meaning.specs.FunctionNumbers.{all_functions, all_infos, entry
 use Rattle.module_meaning.specs.FunctionNumbers.{callee_count, function_number}
 use Rattle.module_meaning.specs.FunctionNumbers.{function_type, IsFunctionOf}
 
--- ---- lists one behind another
+-- ---- lists one after another
 -- what stands in a list before another stands in one of both
 pub in_append : {X : Type 0} (xs ys : List X) (i : ℕ) (x : X) → slice_get (xs ++ ys) i ≡ Some x →
     (slice_get xs i ≡ Some x) ⊎ ((j : ℕ) × (i ≡ length xs + j) × (slice_get ys j ≡ Some x))
@@ -50,7 +50,7 @@ behind_left (x ∷ xs) ys j y there =
 
 -- ---- numbers
 module _ (m : Module) where
-  -- the numbers of functions are those of their handles, and entry points come behind them
+  -- the numbers of functions are those of their handles, and entry points come after them
   pub type_of_function : (h : ℕ) → h < length m.functions → function_type m h ≡ item.Function h
   type_of_function h lt =
       ap (λ b. if b then item.Function h else item.EntryPoint (h - length m.functions))
@@ -109,7 +109,7 @@ module _ (m : Module) where
       slice_get (all_functions m) h ≡ Some f
   function_among h f here = in_left m.functions (entry_functions m.entry_points.items) h f here
 
-  -- and that of an entry point behind them
+  -- and that of an entry point after them
   pub entry_point_among : (j : ℕ) (p : EntryPoint) → slice_get m.entry_points.items j ≡ Some p →
       slice_get (all_functions m) (length m.functions + j) ≡ Some p.function
   entry_point_among j p there =

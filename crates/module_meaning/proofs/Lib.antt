@@ -9,6 +9,7 @@ pub mod ExpressionShapes
 mod DeclaredItemExamples
 pub mod Fitting
 pub mod FunctionNumbers
+pub mod StatementRanges
 pub mod InterfaceExamples
 mod LayoutExamples
 mod RangeExamples

@@ -32,7 +32,7 @@ Tell attributes b = stage_binding_read attributes ≡ stage_binding b
 abbrev TellAnother : List Attribute → Option Binding → Type 0
 TellAnother attributes b = stage_binding_read attributes ≢ stage_binding b
 
--- ---- values of the hardware
+-- ---- built-in values
 abbrev position : (invariant : Bool) → Option Binding
 position invariant = Some (binding.BuiltIn (builtin.Position invariant))
 
@@ -100,7 +100,7 @@ flat = refl
 flat_left_out : TellAnother (at_location []) (located (Some interpolation.Flat) None None false)
 flat_left_out = differ (passes (λ l. bytes_eq l.interpolation (codes "perspective"))) _ _ refl refl
 
--- a sampling alone is written behind the interpolation that is meant
+-- a sampling alone is written after the interpolation that is meant
 centroid : Tell (at_location (interpolated_attribute "perspective" "centroid" ∷ [])) (located None (Some sampling.Centroid) None false)
 centroid = refl
 

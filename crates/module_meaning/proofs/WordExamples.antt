@@ -23,7 +23,7 @@ use Rattle.naga_words.specs.Contexts.{writer_context}
 use Rattle.naga_words.specs.Segments.{known_text}
 use Rattle.naga_words.specs.Spelling.{resolution_segments, type_segments}
 use Rattle.shader_runs.specs.Form.{form_module}
-use Rattle.shader_runs.specs.Program.{Emit, Function, Module, NamedConstant, Return, Store}
+use Rattle.shader_runs.specs.Program.{Emit, Function, Module, NamedConstant, Return, Store, Jumps}
 use Rattle.shader_runs.specs.Resolution.{Target, ArgumentTarget, LiteralTarget, PartTarget}
 use Rattle.shader_runs.specs.Resolution.{LetTarget, OperandsEnd, WordTarget, module_targets}
 use Rattle.shader_runs.specs.Resolution.{text_targets}
@@ -155,7 +155,7 @@ module _ (members : Vec StructMember Global) (handles : Vec ℕ Global) where
       of_type (OtherType (codes "__modf_result_f32"))
       (expression.Math math.Modf 1 None None None) ∷
       of_type (OtherType (codes "f32")) (expression.AccessIndex 7 0) ∷ [])
-      (Emit 4 2 ∷ Store 4 5 ∷ Emit 6 3 ∷ Return (Some 8) ∷ [])) {
+      (Emit 4 2 ∷ Store 4 5 ∷ Emit 6 3 ∷ Jumps (Return (Some 8)) ∷ [])) {
         named_expressions = replicate 6 false ++ (true ∷ []);
       }
 

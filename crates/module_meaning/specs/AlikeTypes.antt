@@ -6,7 +6,7 @@
 -- which no accepted module has.
 --
 -- What tells a type is a list of numbers. That of a type with a form has a level, six numbers, for
--- the type itself and behind it those of the type that it is over, where it is over one.
+-- the type itself and after it those of the type that it is over, where it is over one.
 --
 -- Throughout, types are a module's types, f tells the form of the type at a handle, h is a handle,
 -- t a type of the module, it a type by itself, s a scalar, r a type of an expression (a and b are

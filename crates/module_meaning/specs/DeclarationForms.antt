@@ -68,14 +68,14 @@ pub data IsPassed (f : Function) : Binding → Type 0 where
   OfResult : (r : FunctionResult) (b : Binding) → f.result ≡ Some r → r.binding ≡ Some b →
       IsPassed f b
 
--- the entry point with this number, behind the functions, if there is one
+-- the entry point with this number, after the functions, if there is one
 abbrev pub entry_point_numbered : Module → (number : ℕ) → Option EntryPoint
 entry_point_numbered m number =
     if nat_lt number (length m.functions) then None
     else slice_get m.entry_points.items (number - length m.functions)
 
 -- ---- what has a form
--- a location has one, and a value of the hardware where WGSL has a word for it
+-- a location has one, and a built-in value where WGSL has a word for it
 abbrev pub binding_has_form : Binding → Bool
 binding_has_form (BuiltIn value) = is_some (builtin_word value)
 binding_has_form (Location location interpolation sampling blend_src per_primitive) = true

@@ -40,7 +40,7 @@ abbrev pub named_count : List ir_constant.Constant → ℕ
 named_count [] = 0
 named_count (c ∷ cs) = if_there (is_some c.name) + named_count cs
 
--- the named constants are numbered in their order, and behind them the overrides
+-- the named constants are numbered in their order, and after them the overrides
 abbrev pub constant_number : Module → ℕ → ℕ
 constant_number m h = named_count (take h m.constants)
 

@@ -1,5 +1,5 @@
 -- The labels that front ends gave to expressions, in the order in which a text binds these, and
--- the names that are made of labels behind others.
+-- the names that are made of labels after others.
 --
 -- Throughout, f is a function (fs are several), h a handle of one of its expressions (hs are
 -- several), s a statement and b the rest of a block.
@@ -45,7 +45,7 @@ abbrev mutual
   cases_labels f no_cases = []
   cases_labels f (case value body falls cases) = block_labels f body ++ cases_labels f cases
 
--- those of a function, and of functions one behind another
+-- those of a function, and of functions one after another
 abbrev pub expression_labels : Function → List (List ℕ)
 expression_labels f = block_labels f f.body
 
@@ -53,13 +53,13 @@ abbrev pub all_expression_labels : List Function → List (List ℕ)
 all_expression_labels fs = flat_map expression_labels fs
 
 -- ---- names
--- The name of the label with this number among these labels: behind the earlier ones and those of
+-- The name of the label with this number among these labels: after the earlier ones and those of
 -- these that stand in front of it.
 abbrev pub name_of_label : Names → (earlier labels : List (List ℕ)) → (number : ℕ) → List ℕ
 name_of_label start earlier labels number =
     option_map_or (name_after start (earlier ++ take number labels)) (slice_get labels number) []
 
--- at one of these labels, which are named behind the earlier ones, the base is full: it was used so
+-- at one of these labels, which are named after the earlier ones, the base is full: it was used so
 -- often that there is no next name
 pub record SomeLabelIsFull (start : Names) (earlier labels : List (List ℕ)) : Type 0 where
   pub named : List (List ℕ)

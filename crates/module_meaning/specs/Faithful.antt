@@ -42,7 +42,7 @@ pub record HasInterfaceOf (m : Module) (info : ModuleInfo) (flags : WriterFlags)
 
 -- What holds of each run of the function or entry point g of the module and the run of the program
 -- beside it: under all values of overrides and arguments of their types and every typed meaning of
--- operators, in every world, with every bound on loop turns and behind any history. Each side
+-- operators, in every world, with every bound on loop turns and after any history. Each side
 -- computes its named constants by itself. What places are made of is told to both alike: the
 -- structs of the program have the members of the module's, as its interface tells.
 abbrev pub OfEachRunAt : Module → ModuleInfo → Program → (g : ℕ) →

@@ -1,4 +1,4 @@
--- The functions of a module and, behind them, those of its entry points: each has one number, by
+-- The functions of a module and, after them, those of its entry points: each has one number, by
 -- which runs, names and labels know it.
 --
 -- Throughout, m is a module and info what is known of it.

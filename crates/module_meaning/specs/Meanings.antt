@@ -27,7 +27,7 @@ HasTypedMeaning m info = (meaning : Meaning) × IsTyped (module_shape m info) me
 
 -- Under each typed meaning, and all values of overrides and variables of their types, one world
 -- answers by the right types in every run: of each function, from all arguments of its types, with
--- every bound on loop turns and behind any history.
+-- every bound on loop turns and after any history.
 abbrev pub HasTypedWorld : Module → ModuleInfo → Type 0
 HasTypedWorld m info =
     let shape = module_shape m info in
@@ -45,7 +45,7 @@ IsNeverStuck m info program =
 
 -- The same of the module's run alone, whatever is written for it: from all values of overrides and
 -- arguments of their types, under every typed meaning, in every world, with every bound on loop
--- turns and behind any history.
+-- turns and after any history.
 abbrev pub NoRunIsStuck : Module → ModuleInfo → Type 0
 NoRunIsStuck m info =
     let shape = module_shape m info in

@@ -79,7 +79,7 @@ numbered_name h = numbered_text (nat_lt h (2 ^ 64)) h
 abbrev pub item_labels : Module → List (List ℕ)
 item_labels m = labels_of (labelled_items wgsl_names m)
 
--- Behind them come those that front ends gave to expressions, function by function and then entry
+-- After them come those that front ends gave to expressions, function by function and then entry
 -- point by entry point. These stand in front of the ones given in this function.
 abbrev pub labels_before : Module → (function : ℕ) → List (List ℕ)
 labels_before m g = item_labels m ++ all_expression_labels (take g (all_functions m))
@@ -89,7 +89,7 @@ abbrev pub labels_named_in : Module → (function : ℕ) → List (List ℕ)
 labels_named_in m g = option_map_or expression_labels (slice_get (all_functions m) g) []
 
 -- The names that front ends gave in a function, in the order of its text: each the name of its
--- label behind all labels in front of it.
+-- label after all labels in front of it.
 unfoldable pub expression_name : Module → (function : ℕ) → (number : ℕ) → List ℕ
 expression_name m g = name_of_label wgsl_names (labels_before m g) (labels_named_in m g)
 

@@ -32,7 +32,7 @@ named_handles h (c ∷ cs) =
     if is_some c.name then h ∷ named_handles (suc h) cs else named_handles (suc h) cs
 
 -- what has a number among the constants of the runs: the constants with a name in their order, and
--- behind them the overrides
+-- after them the overrides
 abbrev pub numbered_key : ir_module.Module → ℕ → NameKey
 numbered_key m i =
     option_map_or key.Constant (slice_get (named_handles 0 m.constants) i)

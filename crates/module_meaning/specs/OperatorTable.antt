@@ -320,13 +320,13 @@ abbrev pub formless_head : Formless → List ℕ
 formless_head (MatrixLoad columns rows role row_major) = codes "coopLoad"
 formless_head what = []
 
--- a blank, and behind it what tells it
+-- a blank, and after it what tells it
 abbrev pub formless_word : Formless → List ℕ
 formless_word what = formless_head what ++ (32 ∷ formless_code what)
 
 -- What has no word is called by one that no text can spell: with a blank in front or, where it asks
 -- an image or loads a matrix, the word of such an operation with a blank and what is no number of a
--- text behind it.
+-- text after it.
 abbrev pub own_word : Operator → List ℕ
 own_word (Math fun) = own_math_word fun
 own_word (Relational fun) = own_relational_word fun

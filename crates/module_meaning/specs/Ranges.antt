@@ -1,7 +1,7 @@
 -- Whether all that a module and what is known of it name is there, and stands where it may be
 -- named: handles, `Emit` ranges and argument numbers lie in their arenas and lists; an expression's
 -- operands and a type's parts stand before it, and a callee before its caller; a global expression
--- names no argument and no local, and stands behind the initialiser of each constant and override
+-- names no argument and no local, and stands after the initialiser of each constant and override
 -- that it names; and each number is one of its type: a literal's value, and those of Numbers.
 --
 -- Throughout, m is a module, t is a type, h a handle, here the handle of what is looked at, e an
@@ -14,16 +14,12 @@ use Rattle.std.specs.Prelude.{nat_lt, nat_le, slice_get}
 use Rattle.std.specs.List.{list_all, enumerate_from}
 use Rattle.std.specs.Option.{option_map_or, option_map}
 use Rattle.indexmap.specs.IndexMap.{keys, values}
-use Rattle.naga_ir.specs.Operands.{expression_operands}
-use Rattle.naga_ir.specs.StatementTree.{SimpleStatement, emit, break, continue, return, kill}
-use Rattle.naga_ir.specs.StatementTree.{control_barrier, memory_barrier, store, image_store, atomic}
-use Rattle.naga_ir.specs.StatementTree.{image_atomic, work_group_uniform_load, call, ray_query}
-use Rattle.naga_ir.specs.StatementTree.{subgroup_ballot, subgroup_gather}
-use Rattle.naga_ir.specs.StatementTree.{subgroup_collective_operation, cooperative_store}
-use Rattle.naga_ir.specs.StatementTree.{ray_pipeline_function, StatementTree, simple, block, branch}
+use Rattle.naga_ir.specs.Operands.{expression_operands, simple_operands, simple_result}
+use Rattle.naga_ir.specs.StatementTree.{SimpleStatement, emit}
+use Rattle.naga_ir.specs.StatementTree.{call}
+use Rattle.naga_ir.specs.StatementTree.{StatementTree, simple, block, branch}
 use Rattle.naga_ir.specs.StatementTree.{switch, loop, BlockTree, no_statements, statement}
 use Rattle.naga_ir.specs.StatementTree.{CaseTrees, no_cases, case}
-use Rattle.naga_ir.specs.declared.expression.CooperativeData.{CooperativeData}
 use Rattle.naga_ir.specs.declared.expression.Expression.{Expression}
 use Rattle.naga_ir.specs.declared.expression.Expression.TheVariants as expression
 use Rattle.naga_ir.specs.declared.module.Constant.{Constant}
@@ -34,12 +30,6 @@ use Rattle.naga_ir.specs.declared.module.LocalVariable.{LocalVariable}
 use Rattle.naga_ir.specs.declared.module.Module.{Module}
 use Rattle.naga_ir.specs.declared.module.Override.{Override}
 use Rattle.naga_ir.specs.declared.module.SpecialTypes.{SpecialTypes}
-use Rattle.naga_ir.specs.declared.operators.AtomicFunction.{AtomicFunction}
-use Rattle.naga_ir.specs.declared.operators.AtomicFunction.TheVariants as atomic_function
-use Rattle.naga_ir.specs.declared.operators.GatherMode.{GatherMode}
-use Rattle.naga_ir.specs.declared.operators.GatherMode.TheVariants as gather
-use Rattle.naga_ir.specs.declared.statement.RayPipelineFunction.{RayPipelineFunction}
-use Rattle.naga_ir.specs.declared.statement.RayPipelineFunction.TheVariants.{TraceRay}
 use Rattle.naga_ir.specs.declared.types.StructMember.{StructMember}
 use Rattle.naga_ir.specs.declared.types.Type_.{Type_}
 use Rattle.naga_ir.specs.declared.types.TypeInner.{TypeInner}
@@ -188,69 +178,20 @@ global_expression_in_range m here e =
 
 -- ---- statements
 
-abbrev pub cooperative_in_range : (expressions : ℕ) → CooperativeData → Bool
-cooperative_in_range expressions place =
-    nat_lt place.pointer expressions && nat_lt place.stride expressions
-
-abbrev pub atomic_in_range : (expressions : ℕ) → AtomicFunction → Bool
-atomic_in_range expressions (atomic_function.Exchange compare) = is_below expressions compare
-atomic_in_range expressions _ = true
-
-abbrev pub gather_in_range : (expressions : ℕ) → GatherMode → Bool
-gather_in_range expressions gather.BroadcastFirst = true
-gather_in_range expressions (gather.Broadcast index) = nat_lt index expressions
-gather_in_range expressions (gather.Shuffle index) = nat_lt index expressions
-gather_in_range expressions (gather.ShuffleDown index) = nat_lt index expressions
-gather_in_range expressions (gather.ShuffleUp index) = nat_lt index expressions
-gather_in_range expressions (gather.ShuffleXor index) = nat_lt index expressions
-gather_in_range expressions (gather.QuadBroadcast index) = nat_lt index expressions
-gather_in_range expressions (gather.QuadSwap direction) = true
-
-abbrev pub ray_in_range : (expressions : ℕ) → RayPipelineFunction → Bool
-ray_in_range expressions (TraceRay structure descriptor payload) =
-    nat_lt structure expressions && (nat_lt descriptor expressions && nat_lt payload expressions)
-
--- operands and the result lie in the expressions, and a callee is one of those that may be called.
--- An `Emit`'s range lies in its arena where both its ends are at most the number of expressions,
--- whichever of them is the greater: it has the handles from first to before end, and one whose end
--- is not after its first has none
-abbrev pub simple_in_range : (callees expressions : ℕ) → SimpleStatement → Bool
-simple_in_range callees expressions (emit first end) =
+-- a callee is one of those that may be called. An `Emit`'s range lies in its arena where both its
+-- ends are at most the number of expressions, whichever of them is the greater: it has the handles
+-- from first to before end, and one whose end is not after its first has none
+abbrev pub named_in_range : (callees expressions : ℕ) → SimpleStatement → Bool
+named_in_range callees expressions (emit first end) =
     nat_le first expressions && nat_le end expressions
-simple_in_range callees expressions break = true
-simple_in_range callees expressions continue = true
-simple_in_range callees expressions (return value) = is_below expressions value
-simple_in_range callees expressions kill = true
-simple_in_range callees expressions (control_barrier flags) = true
-simple_in_range callees expressions (memory_barrier flags) = true
-simple_in_range callees expressions (store pointer value) =
-    nat_lt pointer expressions && nat_lt value expressions
-simple_in_range callees expressions (image_store image coordinate array_index value) =
-    nat_lt image expressions && (nat_lt coordinate expressions &&
-    (is_below expressions array_index && nat_lt value expressions))
-simple_in_range callees expressions (atomic pointer fun value outcome) =
-    nat_lt pointer expressions && (atomic_in_range expressions fun &&
-    (nat_lt value expressions && is_below expressions outcome))
-simple_in_range callees expressions (image_atomic image coordinate array_index fun value) =
-    nat_lt image expressions && (nat_lt coordinate expressions &&
-    (is_below expressions array_index &&
-    (atomic_in_range expressions fun && nat_lt value expressions)))
-simple_in_range callees expressions (work_group_uniform_load pointer outcome) =
-    nat_lt pointer expressions && nat_lt outcome expressions
-simple_in_range callees expressions (call function arguments outcome) =
-    nat_lt function callees && (all_below expressions arguments && is_below expressions outcome)
-simple_in_range callees expressions (ray_query query) = nat_lt query expressions
-simple_in_range callees expressions (subgroup_ballot outcome predicate) =
-    nat_lt outcome expressions && is_below expressions predicate
-simple_in_range callees expressions (subgroup_gather mode argument outcome) =
-    gather_in_range expressions mode &&
-    (nat_lt argument expressions && nat_lt outcome expressions)
-simple_in_range callees expressions
-    (subgroup_collective_operation op collective_op argument outcome) =
-    nat_lt argument expressions && nat_lt outcome expressions
-simple_in_range callees expressions (cooperative_store target place) =
-    nat_lt target expressions && cooperative_in_range expressions place
-simple_in_range callees expressions (ray_pipeline_function fun) = ray_in_range expressions fun
+named_in_range callees expressions (call function arguments outcome) = nat_lt function callees
+named_in_range callees expressions _ = true
+
+-- so it is, and operands and the result lie in the expressions
+abbrev pub simple_in_range : (callees expressions : ℕ) → SimpleStatement → Bool
+simple_in_range callees expressions s =
+    named_in_range callees expressions s &&
+    (all_below expressions (simple_operands s) && is_below expressions (simple_result s))
 
 -- so do those of the statements in its blocks, and a switch's labels have 32 bits
 abbrev mutual

@@ -27,7 +27,7 @@ use Rattle.module_meaning.specs.OperatorTable.{CompareExchange, Source, First, I
 use Rattle.module_meaning.specs.OperatorTable.{ShuffledDown, ShuffledUp, ShuffledXor, QuadIndexed}
 use Rattle.module_meaning.specs.OperatorTable.{QuadSwapped}
 use Rattle.shader_runs.specs.Program.{Statement, Emit, Store, Break, Continue, Return, Kill}
-use Rattle.shader_runs.specs.Program.{Barrier, Act, Asked, Called, BarrierBits, Block, end}
+use Rattle.shader_runs.specs.Program.{Barrier, Act, Asked, Called, BarrierBits, Block, end, Jumps}
 
 -- how an atomic function changes what it finds
 abbrev pub change_of : AtomicFunction → Change
@@ -97,10 +97,10 @@ store_shape to_atomic pointer value =
 -- what a statement without blocks does: what is not listed is an act that asks for its operator
 abbrev pub simple_shape : ExpressionContext → SimpleStatement → Statement
 simple_shape a (emit first last) = Emit first (last - first)
-simple_shape a break = Break
-simple_shape a continue = Continue
-simple_shape a (return value) = Return value
-simple_shape a kill = Kill
+simple_shape a break = Jumps Break
+simple_shape a continue = Jumps Continue
+simple_shape a (return value) = Jumps (Return value)
+simple_shape a kill = Jumps Kill
 simple_shape a (control_barrier flags) = Barrier (barrier_bits flags)
 simple_shape a (memory_barrier flags) = Barrier (barrier_bits flags)
 simple_shape a (store pointer value) = store_shape (is_atomic_pointer a pointer) pointer value

@@ -13,12 +13,12 @@ use Rattle.std.specs.Prelude.{ℕ, Bool, true, false, ◌&&◌, ◌||◌, ◌==�
 use Rattle.std.specs.Prelude.{Option, Some, None, slice_get}
 use Rattle.std.specs.Option.{option_map_or, is_some}
 use Rattle.std.specs.Ordering.{int_eq}
-use Rattle.naga_ir.specs.StatementTree.{SimpleStatement, emit, break, continue, return, kill}
-use Rattle.naga_ir.specs.StatementTree.{control_barrier, memory_barrier, store, image_store, atomic}
-use Rattle.naga_ir.specs.StatementTree.{image_atomic, work_group_uniform_load, call, ray_query}
+use Rattle.naga_ir.specs.StatementTree.{SimpleStatement, break, continue, return}
+use Rattle.naga_ir.specs.StatementTree.{store, atomic}
+use Rattle.naga_ir.specs.StatementTree.{work_group_uniform_load, call}
 use Rattle.naga_ir.specs.StatementTree.{subgroup_ballot, subgroup_gather}
 use Rattle.naga_ir.specs.StatementTree.{subgroup_collective_operation, cooperative_store}
-use Rattle.naga_ir.specs.StatementTree.{ray_pipeline_function, StatementTree, simple, block, branch}
+use Rattle.naga_ir.specs.StatementTree.{StatementTree, simple, block, branch}
 use Rattle.naga_ir.specs.StatementTree.{switch, loop, BlockTree, no_statements, statement}
 use Rattle.naga_ir.specs.StatementTree.{CaseTrees, no_cases, case}
 use Rattle.naga_ir.specs.declared.expression.Expression.{Expression}
@@ -206,29 +206,22 @@ is_call m f known function arguments outcome =
 
 -- ---- statements
 
+-- what a statement without blocks wants by itself: those that are not listed want nothing
 abbrev pub simple_is_sound :
     Module → Function → (known : List TypeResolution) → (breaks continues : Bool) →
     SimpleStatement → Bool
-simple_is_sound m f known breaks continues (emit first end) = true
 simple_is_sound m f known breaks continues break = breaks
 simple_is_sound m f known breaks continues continue = continues
 simple_is_sound m f known breaks continues (return value) = is_returned m.types known f.result value
-simple_is_sound m f known breaks continues kill = true
-simple_is_sound m f known breaks continues (control_barrier flags) = true
-simple_is_sound m f known breaks continues (memory_barrier flags) = true
 simple_is_sound m f known breaks continues (store pointer value) =
     is_stored m.types known pointer value
-simple_is_sound m f known breaks continues (image_store image coordinate array_index value) = true
 simple_is_sound m f known breaks continues (atomic pointer fun value outcome) =
     operand_is m.types known (points_to_atomic m.types) pointer &&
     is_result_if is_atomic_result f outcome
-simple_is_sound m f known breaks continues
-    (image_atomic image coordinate array_index fun value) = true
 simple_is_sound m f known breaks continues (work_group_uniform_load pointer outcome) =
     is_result is_uniform_load_result f outcome
 simple_is_sound m f known breaks continues (call function arguments outcome) =
     is_call m f known function arguments outcome
-simple_is_sound m f known breaks continues (ray_query query) = true
 simple_is_sound m f known breaks continues (subgroup_ballot outcome predicate) =
     is_result is_ballot_result f outcome
 simple_is_sound m f known breaks continues (subgroup_gather mode argument outcome) =
@@ -238,7 +231,7 @@ simple_is_sound m f known breaks continues
     is_result is_subgroup_result f outcome
 simple_is_sound m f known breaks continues (cooperative_store target data_) =
     operand_is m.types known (points_to_components m.types) data_.pointer
-simple_is_sound m f known breaks continues (ray_pipeline_function fun) = true
+simple_is_sound m f known breaks continues _ = true
 
 abbrev mutual
   pub statement_is_sound :

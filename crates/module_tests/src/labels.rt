@@ -7,7 +7,7 @@ use std::process::Abort;
 
 /// How many labels, what they are multiples of, the largest first, and one of them, which is found
 /// if it stands once more: among the 4,096 that are sorted at once, as the last of them, as the
-/// first behind them, and far behind.
+/// first after them, and far after.
 const ROWS: &[(u32, u32, u32)] = &[
     (100, 1, 99),
     (100, 1, 50),

@@ -25,7 +25,7 @@ and_crossed true true c d = refl
 and_crossed true false true d = refl
 and_crossed true false false d = refl
 
--- a test behind one that fails
+-- a test after one that fails
 and_false : (a : Bool) → (a && false) ≡ false
 and_false true = refl
 and_false false = refl
@@ -87,7 +87,7 @@ pub new_agrees : (os : List Operation) (v : Operation)
 new_agrees os v other =
     all_pass (λ o. agrees o v) os (λ i o here. other_agrees o v (other i o here))
 
--- One more use behind others: it agrees with each of them, and those agree.
+-- One more use after others: it agrees with each of them, and those agree.
 pub agree_behind : (os : List Operation) (v : Operation) →
     all_agree (os ++ v ∷ []) ≡ (all_agree os && list_all (λ o. agrees o v) os)
 agree_behind [] v = refl
@@ -100,7 +100,7 @@ agree_behind (x ∷ os) v =
     last a true = refl
     last a false = refl
 
--- what stands behind uses that do not all agree changes nothing
+-- what stands after uses that do not all agree changes nothing
 pub front_fails : (os vs : List Operation) → all_agree os ≡ false → all_agree (os ++ vs) ≡ false
 front_fails [] vs e = absurd cc
 front_fails (x ∷ os) vs e = by_first (front_fails os vs) (list_all (agrees x) os) refl
@@ -119,7 +119,7 @@ front_fails (x ∷ os) vs e = by_first (front_fails os vs) (list_all (agrees x) 
 
 -- ---- the first use of an operator
 
--- it is the first of these uses, or it is looked for behind that
+-- it is the first of these uses, or it is looked for after that
 pub first_by : (w : Operation) (os : List Operation) (v : Operation) (same : Bool) →
     is_same_operator w v ≡ same → first_answer (w ∷ os) v ≡
     (if same then Some (bytes_eq w.answer v.answer) else first_answer os v)
@@ -218,7 +218,7 @@ seen_agrees os all i v w here same =
     sym (sought_agrees os all v
     ∙ ap (λ y. unwrap_or y true) (sought_first os all i v w here same))
 
--- ---- the first use, in one list behind another
+-- ---- the first use, in one list after another
 
 -- found in front of others, by whether the first is of its operator
 found_by : (w : Operation) (xs ys : List Operation) (v : Operation) (same : Bool) →
@@ -249,7 +249,7 @@ none_by w xs ys v true e rest none = absurd cc
 none_by w xs ys v false e rest none =
     first_by w (xs ++ ys) v false e ∙ rest (sym (ap is_some (first_by w xs v false e)) ∙ none)
 
--- one that the front does not have is looked for behind it
+-- one that the front does not have is looked for after it
 pub none_in_front : (xs ys : List Operation) (v : Operation) →
     is_some (first_answer xs v) ≡ false → first_answer (xs ++ ys) v ≡ first_answer ys v
 none_in_front [] ys v none = refl

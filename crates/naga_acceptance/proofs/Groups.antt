@@ -117,7 +117,7 @@ one_more types gs number g index =
     sym (append_assoc (group_uses types gs number) (first_uses types g index)
     (option_to_list (use_in types g index)))
 
--- ---- lists behind one another
+-- ---- lists after one another
 
 -- an item of the front
 pub in_front : {X : Type 0} (xs ys : List X) (k : ℕ) → k < length xs →
@@ -126,7 +126,7 @@ in_front [] ys k within = absurd (omega (arith, within))
 in_front (x ∷ xs) ys zero within = refl
 in_front (x ∷ xs) ys (suc k) within = in_front xs ys k (omega (arith, within))
 
--- an item at a place behind the front
+-- an item at a place after the front
 pub at_sum : {X : Type 0} (xs ys : List X) (k n : ℕ) → n ≡ length xs + k →
     slice_get (xs ++ ys) n ≡ slice_get ys k
 at_sum [] ys k n e = let same : n ≡ k = omega (arith, e) in ap (slice_get ys) same
@@ -191,14 +191,14 @@ module _ (m : Module) (info : ModuleInfo) where
       (slice_get-map (λ p. p.function) m.entry_points.items k ∙ ap (option_map (λ p. p.function)) here)
       there
 
-  -- the module's own stands behind those
+  -- the module's own stands after those
   pub own_there : (k : ℕ) →
       k ≡ min (length m.entry_points.items) (length info.entry_points.items) →
       slice_get (further_groups_of m info) k ≡ Some own_group
   own_there k e =
       at_sum entry_groups (own_group ∷ []) 0 k (omega (arith, e, entry_groups_count))
 
-  -- and behind that is none
+  -- and after that is none
   pub none_there : (k : ℕ) →
       min (length m.entry_points.items) (length info.entry_points.items) < k →
       slice_get (further_groups_of m info) k ≡ None
@@ -222,7 +222,7 @@ module _ (m : Module) (info : ModuleInfo) where
       in in_front (function_groups m.functions info.functions.items) (further_groups_of m info) k within
       ∙ in_groups m.functions info.functions.items k f known here there
 
-  -- what stands behind the functions
+  -- what stands after the functions
   pub past_functions : (k functions : ℕ) →
       functions ≡ min (length m.functions) (length info.functions.items) → functions ≤ k →
       slice_get (groups_of m info) k ≡ slice_get (further_groups_of m info) (k - functions)

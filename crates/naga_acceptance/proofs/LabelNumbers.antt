@@ -272,7 +272,7 @@ marked_more ns marks index place here within before k less =
             absurd (eqb-false (slice_index ns k % PLACES) place e
             (ap (λ n. slice_index ns n % PLACES) (eqb-true k index same) ∙ sym here))
 
--- ---- the first numbers, sorted, and those behind
+-- ---- the first numbers, sorted, and those after
 
 -- there are no numbers of no cases
 pub shares_nothing : (ms : List ℕ) (cs : List SwitchCase) → (length cs == 0) ≡ true →

@@ -79,7 +79,7 @@ filtered_pass test p (x ∷ os) each =
         ∙ and_from (test x) (list_all test (filter p os)) (each 0 x refl e) rest
     by_first rest false e = ap (λ b. list_all test (cond b (x ∷ filter p os) (filter p os))) e ∙ rest
 
--- the first passes: it agrees with all behind it that pass
+-- the first passes: it agrees with all after it that pass
 head_agrees : (p : Operation → Bool) (x : Operation) (os : List Operation) →
     all_agree (filter p (x ∷ os)) ≡ true → p x ≡ true → list_all (agrees x) (filter p os) ≡ true
 head_agrees p x os all e =
@@ -198,7 +198,7 @@ front_through : {X : Type 0} (xs ys zs : List X) → StandsInFront xs ys → Sta
 front_through xs ys zs one two =
     (one.0 ++ two.0, two.1 ∙ ap (λ l. l ++ two.0) one.1 ∙ append_assoc xs one.0 two.0)
 
--- behind the same list
+-- after the same list
 front_behind : {X : Type 0} (xs ys zs : List X) → StandsInFront ys zs →
     StandsInFront (xs ++ ys) (xs ++ zs)
 front_behind xs ys zs front =
@@ -236,7 +236,7 @@ module _ (types : List Type_) (gs : List Group) where
       subst (λ l. StandsInFront (earlier_uses types gs n g i) l) (group_end types gs n g here)
       (front_in_group n g i (length g.expressions) within)
 
-  -- up to any group behind
+  -- up to any group after
   pub front_of_groups : (n m : ℕ) (g : Group) (i : ℕ) → slice_get gs n ≡ Some g →
       i ≤ length g.expressions → n < m →
       StandsInFront (earlier_uses types gs n g i) (group_uses types gs m)
@@ -245,7 +245,7 @@ module _ (types : List Type_) (gs : List Group) where
       (front_of_group n g i here within)
       (joined_front (λ k. option_map_or (uses_of types) (slice_get gs k) []) (suc n) m before)
 
-  -- in any group behind
+  -- in any group after
   front_of_later : (n m : ℕ) (g h : Group) (i j : ℕ) → slice_get gs n ≡ Some g →
       i ≤ length g.expressions → n < m →
       StandsInFront (earlier_uses types gs n g i) (earlier_uses types gs m h j)
@@ -389,7 +389,7 @@ module _ (part : Part) (middle : ℕ) (above : part.first ≤ middle) (below : m
   abbrev pub front_half : Part
   front_half = record { first = part.first; last = middle }
 
-  -- the half behind it
+  -- the half after it
   abbrev pub back_half : Part
   back_half = record { first = middle + 1; last = part.last }
 

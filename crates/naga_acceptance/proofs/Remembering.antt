@@ -27,7 +27,7 @@ use Rattle.naga_acceptance.proofs.Groups.{in_front, at_sum}
 
 -- ---- uses among others
 
--- uses stay where others come behind them
+-- uses stay where others come after them
 pub among_more : (os ps : List Operation) (v : Operation) → IsAmong v os → IsAmong v (os ++ ps)
 among_more os ps v among =
     (among.0, in_front os ps among.0 (slice_get_within os among.0 v among.1) ∙ among.1)

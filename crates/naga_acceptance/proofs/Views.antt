@@ -1,4 +1,4 @@
--- What two types are told by is the same where their levels are, one behind another.
+-- What two types are told by is the same where their levels are, one after another.
 use Rattle.std.proofs.Common.{◌≡◌, ◌≤◌, ℕ, suc, Bool, true, false, ◌&&◌, not, List, [], ◌∷◌, ◌++◌, refl}
 use Rattle.std.proofs.Common.{sym, ap, ◌∙◌, arith, Option, Some, None, unwrap_or, slice_get}
 use Rattle.std.proofs.Common.{true≢false}
@@ -36,7 +36,7 @@ levels_then : (l m : Level) (xs ys : List ℕ) → bytes_eq (numbers l ++ xs) (n
 levels_then l m xs ys =
     six (nat_eq l.tag m.tag) (nat_eq l.first m.first) (nat_eq l.second m.second) (nat_eq l.third m.third) (nat_eq l.fourth m.fourth) (nat_eq l.fifth m.fifth) (bytes_eq xs ys)
 
--- the numbers behind a level, where there are some
+-- the numbers after a level, where there are some
 abbrev pub behind : Level → Option (List ℕ) → Option (List ℕ)
 behind l o = option_map (λ rest. numbers l ++ rest) o
 
@@ -67,7 +67,7 @@ module _ (types : List Type_) where
       is_some (over_key types x.over) ≡ true
   over_goes_on o x less e some = behind_some x.level (over_key types x.over) (ap is_some (sym (over_is o x less e)) ∙ some)
 
-  -- two that go on are the same where their levels are and what is behind
+  -- two that go on are the same where their levels are and what is after
   pub both_go_on : (o p : Over) (x y : Top) → suc (rank x.over) ≤ rank o → next_key o (top_key types (Some x)) ≡ over_key types o →
       suc (rank y.over) ≤ rank p → next_key p (top_key types (Some y)) ≡ over_key types p →
       is_some (over_key types o) ≡ true → is_some (over_key types p) ≡ true →

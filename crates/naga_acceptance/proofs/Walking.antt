@@ -28,7 +28,7 @@ use Rattle.naga_acceptance.specs.TextOrder.{statements_inside, text_order}
 
 -- ---- numbers
 
--- goes on behind what was gone through
+-- goes on after what was gone through
 abbrev pub onward : {X : Type 0} → (X → Bool) → Result ℕ ℕ → List X → Result ℕ ℕ
 onward test (Ok n) xs = numbered test n xs
 onward test (Err n) xs = Err n

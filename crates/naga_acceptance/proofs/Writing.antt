@@ -59,7 +59,7 @@ IsWritten-kept target initial xs i d h w is =
       kept_length = w.kept_length;
     }
 
--- what a slice of a whole vector leaves behind it
+-- what a slice of a whole vector leaves after it
 pub take_written_back : {X : Type 0} (n : ℕ) (xs ys : List X) → length xs ≡ length ys → length xs ≤ n → take n (xs ++ drop (length xs) ys) ≡ xs
 take_written_back n xs ys same h =
     let past : length ys ≤ length xs = omega (arith, same)

@@ -1,6 +1,6 @@
 -- The first place at which a module is not accepted, in the order in which its clauses are asked:
 -- first whether all that is named is there, then whether all gets what it wants. Operators that
--- disagree are looked for behind that.
+-- disagree are looked for after that.
 --
 -- Throughout, m is a module, info what is known of it, f a function (fs are several), p an entry
 -- point (ps are several) or an item with what is known of it, t a type, e an expression (es are

@@ -12,7 +12,7 @@ use Rattle.naga_ir.specs.declared.statement.SwitchValue.{SwitchValue}
 use Rattle.naga_ir.specs.declared.statement.SwitchValue.TheVariants as label
 use Rattle.naga_acceptance.specs.declared.label_numbers.TheConstants.{PLACES}
 
--- integers ascend by their numbers, and the default stands behind all
+-- integers ascend by their numbers, and the default stands after all
 abbrev pub is_before : SwitchValue → SwitchValue → Bool
 is_before (label.I32 a) (label.I32 b) = lt_z a b
 is_before (label.U32 a) (label.U32 b) = nat_lt a b
@@ -20,7 +20,7 @@ is_before (label.I32 a) label.Default = true
 is_before (label.U32 a) label.Default = true
 is_before _ _ = false
 
--- the label stands behind the one before
+-- the label stands after the one before
 abbrev pub is_behind : (last : Option SwitchValue) → SwitchValue → Bool
 is_behind None w = true
 is_behind (Some v) w = is_before v w

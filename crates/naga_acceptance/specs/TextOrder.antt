@@ -98,7 +98,7 @@ is_met (demand.Sound m f known) s = is_sound m.now f.now (known_types known) s
 -- ---- numbers of statements
 
 -- Items are numbered from n on, modulo 2^64: the number of the first that fails, as an error, or
--- else the one behind them all.
+-- else the one after them all.
 abbrev pub numbered : {X : Type 0} → (X → Bool) → (n : ℕ) → List X → Result ℕ ℕ
 numbered test n [] = Ok n
 numbered test n (x ∷ xs) = if test x then numbered test (wrapping_add n 1) xs else Err n

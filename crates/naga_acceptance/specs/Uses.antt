@@ -4,7 +4,7 @@
 -- Throughout, types are a module's types, g is a group of expressions that stand together (gs are
 -- the groups of a module, in order), u is a use in the code, v and w are uses (os are several), a
 -- site, or a place, tells a group and an expression of it, h is a hash, and steps (n) tell how far
--- a slot is behind that of a use.
+-- a slot is after that of a use.
 use Rattle.std.specs.Prelude.{ℕ, zero, suc, ◌+◌, ◌*◌, ◌%◌, ◌^◌, ◌<◌, ◌≤◌, ◌≡◌, Bool, true, false}
 use Rattle.std.specs.Prelude.{◌&&◌}
 use Rattle.std.specs.Prelude.{List, [], ◌∷◌, ◌++◌, map, Option, Some, None, if◌then◌else◌, length}
@@ -47,7 +47,7 @@ use_in types g index =
 abbrev pub use_at : List Type_ → List Group → Site → Option Operation
 use_at types gs site = option_and_then (λ g. use_in types g site.index) (slice_get gs site.group)
 
--- the lists that belong to the numbers below a bound, one behind another
+-- the lists that belong to the numbers below a bound, one after another
 abbrev pub joined_below : {X : Type 0} → (ℕ → List X) → (bound : ℕ) → List X
 joined_below f zero = []
 joined_below f (suc n) = joined_below f n ++ f n
@@ -94,7 +94,7 @@ lists_mixed h (ns ∷ nss) = lists_mixed (all_mixed h ns) nss
 abbrev pub hash_of : Operation → ℕ
 hash_of v = lists_mixed (all_mixed 0 v.operator) v.operands
 
--- the slot that is so many steps behind a use's own, where the first stands behind the last
+-- the slot that is so many steps after a use's own, where the first stands after the last
 abbrev pub slot_after : (slots : ℕ) → Operation → (steps : ℕ) → ℕ
 slot_after slots v steps = (hash_of v % slots + steps) % slots
 

@@ -90,7 +90,7 @@ fn function_group<'a>(function: &'a Function, info: &'a FunctionInfo) -> Express
     }
 }
 
-/// The expressions of the entry point of this number, or those of the module itself behind them.
+/// The expressions of the entry point of this number, or those of the module itself after them.
 fn further_group_at<'a>(
     module: &'a Module,
     info: &'a ModuleInfo,
@@ -270,7 +270,7 @@ fn earlier_answer(
     first_answer(&module.types, group, index, used)
 }
 
-/// The slot that is so many steps behind one of so many, where the first stands behind the last.
+/// The slot that is so many steps after one of so many, where the first stands after the last.
 fn slot_behind(slot: usize, steps: usize, slots: usize) -> usize
     requires slot { slot < slots }
     requires steps { steps < slots }

@@ -4,17 +4,15 @@ ghost use Rattle.std.specs.Prelude.{◌≡◌};
 ghost use Rattle.std.specs.Option.{option_to_list};
 ghost use Rattle.std.specs.List.{flat_map};
 ghost use Rattle.naga_ir.specs.StatementViews.{tree_of, cases_of};
-ghost use Rattle.naga_ir.specs.Operands.{atomic_operands, block_operands, cases_operands};
-ghost use Rattle.naga_ir.specs.Operands.{cooperative_operands, expression_operands};
-ghost use Rattle.naga_ir.specs.Operands.{gather_operands, ray_operands, statement_operands};
+ghost use Rattle.naga_ir.specs.Operands.{block_operands, cases_operands, expression_operands};
+ghost use Rattle.naga_ir.specs.Operands.{own_operands, statement_operands};
 ghost use Rattle.module_meaning.specs.Accepted.{is_accepted};
 ghost use Rattle.naga_acceptance.specs.Counts.{with_counts, all_with_counts, functions_of};
 ghost use Rattle.naga_acceptance.specs.Counts.{with_use, with_uses, without_uses};
 
 use naga_info::{ExpressionInfo, FunctionInfo, ModuleInfo};
 use naga_ir::{
-    Arena, AtomicFunction, Block, CooperativeData, EntryPoint, Expression, Function, GatherMode,
-    Handle, Module, Place, RayPipelineFunction, Statement, SwitchCase,
+    Arena, Block, EntryPoint, Expression, Function, Handle, Module, Place, Statement, SwitchCase,
 };
 
 #[tactic(auto, using(crate::proofs::Counting::with_use_set, crate::proofs::Counting::with_use_past))]
@@ -28,26 +26,12 @@ fn add_use(infos: &mut [ExpressionInfo], handle: Handle<Expression>)
     }
 }
 
-fn add_uses(infos: &mut [ExpressionInfo], handles: &[Handle<Expression>])
-    ensures { infos.new ≡ with_uses infos.old handles.now }
-{
-    for handle in handles {
-        add_use(infos, *handle);
-    }
-}
-
 fn add_optional_use(infos: &mut [ExpressionInfo], handle: Option<Handle<Expression>>)
     ensures { infos.new ≡ with_uses infos.old (option_to_list handle) }
 {
     if let Some(handle) = handle {
         add_use(infos, handle);
     }
-}
-
-fn add_cooperative_uses(infos: &mut [ExpressionInfo], place: CooperativeData)
-    ensures { infos.new ≡ with_uses infos.old (cooperative_operands place) }
-{
-    add_uses(infos, &[place.pointer, place.stride])
 }
 
 fn add_expression_uses(infos: &mut [ExpressionInfo], expression: &Expression)
@@ -58,38 +42,12 @@ fn add_expression_uses(infos: &mut [ExpressionInfo], expression: &Expression)
     }
 }
 
-fn add_atomic_uses(infos: &mut [ExpressionInfo], fun: AtomicFunction)
-    ensures { infos.new ≡ with_uses infos.old (atomic_operands fun) }
+/// Counts the operands of a statement by itself, without those of the statements in its blocks.
+fn add_own_uses(infos: &mut [ExpressionInfo], statement: &Statement)
+    ensures { infos.new ≡ with_uses infos.old (own_operands (tree_of statement.now)) }
 {
-    match fun {
-        AtomicFunction::Exchange { compare } => add_optional_use(infos, compare),
-        _ => {}
-    }
-}
-
-fn add_gather_uses(infos: &mut [ExpressionInfo], mode: GatherMode)
-    ensures { infos.new ≡ with_uses infos.old (gather_operands mode) }
-{
-    match mode {
-        GatherMode::BroadcastFirst | GatherMode::QuadSwap(_) => {}
-        GatherMode::Broadcast(index)
-        | GatherMode::Shuffle(index)
-        | GatherMode::ShuffleDown(index)
-        | GatherMode::ShuffleUp(index)
-        | GatherMode::ShuffleXor(index)
-        | GatherMode::QuadBroadcast(index) => add_use(infos, index),
-    }
-}
-
-fn add_ray_uses(infos: &mut [ExpressionInfo], fun: RayPipelineFunction)
-    ensures { infos.new ≡ with_uses infos.old (ray_operands fun) }
-{
-    match fun {
-        RayPipelineFunction::TraceRay {
-            acceleration_structure,
-            descriptor,
-            payload,
-        } => add_uses(infos, &[acceleration_structure, descriptor, payload]),
+    for operand in statement.operands() {
+        add_use(infos, operand);
     }
 }
 
@@ -99,12 +57,6 @@ fn add_statement_uses(infos: &mut [ExpressionInfo], statement: &Statement)
     ensures { infos.new ≡ with_uses infos.old (statement_operands (tree_of statement.now)) }
 {
     match statement {
-        Statement::Emit(_)
-        | Statement::Break
-        | Statement::Continue
-        | Statement::Kill
-        | Statement::ControlBarrier(_)
-        | Statement::MemoryBarrier(_) => {}
         Statement::Block(block) => add_block_uses(infos, block),
         Statement::If {
             condition,
@@ -128,54 +80,7 @@ fn add_statement_uses(infos: &mut [ExpressionInfo], statement: &Statement)
             add_block_uses(infos, continuing);
             add_optional_use(infos, *break_if)
         }
-        Statement::Return { value } => add_optional_use(infos, *value),
-        Statement::Store { pointer, value } => add_uses(infos, &[*pointer, *value]),
-        Statement::ImageStore {
-            image,
-            coordinate,
-            array_index,
-            value,
-        } => {
-            add_uses(infos, &[*image, *coordinate]);
-            add_optional_use(infos, *array_index);
-            add_use(infos, *value)
-        }
-        Statement::Atomic {
-            pointer,
-            fun,
-            value,
-            ..
-        } => {
-            add_use(infos, *pointer);
-            add_atomic_uses(infos, *fun);
-            add_use(infos, *value)
-        }
-        Statement::ImageAtomic {
-            image,
-            coordinate,
-            array_index,
-            fun,
-            value,
-        } => {
-            add_uses(infos, &[*image, *coordinate]);
-            add_optional_use(infos, *array_index);
-            add_atomic_uses(infos, *fun);
-            add_use(infos, *value)
-        }
-        Statement::WorkGroupUniformLoad { pointer, .. } => add_use(infos, *pointer),
-        Statement::Call { arguments, .. } => add_uses(infos, arguments),
-        Statement::RayQuery { query } => add_use(infos, *query),
-        Statement::SubgroupBallot { predicate, .. } => add_optional_use(infos, *predicate),
-        Statement::SubgroupGather { mode, argument, .. } => {
-            add_use(infos, *argument);
-            add_gather_uses(infos, *mode)
-        }
-        Statement::SubgroupCollectiveOperation { argument, .. } => add_use(infos, *argument),
-        Statement::CooperativeStore { target, data_ } => {
-            add_use(infos, *target);
-            add_cooperative_uses(infos, *data_)
-        }
-        Statement::RayPipelineFunction(fun) => add_ray_uses(infos, *fun),
+        _ => add_own_uses(infos, statement),
     }
 }
 

@@ -230,7 +230,7 @@ pub fn pointee_at(
 /// - `Access` and `AccessIndex` have the type of the part, or are a pointer to it. Where there is no
 ///   part, an `AccessIndex` may have any type.
 /// - A `Load` has the type of what it reads: of an atomic, its scalar's.
-/// - `&&` and `||` behind a `bool` are `bool`.
+/// - `&&` and `||` after a `bool` are `bool`.
 /// - Others may have any type.
 ///
 /// Where a declaration or an operand that is asked is not there, an expression can have no type.

@@ -36,7 +36,7 @@ pub enum FunctionPlace {
     Local(Handle<LocalVariable>),
     Expression(Handle<Expression>),
     /// The statement with this number in the order of the text. Those in blocks are counted too,
-    /// each behind the one that holds the block, from 0 (modulo 2^64).
+    /// each after the one that holds the block, from 0 (modulo 2^64).
     Statement(usize),
 }
 

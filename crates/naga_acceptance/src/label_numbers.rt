@@ -30,7 +30,7 @@ fn number_of(label: SwitchValue) -> u64
     }
 }
 
-/// The numbers of the labels, in order, and zeros behind them.
+/// The numbers of the labels, in order, and zeros after them.
 fn numbers_of(cases: &[SwitchCase]) -> [u64; SORTED_LABELS]
     requires { length cases.now ≤ 4096 }
     ensures numbers { take (length cases.now) result ≡ numbers_of (cases_of cases.now) }
@@ -125,7 +125,7 @@ fn shares(numbers: &[u64], cases: &[SwitchCase]) -> bool
     shares_by_marks(numbers, cases)
 }
 
-/// Whether the first labels differ from one another and from those behind them. Its table stays out
+/// Whether the first labels differ from one another and from those after them. Its table stays out
 /// of the frames of its callers, which go as deep as blocks are nested.
 #[inline(never)]
 fn first_differ(first: &[SwitchCase], behind: &[SwitchCase]) -> bool
@@ -142,7 +142,7 @@ fn first_differ(first: &[SwitchCase], behind: &[SwitchCase]) -> bool
 
 /// Whether no label is repeated, in whatever order they stand.
 ///
-/// It takes no memory: 4,096 labels at a time are sorted on the stack, and those behind are looked
+/// It takes no memory: 4,096 labels at a time are sorted on the stack, and those after are looked
 /// for among them. So `n` labels take `n log n` steps where there are no more than 4,096. More, in
 /// whatever order, take a sort for each 4,096, and `n² / 8,192` looks at a mark, of which one in
 /// eight needs a search of 13 comparisons, unless labels are chosen to share their marks. Since

@@ -436,7 +436,7 @@ pub(crate) fn ranges_fault(module: &Module, info: &ModuleInfo) -> Option<Unaccep
 /// - Handles, `Emit` ranges and argument numbers lie in their arenas and lists.
 /// - A type's parts stand before it, an expression's operands before the expression, and a callee
 ///   before its caller. Entry points may call each function.
-/// - A global expression names no argument and no local, and stands behind the initialiser of each
+/// - A global expression names no argument and no local, and stands after the initialiser of each
 ///   constant and override that it names.
 /// - Numbers are of their types, and a pattern has four letters, as it always is here.
 ///

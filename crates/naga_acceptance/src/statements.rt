@@ -179,7 +179,7 @@ pub fn has_label(label: SwitchValue, cases: &[SwitchCase]) -> bool
 }
 
 /// Whether a label stands before another in ascending order: integers by their numbers, and the
-/// default behind all.
+/// default after all.
 fn is_before(a: SwitchValue, b: SwitchValue) -> bool
     ensures { result ≡ is_before a b }
 {
@@ -200,7 +200,7 @@ fn is_behind(last: Option<SwitchValue>, label: SwitchValue) -> bool
     }
 }
 
-/// Whether the labels ascend, the default behind all others.
+/// Whether the labels ascend, the default after all others.
 fn labels_ascend(cases: &[SwitchCase]) -> bool
     ensures { result ≡ labels_ascend None (cases_of cases.now) }
 {
@@ -217,7 +217,7 @@ fn labels_ascend(cases: &[SwitchCase]) -> bool
 /// Up to how many labels are compared in pairs, which is less work than sorting them.
 const FEW_LABELS: usize = 32;
 
-/// Whether no label stands behind itself. It compares each with those behind it.
+/// Whether no label stands after itself. It compares each with those after it.
 fn few_differ(cases: &[SwitchCase]) -> bool
     ensures { result ≡ labels_differ (cases_of cases.now) }
 {
@@ -484,15 +484,6 @@ pub(crate) fn own_is_sound(
 {
     let types = &module.types;
     match statement {
-        Statement::Emit(_)
-        | Statement::Kill
-        | Statement::ControlBarrier(_)
-        | Statement::MemoryBarrier(_)
-        | Statement::ImageStore { .. }
-        | Statement::ImageAtomic { .. }
-        | Statement::RayQuery { .. }
-        | Statement::RayPipelineFunction(_)
-        | Statement::Block(_) => true,
         Statement::If { condition, .. } => is_condition(types, known, *condition),
         Statement::Switch { selector, cases } => is_selection(types, known, *selector, cases),
         Statement::Loop { break_if, .. } => match break_if {
@@ -534,6 +525,7 @@ pub(crate) fn own_is_sound(
             known,
             data_.pointer,
         ),
+        _ => true,
     }
 }
 

@@ -1,4 +1,4 @@
--- Which values of the hardware come into an entry point by its arguments.
+-- Which built-in values come into an entry point by its arguments.
 use Rattle.std.specs.Prelude.{ℕ, List, [], ◌∷◌, ◌++◌, length, Option, Some, None, slice_get}
 use Prim.Native.Nat.{zero, suc}
 use Rattle.std.specs.Option.{option_and_then, option_map, option_or}
@@ -18,7 +18,7 @@ use Rattle.naga_back.specs.declared.context.FunctionType.{FunctionType}
 use Rattle.naga_back.specs.declared.context.FunctionType.TheVariants.{Function, EntryPoint}
 use Rattle.naga_back.specs.FunctionContext.{type_at}
 
--- the value of the hardware that a binding names, if it names one
+-- the built-in value that a binding names, if it names one
 abbrev pub builtin_of : Option Binding → Option BuiltIn
 builtin_of (Some (bound.BuiltIn builtin)) = Some builtin
 builtin_of _ = None
@@ -57,12 +57,12 @@ way_of arguments member es (suc steps) handle =
     option_and_then (way_by arguments member (way_of arguments member es steps))
     (slice_get es handle)
 
--- the first value of the hardware that is named
+-- the first built-in value that is named
 abbrev pub first_builtin : List (Option Binding) → Option BuiltIn
 first_builtin [] = None
 first_builtin (binding ∷ way) = option_or (builtin_of binding) (first_builtin way)
 
--- the value of the hardware that the expression with this handle is or is a part of: in an entry
+-- the built-in value that the expression with this handle is or is a part of: in an entry
 -- point, the argument's, if it has one, else that of the member nearest to the argument; a way has
 -- no more steps than there are expressions
 unfoldable pub fixed_input :

@@ -13,7 +13,7 @@ is_resource (Sampler comparison) = true
 is_resource (AccelerationStructure vertex_return) = true
 is_resource _ = false
 
--- what stands behind such a statement in its block is not reached
+-- what stands after such a statement in its block is not reached
 abbrev pub ends_block : Statement → Bool
 ends_block Break = true
 ends_block Continue = true

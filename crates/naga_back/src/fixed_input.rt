@@ -1,4 +1,4 @@
-//! Which values of the hardware come into an entry point by its arguments.
+//! Which built-in values come into an entry point by its arguments.
 
 ghost use Rattle.std.specs.Prelude.{◌≡◌, Some, None, slice_get, length};
 ghost use Rattle.std.specs.Option.{option_and_then, option_map, option_copied, option_or};
@@ -14,7 +14,7 @@ use naga_ir::{
 };
 
 impl<'a> FunctionCtx<'a> {
-    /// The value of the hardware that the expression with this handle is, or is a part of.
+    /// The built-in value that the expression with this handle is, or is a part of.
     ///
     /// There is one only in an entry point, for an argument or a chain of struct members of an
     /// argument: the argument's, if it has one, else that of the member nearest to the argument

@@ -34,7 +34,7 @@ pub trait IsTerminator {
     /// Whether the statement does.
     ghost ends_block: { Self → Bool };
 
-    /// Whether nothing that stands behind the statement in its block is reached: it is a `Break`, a
+    /// Whether nothing that stands after the statement in its block is reached: it is a `Break`, a
     /// `Continue`, a `Return` or a `Kill`.
     fn is_terminator(&self) -> bool
         ensures { result ≡ ends_block self.now };

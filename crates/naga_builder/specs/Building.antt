@@ -1,4 +1,4 @@
--- What functions and modules that are being built hold behind a call.
+-- What functions and modules that are being built hold after a call.
 --
 -- Throughout, old and new are such a function or module before and after a call.
 use Rattle.std.specs.Prelude.{◌≡◌, ℕ, List, [], ◌∷◌, ◌++◌, length, nat_eq, string_bytes}
@@ -99,7 +99,7 @@ pub record IsBesideNames (old new : FunctionBuilder) : Type 0 where
   pub known : new.known ≡ old.known
   pub body : new.body ≡ old.body
 
--- An expression has this label, in the place of one that it had or behind the others.
+-- An expression has this label, in the place of one that it had or after the others.
 pub record NamesExpression (handle : ℕ) (label : List ℕ) (old new : FunctionBuilder) : Type 0 where
   pub name : String Global
   pub labelled : string_bytes name ≡ label
@@ -121,7 +121,7 @@ function_of b = record b.function { body = b.body }
 abbrev pub type_eq : Type_ → Type_ → Bool
 type_eq = eq-value.it
 
--- the type is there, at this handle, added behind the others if none of them equals it
+-- the type is there, at this handle, added after the others if none of them equals it
 pub record FindsType (ty : Type_) (old new : ModuleBuilder) (handle : ℕ) : Type 0 where
   pub found : handle ≡ position_or_len (type_eq ty) old.«module».types
   pub added : new ≡ record old {
@@ -148,7 +148,7 @@ IsBesidePredeclared old new = new ≡ record old {
   };
 }
 
--- What a function of WGSL's own gives is this type, in the place of one told before or behind the
+-- What a function of WGSL's own gives is this type, in the place of one told before or after the
 -- others.
 pub record TellsPredeclared (given : PredeclaredType) (ty : ℕ) (old new : ModuleBuilder) : Type 0
   where

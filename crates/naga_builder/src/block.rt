@@ -10,7 +10,7 @@ use naga_ir::{Block, Expression, Handle, Range, Statement, SwitchCase};
 use std::alloc::{AllocError, Global};
 use std::marker::Model;
 
-/// Statements that are being built, one behind another. Where memory is refused, a call adds
+/// Statements that are being built, one after another. Where memory is refused, a call adds
 /// nothing.
 ///
 /// ```text
@@ -137,7 +137,7 @@ impl BlockBuilder {
         })
     }
 
-    /// Adds a loop, which `break_if` ends where it is true behind `continuing`.
+    /// Adds a loop, which `break_if` ends where it is true after `continuing`.
     pub fn loop_(
         &mut self,
         body: BlockBuilder,

@@ -244,7 +244,7 @@ impl ModuleBuilder {
         self.module.global_variables.append(variable)
     }
 
-    /// Adds a function behind the others. Where memory is refused, the function is dropped.
+    /// Adds a function after the others. Where memory is refused, the function is dropped.
     pub fn add_function(
         &mut self,
         function: FunctionBuilder,

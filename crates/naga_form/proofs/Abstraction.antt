@@ -56,8 +56,8 @@ use Rattle.shader_runs.specs.Program.{binds, from, handle_type, expression_of}
 use Rattle.shader_runs.specs.Scope.{Availability, Bound, Handles, Naming, bound_name, at_start}
 use Rattle.shader_runs.specs.Scope.{named_after, named_by, named_by_all, after_one, after}
 use Rattle.shader_runs.specs.Scope.{after_all}
-use Rattle.shader_runs.specs.Text.{before, ReturnLine, Let, Assign, Braces, IfElse}
-use Rattle.shader_runs.specs.Text.{SwitchOn, LoopOf, group, Perform}
+use Rattle.shader_runs.specs.Text.{before, Let, Assign, Braces, IfElse}
+use Rattle.shader_runs.specs.Text.{SwitchOn, LoopOf, group, Perform, JumpLine}
 use Rattle.shader_runs.specs.Form.{written_below, names_from, variables_from, form_function, Plain}
 use Rattle.shader_runs.specs.Form.{let_if}
 use Rattle.shader_runs.specs.Form as runs
@@ -119,7 +119,7 @@ label_reads (label.I32 (negsuc n)) = refl
 label_reads (label.U32 n) = refl
 label_reads label.Default = refl
 
--- a label behind others
+-- a label after others
 labels_with : (labels : List tree.Label) (value : SwitchValue) → map label_read (labels ++ label_form value ∷ []) ≡ map label_read labels ++ label_shape value ∷ []
 labels_with labels value =
     map-append label_read labels (label_form value ∷ [])
@@ -305,9 +305,9 @@ module _ (flags : WriterFlags) (named : ℕ → List ℕ) (m : Module) (info : M
           (more w.1 i)
       by false is w more = more w
 
-  return_reads : (s : Handles) (v : Option ℕ) → Writes (option_to_list v) → statement_read (return_line own source s v) ≡ ReturnLine (runs.value_if own s v)
+  return_reads : (s : Handles) (v : Option ℕ) → Writes (option_to_list v) → statement_read (return_line own source s v) ≡ JumpLine (shapes.Return (runs.value_if own s v))
   return_reads s None w = refl
-  return_reads s (Some h) w = ap (λ e. ReturnLine (Some e)) (value_reads s h w.0)
+  return_reads s (Some h) w = ap (λ e. JumpLine (shapes.Return (Some e))) (value_reads s h w.0)
 
   -- what acts calls its word over its operands
   act_reads : (annotated : ℕ → Option TypeSpecifier) (word : List ℕ) (xs : List ℕ)
@@ -350,10 +350,8 @@ module _ (flags : WriterFlags) (named : ℕ → List ℕ) (m : Module) (info : M
   shape_reads annotated k (shapes.Act action xs outcome) s rest none w =
       ap (λ l. before l (statements_read rest)) (act_reads annotated (runs.word_of own.names action) xs outcome s w)
   shape_reads annotated k (shapes.Barrier bits) s rest none w = barrier_reads (barrier_words bits) rest
-  shape_reads annotated k (shapes.Return value) s rest none w = ap (λ l. before l (statements_read rest)) (return_reads s value w)
-  shape_reads annotated k shapes.Break s rest none w = refl
-  shape_reads annotated k shapes.Continue s rest none w = refl
-  shape_reads annotated k shapes.Kill s rest none w = refl
+  shape_reads annotated k (shapes.Jumps (shapes.Return value)) s rest none w = ap (λ l. before l (statements_read rest)) (return_reads s value w)
+  shape_reads annotated k (shapes.Jumps _) s rest none w = refl
   shape_reads annotated k _ s rest none w = absurd cc
 
   simple_reads : (annotated : ℕ → Option TypeSpecifier) (k : ℕ) (st : SimpleStatement) (s : Handles)

@@ -42,7 +42,7 @@ use Rattle.module_meaning.proofs.Lists.{placed_at}
 use Rattle.naga_names.proofs.Refusal.{element}
 use Rattle.naga_form.proofs.AcceptedGroups.{IsSoundGroup, functions_are, entry_points_are}
 
--- ---- lists side by side and behind each other
+-- ---- lists side by side and after each other
 paired_length : {X Y : Type 0} (test : X → Y → Bool) (xs : List X) (ys : List Y) →
     all_paired test xs ys ≡ true → length xs ≡ length ys
 paired_length test xs ys all =
@@ -293,7 +293,7 @@ module _ (m : Module) (info : ModuleInfo) (accepted : IsTrue (is_accepted m info
       let mapped = length-map m.entry_points.items (λ p. p.function) in
       omega (arith, functions, entry_points, one, two, mapped)
 
-  -- what is known of that of an entry point stands behind what is known of the functions
+  -- what is known of that of an entry point stands after what is known of the functions
   pub entry_info_among : (j : ℕ) (es : List ExpressionInfo) →
       slice_get info.entry_points.items j ≡ Some es →
       slice_get (all_infos info) (length m.functions + j) ≡ Some es

@@ -282,15 +282,11 @@ which b = if nat_eq b 120 then 0 else (if nat_eq b 121 then 1 else (if nat_eq b 
 
 pub letter_is : (c : SwizzleComponent) → letter c ≡ byte c ∷ []
 letter_is component.X = refl
-letter_is component.Y = refl
-letter_is component.Z = refl
-letter_is component.W = refl
+letter_is _ = refl
 
 which_is : (c : SwizzleComponent) → which (byte c) ≡ tag_of components c
 which_is component.X = refl
-which_is component.Y = refl
-which_is component.Z = refl
-which_is component.W = refl
+which_is _ = refl
 
 abbrev which_at : List ℕ → ℕ → ℕ
 which_at w place = option_map_or which (slice_get w place) 0

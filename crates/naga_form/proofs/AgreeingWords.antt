@@ -80,9 +80,7 @@ module _ (m : Module) (info : ModuleInfo) (accepted : IsTrue (is_accepted m info
 
   queries_ask : (q : ImageQuery) → asks (query_operator q) ≡ true
   queries_ask (query.Size level) = refl
-  queries_ask query.NumLevels = refl
-  queries_ask query.NumLayers = refl
-  queries_ask query.NumSamples = refl
+  queries_ask _ = refl
 
   loads_ask : (columns rows : CooperativeSize) (role : CooperativeRole) (row_major : Bool)
       (o : Option (List ℕ)) →

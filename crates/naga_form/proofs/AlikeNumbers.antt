@@ -486,14 +486,7 @@ module _ (distinguished : List ℕ → ℕ) where
           (pointer_tree_in (space_word at) (space_access_word at) (Some t))
       pointee (space.Storage access) named t = ap Some (buffer_is_distinguished (has atomic_bit access) (has store_bit access) t)
       pointee space.Handle named t = absurd (true≢false named)
-      pointee space.Function named t = refl
-      pointee space.Private named t = refl
-      pointee space.WorkGroup named t = refl
-      pointee space.Uniform named t = refl
-      pointee space.Immediate named t = refl
-      pointee space.TaskPayload named t = refl
-      pointee space.RayPayload named t = refl
-      pointee space.IncomingRayPayload named t = refl
+      pointee _ named t = refl
 
       by : (o : Option TypeSpecifier) → pointer_key at (option_map (tree_numbers distinguished) o) ≡ option_map (tree_numbers distinguished) (pointer_tree_in (space_word at) (space_access_word at) o)
       by None = nothing (space_word at) (space_access_word at)

@@ -88,8 +88,7 @@ count_of_form y = if nat_eq (get_or y 1 0) 0 then Some (get_or y 2 0) else None
 -- it is how many the array has
 counted_by_form : (n : ArraySize) → element_count n ≡ (if nat_eq (length_kind n) 0 then Some (length_number n) else None)
 counted_by_form (length.Constant number) = refl
-counted_by_form (length.Pending override_handle) = refl
-counted_by_form length.Dynamic = refl
+counted_by_form _ = refl
 
 -- by the form of the whole, which is no struct
 abbrev kind_of_form : List ℕ → PartKind

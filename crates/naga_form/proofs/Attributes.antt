@@ -50,7 +50,7 @@ use Rattle.naga_form.specs.Attributes.{is_perspective, incoming_attributes, memb
 use Rattle.naga_form.specs.Attributes.{size_attributes, stage_attributes}
 
 -- ---- locations
--- what is told behind a number
+-- what is told after a number
 abbrev location_attributes : (source : Option ℕ) → (perspective center : Bool) → (i s : List ℕ) → (per_primitive : Bool) → List Attribute
 location_attributes source perspective center i s per_primitive =
     attribute_of (Numbered BlendSource) source ++
@@ -196,8 +196,6 @@ module _ (names : NameMap) (e : EntryPoint) (x y z : ℕ) (sizes : e.workgroup_s
   -- what is written of an entry point says of what stage it is
   pub stage_is_read : (s : ShaderStage) → stage_has_form e s ≡ true →
       stage_read (stage_attributes names e s) ≡ stage_of names e s
-  stage_is_read stage.Vertex is = refl
-  stage_is_read stage.Fragment is = refl
   stage_is_read stage.Compute is =
       ap (λ l. stage_read (Plain Compute ∷ size_attributes l)) sizes ∙ ap ComputeStage (sym sizes)
   stage_is_read stage.Mesh is =
@@ -208,7 +206,6 @@ module _ (names : NameMap) (e : EntryPoint) (x y z : ℕ) (sizes : e.workgroup_s
       ap (λ l. stage_read (Plain Task ∷ (payload_attributes names e ++ size_attributes l))) sizes
       ∙ task_read e.task_payload is
       ∙ ap (TaskStage (option_map (global_name names) e.task_payload)) (sym sizes)
-  stage_is_read stage.RayGeneration is = refl
   stage_is_read stage.AnyHit is = by e.incoming_ray_payload is
     where
       by : (payload : Option ℕ) → is_some payload ≡ true →
@@ -227,6 +224,7 @@ module _ (names : NameMap) (e : EntryPoint) (x y z : ℕ) (sizes : e.workgroup_s
           stage_read (Plain Miss ∷ attribute_of (λ v. Worded IncomingPayload (global_name names v)) payload) ≡ MissStage (option_map (global_name names) payload)
       by None is = absurd cc
       by (Some v) is = refl
+  stage_is_read _ is = refl
 
 -- ---- the grammar
 both_attributes : (xs ys : List Attribute) → IsAttributes xs → IsAttributes ys → IsAttributes (xs ++ ys)
@@ -428,8 +426,6 @@ module _ (names : NameMap) (e : EntryPoint) (x y z : ℕ) (sizes : e.workgroup_s
   task_stage (Some payload) is = refl
 
   pub stage_is : (s : ShaderStage) → stage_has_form e s ≡ true → is_stage (stage_attributes names e s) ≡ true
-  stage_is stage.Vertex is = refl
-  stage_is stage.Fragment is = refl
   stage_is stage.Compute is = ap (λ l. is_stage (Plain Compute ∷ size_attributes l)) sizes
   stage_is stage.Mesh is =
       ap (λ l. is_stage (attribute_of (λ i. Worded Mesh (global_name names i.output_variable)) e.mesh_info ++ (size_attributes l ++ payload_attributes names e))) sizes
@@ -437,7 +433,6 @@ module _ (names : NameMap) (e : EntryPoint) (x y z : ℕ) (sizes : e.workgroup_s
   stage_is stage.Task is =
       ap (λ l. is_stage (Plain Task ∷ (payload_attributes names e ++ size_attributes l))) sizes
       ∙ task_stage e.task_payload is
-  stage_is stage.RayGeneration is = refl
   stage_is stage.AnyHit is = by e.incoming_ray_payload is
     where
       by : (payload : Option ℕ) → is_some payload ≡ true →
@@ -456,6 +451,7 @@ module _ (names : NameMap) (e : EntryPoint) (x y z : ℕ) (sizes : e.workgroup_s
           is_stage (Plain Miss ∷ attribute_of (λ v. Worded IncomingPayload (global_name names v)) payload) ≡ true
       by None is = absurd cc
       by (Some v) is = refl
+  stage_is _ is = refl
 
   -- the variables that it names are there and have identifiers for names, and its sizes have 32 bits
   module _ (count : ℕ) (named : (v : ℕ) → v < count → IsIdentifier (global_name names v))
@@ -484,15 +480,13 @@ module _ (names : NameMap) (e : EntryPoint) (x y z : ℕ) (sizes : e.workgroup_s
       mesh_is (Some i) below = (named i.output_variable (ltb-true i.output_variable count below), tt)
 
       pub stage_attributes_are : (s : ShaderStage) → IsAttributes (stage_attributes names e s)
-      stage_attributes_are stage.Vertex = (tt, tt)
-      stage_attributes_are stage.Fragment = (tt, tt)
       stage_attributes_are stage.Compute = (tt, size_is e.workgroup_size (sym sizes))
       stage_attributes_are stage.Mesh =
           both_attributes (attribute_of (λ i. Worded Mesh (global_name names i.output_variable)) e.mesh_info) _ (mesh_is e.mesh_info output_below)
           (both_attributes (size_attributes e.workgroup_size) _ (size_is e.workgroup_size (sym sizes)) payload_is)
       stage_attributes_are stage.Task =
           (tt, both_attributes (payload_attributes names e) _ payload_is (size_is e.workgroup_size (sym sizes)))
-      stage_attributes_are stage.RayGeneration = (tt, tt)
       stage_attributes_are stage.AnyHit = (tt, incoming_is)
       stage_attributes_are stage.ClosestHit = (tt, incoming_is)
       stage_attributes_are stage.Miss = (tt, incoming_is)
+      stage_attributes_are _ = (tt, tt)

@@ -138,10 +138,8 @@ module _ (n : Naming) (annotated : ℕ → Option TypeSpecifier) (source : Sourc
       ap (λ ts. ts ++ statements_annotations rest)
       (act_tells (word_of n.names action) (operands (value_forms (plain_form n source s) xs)) outcome)
   shape_tells k (shapes.Barrier bits) none s rest = barriers_tell (barrier_words bits) rest
-  shape_tells k (shapes.Return v) none s rest = ap (λ ts. ts ++ statements_annotations rest) (return_tells s v)
-  shape_tells k shapes.Break none s rest = refl
-  shape_tells k shapes.Continue none s rest = refl
-  shape_tells k shapes.Kill none s rest = refl
+  shape_tells k (shapes.Jumps (shapes.Return v)) none s rest = ap (λ ts. ts ++ statements_annotations rest) (return_tells s v)
+  shape_tells k (shapes.Jumps _) none s rest = refl
   shape_tells k _ none s rest = absurd cc
 
   mutual

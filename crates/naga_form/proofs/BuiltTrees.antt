@@ -24,17 +24,15 @@ use Rattle.module_meaning.specs.ExpressionShapes.{Declared, built, computed_over
 use Rattle.module_meaning.specs.ExpressionShapes.{trees_of}
 use Rattle.module_meaning.specs.OperatorTable.{Operator, Splat, run_word}
 use Rattle.module_meaning.specs.Undeclared.{is_spellable}
-use Rattle.shader_runs.specs.Program.{ConstantTree, Fixed, NamedConstant, Constructed, Indexing}
-use Rattle.shader_runs.specs.Program.{Picking, Joining, ConstantTrees, no_constant, constant}
+use Rattle.shader_runs.specs.Program.{ConstantTree, Fixed, NamedConstant, Constructed}
+use Rattle.shader_runs.specs.Program.{ConstantTrees, no_constant, constant}
 
 abbrev mutual
   pub IsBuilt : ConstantTree → Type 0
   IsBuilt (Fixed v) = Unit {0}
   IsBuilt (NamedConstant i) = Unit {0}
   IsBuilt (Constructed w ty es) = AreBuilt es
-  IsBuilt (Indexing ty b i) = ⊥
-  IsBuilt (Picking x ty b) = ⊥
-  IsBuilt (Joining j ty l r) = ⊥
+  IsBuilt _ = ⊥
 
   pub AreBuilt : ConstantTrees → Type 0
   AreBuilt no_constant = Unit {0}

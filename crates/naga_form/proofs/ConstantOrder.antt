@@ -1,4 +1,4 @@
--- The named constants of an accepted module have an order in which each stands behind those that
+-- The named constants of an accepted module have an order in which each stands after those that
 -- its initialiser names: that of their initialisers among the module's own expressions.
 use Rattle.module_meaning.specs.Names.{TypesAreDistinguished}
 use Rattle.std.proofs.Common.{◌≡◌, ℕ, zero, suc, ◌<◌, ◌≤◌, Bool, true, false, List, [], ◌∷◌, refl, sym, ap, ◌∙◌, length, subst}
@@ -92,7 +92,7 @@ module _ (m : Module) (info : ModuleInfo) where
   before_more : (a b : ℕ) → a ≤ b → (t : ConstantTree) → EachLeaf AnyValue (Before a) t → EachLeaf AnyValue (Before b) t
   before_more a b le t are = leaves_follow (Before a) (Before b) (λ k before lt. let low = before lt in omega (arith, le, low)) t are
 
-  -- a constant's tree names none behind its initialiser
+  -- a constant's tree names none after its initialiser
   abbrev AreBefore : (ℕ → Option ConstantTree) → Type 0
   AreBefore written = (h : ℕ) (c : Constant) → slice_get m.constants h ≡ Some c → (t : ConstantTree) → written h ≡ Some t → EachLeaf AnyValue (Before (suc c.init)) t
 
@@ -154,7 +154,7 @@ module _ (m : Module) (info : ModuleInfo) where
         let rank : constant_rank (constant_number m h) ≡ c.init = ap (λ o. option_map_or (λ c. c.init) o 0) (named_at m.constants h c at named) in
         omega (arith, rank)
 
-    -- each of the module's own expressions names none behind it
+    -- each of the module's own expressions names none after it
     abbrev GlobalsBefore : (ℕ → Option ConstantTree) → Type 0
     GlobalsBefore global = (h : ℕ) (t : ConstantTree) → global h ≡ Some t → EachLeaf AnyValue (Before h) t
 

@@ -1,5 +1,5 @@
 -- The names that front ends gave: each is that of a label that stands in the list of a module's
--- labels behind those in front of it, so that no two places of this list have one name.
+-- labels after those in front of it, so that no two places of this list have one name.
 use Rattle.std.proofs.Common.{◌≡◌, ◌≢◌, ℕ, ◌<◌, zero, suc, Bool, true, false, List, [], ◌∷◌}
 use Rattle.std.proofs.Common.{◌++◌, length, take, Some, refl, sym, ap, subst, ◌∙◌, ◌||◌, arith}
 use Rattle.std.proofs.Common.{append_assoc, length-append}
@@ -36,7 +36,7 @@ split_at (x ∷ xs) (suc j) y e =
     let rest = split_at xs j y e in (rest.0, ap (λ t. x ∷ t) rest.1)
 
 -- ---- places of a list of labels
--- the label stands in the list, behind these
+-- the label stands in the list, after these
 pub record StandsBehind (labels earlier : List (List ℕ)) (label : List ℕ) : Type 0 where
   pub rest : List (List ℕ)
   pub all : labels ≡ earlier ++ label ∷ rest
@@ -76,7 +76,7 @@ module _ (labels : List (List ℕ)) where
       by (inr (inl lt)) = absurd (differ a x b y s t lt same)
       by (inr (inr lt)) = absurd (differ b y a x t s lt (sym same))
 
--- ---- labels behind those of the module's items
+-- ---- labels after those of the module's items
 module _ (m : Module) (later labels : List (List ℕ)) where
   abbrev earlier : List (List ℕ)
   earlier = item_labels m ++ later
@@ -134,7 +134,7 @@ module _ (m : Module) (later labels : List (List ℕ)) where
             ∙ sym (append_assoc earlier (take k labels) (label ∷ own.0));
       }
 
-  -- it is named behind these
+  -- it is named after these
   abbrev name : ℕ → List ℕ
   name k = name_of_label wgsl_names earlier labels k
 
@@ -188,7 +188,7 @@ module _ (m : Module) (later labels : List (List ℕ)) where
 
 -- ---- the names of the labels of a module's functions
 module _ (m : Module) where
-  -- those of one function, behind any that are named behind the labels of the module's items
+  -- those of one function, after any that are named after the labels of the module's items
   pub names_behind : (f : ir_function.Function) (later : List (List ℕ)) →
       AreLabelNamesOf m f (name_of_label wgsl_names (item_labels m ++ later) (expression_labels f))
   names_behind f later =
@@ -212,7 +212,7 @@ module _ (m : Module) where
       (name_of_label wgsl_names (item_labels m ++ later) (option_map_or expression_labels o [])))
       (sym found) (names_behind f later)
 
-  -- in a text of the whole module each function's labels are named behind those of the functions in
+  -- in a text of the whole module each function's labels are named after those of the functions in
   -- front of it
   pub expression_names_are : AreLabelNames m (expression_name m)
   unfolding expression_name
@@ -229,7 +229,7 @@ module _ (m : Module) where
   apart_elsewhere number g own other =
       ap (λ b. if b then own else expression_name m g) (ne_eqb g number other)
 
-  -- as those that are named behind any others
+  -- as those that are named after any others
   pub names_behind_are : (number : ℕ) (later : List (List ℕ)) →
       AreLabelNames m
       (named_apart m number

@@ -2,7 +2,7 @@
 use Rattle.std.proofs.Common.{arith, ◌≡◌, ℕ, ◌+◌, suc, List, ◌∷◌, Some, subst}
 use Rattle.std.specs.Prelude.{slice_get}
 
--- the items of a list from its place on, and what is left behind the first of them
+-- the items of a list from its place on, and what is left after the first of them
 pub further : {X : Type 0} (all : List X) (start : ℕ) (x : X) (xs : List X) →
     ((i : ℕ) (y : X) → slice_get (x ∷ xs) i ≡ Some y → slice_get all (start + i) ≡ Some y) →
     (i : ℕ) (y : X) → slice_get xs i ≡ Some y → slice_get all ((start + 1) + i) ≡ Some y

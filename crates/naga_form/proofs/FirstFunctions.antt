@@ -102,7 +102,7 @@ module _ (m : Module) (info : ModuleInfo) (accepted : IsTrue (is_accepted m info
       sym (first_numbered (others count) (first_shapes count) g lt) ∙ all g (omega (arith, lt, joined))
 
   module _ (flags : WriterFlags) (named : LabelNames) (are : AreLabelNames m named) where
-    -- ---- one function, behind those before it
+    -- ---- one function, after those before it
     left_at : {told : Bool} (g : ℕ) (f : ir_function.Function) (es : List ExpressionInfo) →
         slice_get known g ≡ Some (f, es) → WrittenHaveFormsAt told m info g →
         ScopeHoldsIn m info g → (callees : List shapes.Function) → length callees ≡ g →
@@ -144,7 +144,7 @@ module _ (m : Module) (info : ModuleInfo) (accepted : IsTrue (is_accepted m info
     -- ---- the first ones, whose `let`s may have types without forms
     module _ (count : ℕ) (forms_before : WrittenHaveFormsBefore false m info count)
         (scopes_before : ScopesHoldBefore m info count) where
-      -- those from a number on, behind the others
+      -- those from a number on, after the others
       fit_behind : (g : ℕ) (ks : List (ir_function.Function × List ExpressionInfo)) →
           ((i : ℕ) (k : ir_function.Function × List ExpressionInfo) → slice_get ks i ≡ Some k →
           (g + i < count) × (slice_get known (g + i) ≡ Some k)) →

@@ -7,9 +7,8 @@ use Rattle.std.specs.Prelude.{IsTrue}
 use Rattle.std.specs.Option.{option_map_or}
 use Rattle.std.proofs.lemmas.Bool.{and_parts, ltb-true}
 use Rattle.naga_ir.specs.Operands.{simple_result}
-use Rattle.naga_ir.specs.StatementTree.{SimpleStatement, store, atomic, work_group_uniform_load, call}
-use Rattle.naga_ir.specs.StatementTree.{subgroup_ballot, subgroup_gather}
-use Rattle.naga_ir.specs.StatementTree.{subgroup_collective_operation, StatementTree}
+use Rattle.naga_ir.specs.StatementTree.{SimpleStatement, store, call}
+use Rattle.naga_ir.specs.StatementTree.{StatementTree}
 use Rattle.naga_ir.specs.StatementTree.{simple, block, branch, switch, loop, BlockTree}
 use Rattle.naga_ir.specs.StatementTree.{no_statements, statement, has_no_statements, CaseTrees}
 use Rattle.naga_ir.specs.StatementTree.{no_cases, case}
@@ -18,8 +17,8 @@ use Rattle.naga_ir.specs.declared.module.Module.{Module}
 use Rattle.naga_info.specs.declared.info.TypeResolution.{TypeResolution}
 use Rattle.module_meaning.specs.ExpressionOperators.{ExpressionContext, is_atomic_pointer}
 use Rattle.module_meaning.specs.Numbers.{label_fits_32_bits}
-use Rattle.module_meaning.specs.Ranges.{all_below, atomic_in_range, block_in_range, cases_in_range}
-use Rattle.module_meaning.specs.Ranges.{gather_in_range, is_below, simple_in_range}
+use Rattle.module_meaning.specs.Ranges.{block_in_range, cases_in_range}
+use Rattle.module_meaning.specs.Ranges.{is_below, simple_in_range}
 use Rattle.module_meaning.specs.Ranges.{statement_in_range}
 use Rattle.module_meaning.specs.StatementForms.{block_has_forms, cases_have_forms, simple_has_form}
 use Rattle.module_meaning.specs.StatementForms.{statement_has_form}
@@ -36,6 +35,7 @@ use Rattle.wgsl_text.specs.Words.{IsIdentifier}
 use Rattle.module_meaning.specs.OperatorTable.{Operator, AtomicStore, has_word, is_untyped}
 use Rattle.naga_form.proofs.CalledWords.{is_called, word_is_called}
 use Rattle.naga_form.proofs.Switches.{HasOneDefault, has_one_default}
+use Rattle.module_meaning.proofs.StatementRanges.{result_below}
 
 -- ---- statements without blocks
 -- the name to which a result is bound is an identifier
@@ -69,32 +69,13 @@ abbrev mutual
 module _ (n : Naming) (a : ExpressionContext) (callees expressions : ℕ)
     (functions : (g : ℕ) → g < callees → IsIdentifier (n.names.outer.function g))
     (numbered : (h : ℕ) → h < expressions → IsIdentifier (n.names.numbered h)) where
-  result_is : (h : ℕ) → nat_lt h expressions ≡ true → ResultIs n (Some h)
-  result_is h within = numbered h (ltb-true h expressions within)
-
   result_if : (outcome : Option ℕ) → is_below expressions outcome ≡ true → ResultIs n outcome
   result_if None within = tt
-  result_if (Some h) within = result_is h within
+  result_if (Some h) within = numbered h (ltb-true h expressions within)
 
   result_fits : (s : SimpleStatement) → simple_in_range callees expressions s ≡ true →
       ResultIs n (simple_result s)
-  result_fits (atomic pointer fun value outcome) within =
-      let one = and_parts (nat_lt pointer expressions) _ within in
-      let two = and_parts (atomic_in_range expressions fun) _ one.1 in
-      result_if outcome (and_parts (nat_lt value expressions) (is_below expressions outcome) two.1).1
-  result_fits (work_group_uniform_load pointer outcome) within =
-      result_is outcome (and_parts (nat_lt pointer expressions) (nat_lt outcome expressions) within).1
-  result_fits (call function arguments outcome) within =
-      let one = and_parts (nat_lt function callees) _ within in
-      result_if outcome (and_parts (all_below expressions arguments) (is_below expressions outcome) one.1).1
-  result_fits (subgroup_ballot outcome predicate) within =
-      result_is outcome (and_parts (nat_lt outcome expressions) (is_below expressions predicate) within).0
-  result_fits (subgroup_gather mode argument outcome) within =
-      let one = and_parts (gather_in_range expressions mode) _ within in
-      result_is outcome (and_parts (nat_lt argument expressions) (nat_lt outcome expressions) one.1).1
-  result_fits (subgroup_collective_operation op how argument outcome) within =
-      result_is outcome (and_parts (nat_lt argument expressions) (nat_lt outcome expressions) within).1
-  result_fits _ within = tt
+  result_fits s within = result_if (simple_result s) (result_below callees expressions s within)
 
   -- an act that asks for an operator
   own_fits : (s : SimpleStatement) (o : Option Operator) →

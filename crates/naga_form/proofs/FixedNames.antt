@@ -66,9 +66,7 @@ names_in m g named = inner_names (module_names m) m named g
 pub fixed_named : (m : Module) (g : ℕ) (named : ℕ → List ℕ) (x : FixedName) →
     fixed_name (names_in m g named) x ≡ name_in (module_names m) (fixed_key m g x)
 fixed_named m g named (ArgumentName n) = refl
-fixed_named m g named (LocalName l) = refl
-fixed_named m g named (ConstantName i) = refl
-fixed_named m g named (GlobalName v) = refl
+fixed_named m g named _ = refl
 
 one_variable : (u v : ℕ) → key.GlobalVariable u ≡ key.GlobalVariable v → u ≡ v
 one_variable u v e = cc

@@ -69,7 +69,7 @@ module _ (m : ir_module.Module) (info : ModuleInfo) (accepted : IsTrue (is_accep
   abbrev pub namings : List Naming
   namings = free_naming free_request program.functions
 
-  -- ---- one function, behind these, whatever its body is
+  -- ---- one function, after these, whatever its body is
   module _ (k : ℕ) (f : ir_function.Function) (es : List ExpressionInfo)
       (at : slice_get (functions_known m info) k ≡ Some (f, es)) (q : shapes.Module)
       (body : shapes.Statements) where
@@ -96,7 +96,7 @@ module _ (m : ir_module.Module) (info : ModuleInfo) (accepted : IsTrue (is_accep
         (omega arith)
         (worded_at m info accepted k f es at q body own.names true (omega arith) all_ask refl)
 
-  -- so many callees of the module stand behind it, and so they do with their cases unfolded
+  -- so many callees of the module stand after it, and so they do with their cases unfolded
   all_behind : (k : ℕ) (f : ir_function.Function) (es : List ExpressionInfo)
       (at : slice_get (functions_known m info) k ≡ Some (f, es)) (callees : List shapes.Function) →
       length callees ≡ k → Tells (shape_numbered m info accepted) callees →
@@ -177,7 +177,7 @@ module _ (m : ir_module.Module) (info : ModuleInfo) (accepted : IsTrue (is_accep
       (free_constants_distinct free_request program)
 
   -- ---- functions, with their cases unfolded
-  -- named freely behind these, and its scope holds
+  -- named freely after these, and its scope holds
   abbrev IsLeftlyNamed : List shapes.Function → Naming → Type 0
   IsLeftlyNamed callees f =
       (f.names ≡ free_within free_request (length callees)) × ScopeHolds f.function

@@ -1,5 +1,5 @@
 -- Names that stand free of every word of a program of shapes: each begins with the number 1, with
--- which no word of an operator, of a request or of a type begins, and behind it are the kind of the
+-- which no word of an operator, of a request or of a type begins, and after it are the kind of the
 -- item and its number. What is proved of a module's run under some names holds under these, and
 -- what is said of the run alone holds whatever the names of the module's text are.
 use Rattle.std.proofs.Common.{◌≡◌, ◌≢◌, ℕ, ◌<◌, Bool, true, false, List, [], ◌∷◌, length, refl, sym, ap, ◌∙◌}
@@ -32,7 +32,7 @@ free_names asks = record {
   vocabulary = record { is_request = asks; is_operator = λ word. true };
 }
 
--- the names in a function behind so many others
+-- the names in a function after so many others
 abbrev pub free_within : (asks : Bytes → Bool) → (earlier : ℕ) → Names
 free_within asks earlier = record {
   outer = free_names asks;
@@ -47,7 +47,7 @@ free_within asks earlier = record {
 abbrev pub freely_named : (asks : Bytes → Bool) → (earlier : ℕ) → Function → Naming
 freely_named asks earlier f = record { function = f; names = free_within asks earlier }
 
--- functions, each behind those that follow in the list
+-- functions, each after those that follow in the list
 abbrev pub free_naming : (asks : Bytes → Bool) → List Function → List Naming
 free_naming asks [] = []
 free_naming asks (f ∷ fs) = freely_named asks (length fs) f ∷ free_naming asks fs
@@ -74,11 +74,7 @@ key_of w = key_numbered (get_or w 1 0) (number_of w)
 
 key_distinguished : (asks : Bytes → Bool) (earlier : ℕ) (a : NameKey) → key_of (name_at (free_within asks earlier) a) ≡ a
 key_distinguished asks earlier (FixedKey (ArgumentName i)) = refl
-key_distinguished asks earlier (FixedKey (LocalName i)) = refl
-key_distinguished asks earlier (FixedKey (ConstantName i)) = refl
-key_distinguished asks earlier (FixedKey (GlobalName i)) = refl
-key_distinguished asks earlier (NumberedKey h) = refl
-key_distinguished asks earlier (NamedKey k) = refl
+key_distinguished asks earlier _ = refl
 
 pub free_distinct : (asks : Bytes → Bool) (p : Module) (earlier : ℕ) (f : Function) → AreDistinct p (freely_named asks earlier f)
 free_distinct asks p earlier f a b is_a is_b e = sym (key_distinguished asks earlier a) ∙ (ap key_of e ∙ key_distinguished asks earlier b)
@@ -95,11 +91,7 @@ free_constants_distinct asks p i k li lk e = ap number_of e
 -- every name begins so
 all_begin_free : (asks : Bytes → Bool) (earlier : ℕ) (a : NameKey) → begins_free (name_at (free_within asks earlier) a) ≡ true
 all_begin_free asks earlier (FixedKey (ArgumentName i)) = refl
-all_begin_free asks earlier (FixedKey (LocalName i)) = refl
-all_begin_free asks earlier (FixedKey (ConstantName i)) = refl
-all_begin_free asks earlier (FixedKey (GlobalName i)) = refl
-all_begin_free asks earlier (NumberedKey h) = refl
-all_begin_free asks earlier (NamedKey k) = refl
+all_begin_free asks earlier _ = refl
 
 -- what begins otherwise is no such name
 apart : (v w : Bytes) → begins_free v ≡ true → begins_free w ≡ false → v ≢ w
@@ -120,11 +112,7 @@ is_functions w = nat_eq (kind_in w) 2
 
 none_is_functions : (asks : Bytes → Bool) (earlier : ℕ) (a : NameKey) → is_functions (name_at (free_within asks earlier) a) ≡ false
 none_is_functions asks earlier (FixedKey (ArgumentName i)) = refl
-none_is_functions asks earlier (FixedKey (LocalName i)) = refl
-none_is_functions asks earlier (FixedKey (ConstantName i)) = refl
-none_is_functions asks earlier (FixedKey (GlobalName i)) = refl
-none_is_functions asks earlier (NumberedKey h) = refl
-none_is_functions asks earlier (NamedKey k) = refl
+none_is_functions asks earlier _ = refl
 
 pub function_not_hidden : (asks : Bytes → Bool) (p : Module) (earlier : ℕ) (f : Function) (g : ℕ) → IsNoName p (freely_named asks earlier f) ((free_names asks).function g)
 function_not_hidden asks p earlier f g a is e = true≢false (sym (ap is_functions e) ∙ none_is_functions asks earlier a)

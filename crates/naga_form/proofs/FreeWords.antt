@@ -10,7 +10,7 @@ use Rattle.wgsl_text.specs.Requests.{is_request, head_word}
 use Rattle.wgsl_text.specs.Words.{is_word_text}
 use Rattle.module_meaning.specs.OperatorTable.{Operator, CooperativeLoad}
 use Rattle.module_meaning.specs.OperatorTable.{Construct, Convert, Reinterpret, WithoutForm, Formless}
-use Rattle.module_meaning.specs.OperatorTable.{Cast, PartAt, ValueOf, MatrixLoad, with_type, run_word}
+use Rattle.module_meaning.specs.OperatorTable.{Cast, with_type, run_word}
 use Rattle.module_meaning.specs.OperatorTable.{one_word, asks, is_untyped, SpellsAType, TypeIsSound}
 use Rattle.module_meaning.specs.OperatorTable.{formless_word, formless_asks}
 use Rattle.naga_form.proofs.FreeNames.{begins_free}
@@ -108,15 +108,11 @@ spelling_is_distinguished w is =
 formless_distinguished : (x : Formless) → free_request (formless_word x) ≡ formless_asks x
 unfolding free_request is_request
 formless_distinguished (Cast kind width) = refl
-formless_distinguished (PartAt index) = refl
-formless_distinguished (ValueOf numbers components) = refl
-formless_distinguished (MatrixLoad columns rows role row_major) = refl
+formless_distinguished _ = refl
 
 formless_is_free : (x : Formless) → begins_free (formless_word x) ≡ false
 formless_is_free (Cast kind width) = refl
-formless_is_free (PartAt index) = refl
-formless_is_free (ValueOf numbers components) = refl
-formless_is_free (MatrixLoad columns rows role row_major) = refl
+formless_is_free _ = refl
 
 typed_is_distinguished : (o : Operator) → is_untyped o ≡ false → TypeIsSound o →
     WordIsDistinguished o

@@ -100,7 +100,7 @@ pub record IsFree (all : Bool) (p : shapes.Module) (n : ModuleNames) (callees : 
   pub distinct : AreDistinct p f
   pub scope : IsTrue (fits_function f)
 
--- each function behind those before it
+-- each function after those before it
 abbrev pub AllBehind : (List shapes.Function → Naming → Type 0) → List Naming → Type 0
 AllBehind L [] = Unit {0}
 AllBehind L (f ∷ fs) = L (functions_of fs) f × AllBehind L fs
@@ -137,7 +137,7 @@ module _ (m : Module) (info : ModuleInfo) (accepted : IsTrue (is_accepted m info
         );
   }
 
-  -- ---- one function, behind those before it, in any module and whatever its body is
+  -- ---- one function, after those before it, in any module and whatever its body is
   module _ (k : ℕ) (f : Function) (es : List ExpressionInfo)
       (at : slice_get (functions_known m info) k ≡ Some (f, es)) (q : shapes.Module)
       (body : shapes.Statements) (names : Names) where

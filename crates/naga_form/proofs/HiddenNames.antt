@@ -2,7 +2,7 @@
 -- mean the same in each function.
 --
 -- Throughout, m is a module, of which info is known, w is a word, f a function with the number g, of
--- whose expressions es is known, i an index, behind are functions, and labels tells the names of the
+-- whose expressions es is known, i an index, after are functions, and labels tells the names of the
 -- labels that front ends gave.
 use Rattle.std.proofs.Common.{◌≡◌, ◌≢◌, ⊎_elim, ℕ, ◌+◌, ◌<◌, Bool, true, false, List, [], ◌∷◌, ◌++◌}
 use Rattle.std.proofs.Common.{Some, refl, sym, ap, subst, ◌∙◌, arith, length, map, slice_get}
@@ -147,7 +147,7 @@ module _ (m : Module) (info : ModuleInfo) (flags : WriterFlags) (labels : LabelN
         (is_in_no_type program) arguments locals
         (λ h. free_if (numbered_name h) (λ item s is. item_not_numbered m item h s)) named
 
-  -- each behind those before it
+  -- each after those before it
   pub functions_hide_none : AreLabelNames m labels → (g : ℕ) (fs : List ir_function.Function)
       (ess : List (List ExpressionInfo)) →
       ((i : ℕ) (f : ir_function.Function) → slice_get fs i ≡ Some f →

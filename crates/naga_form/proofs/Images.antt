@@ -139,7 +139,7 @@ module _ (operand : ℕ → PlainForm) (like : ℕ → runs.Plain) (outer : Modu
   operands_read [] same args = refl
   operands_read (h ∷ hs) same args = λ i. more (same.0 i) (operands_read hs same.1 args i)
 
-  -- level zero, where it is written, and an offset are the constants behind the operands
+  -- level zero, where it is written, and an offset are the constants after the operands
   behind_read : (l : SampleLevel) (unwritten whole : Bool) (offset : List Expression)
       (c : Option ConstantTree) →
       arguments_read (operands offset) ≡ constant_forms outer (trees (option_to_list c)) →
@@ -193,13 +193,11 @@ each_both (e ∷ es) offset are all = (are.0, each_both es offset are.1 all)
 
 low : (c : SwizzleComponent) → component_number c < 4
 low component.X = omega arith
-low component.Y = omega arith
-low component.Z = omega arith
-low component.W = omega arith
+low _ = omega arith
 
 module _ (e : Expression) (es offset : List Expression) (are : Each IsExpression (e ∷ es))
     (last : Each IsExpression offset) where
-  -- a word with operands, and behind them an offset
+  -- a word with operands, and after them an offset
   plain_is : (w : List ℕ) → IsCallee (Named w) →
       IsExpression (Call (Named w) (operands_then (e ∷ es) (operands offset)))
   plain_is w callee =

@@ -32,7 +32,7 @@ use Rattle.shader_runs.specs.Value.{OtherType}
 use Rattle.wgsl_text.specs.Expressions.{Name}
 use Rattle.wgsl_text.specs.Reading.{expression_layout}
 
--- Each has the type with its handle; the type behind them is that of the variable `data`.
+-- Each has the type with its handle; the type after them is that of the variable `data`.
 abbrev types : List Type_
 types = map (λ it. record { name = None; inner = it }) (
     inner.Scalar (record { kind = kind.Sint; width = 4 }) ∷

@@ -48,21 +48,15 @@ word_of w text has = record { text = text; free = not_reserved w has }
 
 byte_is : (c : SwizzleComponent) → is_component (byte c) ≡ true
 byte_is component.X = refl
-byte_is component.Y = refl
-byte_is component.Z = refl
-byte_is component.W = refl
+byte_is _ = refl
 
 letter_byte : (c : SwizzleComponent) → is_letter (byte c) ≡ true
 letter_byte component.X = refl
-letter_byte component.Y = refl
-letter_byte component.Z = refl
-letter_byte component.W = refl
+letter_byte _ = refl
 
 word_byte : (c : SwizzleComponent) → is_word_byte (byte c) ≡ true
 word_byte component.X = refl
-word_byte component.Y = refl
-word_byte component.Z = refl
-word_byte component.W = refl
+word_byte _ = refl
 
 letters_bytes : (cs : List SwizzleComponent) → flat_map letter cs ≡ map byte cs
 letters_bytes [] = refl

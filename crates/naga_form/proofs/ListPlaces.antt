@@ -15,7 +15,7 @@ use Rattle.naga_info.proofs.Options.{map_some}
 use Rattle.text_meaning.specs.Resolution.{place_among}
 
 -- ---- words
--- what is found behind a word
+-- what is found after a word
 abbrev found_behind : List ℕ → (is_first : Bool) → List (List ℕ) → Option ℕ
 found_behind w is_first xs =
     if is_first then Some 0 else option_map (λ i. suc i) (place_among w xs)
@@ -109,7 +109,7 @@ module _ {X Y : Type 0} (test : X → Bool) (form : X → Y) where
   abbrev pub formed_if : X → Option Y
   formed_if x = if test x then Some (form x) else None
 
-  -- an item that passes stands behind those before it that do
+  -- an item that passes stands after those before it that do
   pub formed_at : (xs : List X) (k : ℕ) (x : X) → slice_get xs k ≡ Some x → test x ≡ true →
       slice_get (filter_map formed_if xs) (length (filter test (take k xs))) ≡ Some (form x)
   formed_at [] k x at is = absurd cc

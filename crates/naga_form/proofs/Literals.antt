@@ -176,20 +176,7 @@ literal_distinguished _ = refl
 
 value_with_bits : (v : Literal) → literal_value (with_bits v) ≡ literal_value v
 value_with_bits (literal.F64 bits) = refl
-value_with_bits (literal.F32 bits) = refl
-value_with_bits (literal.F16 bits) = refl
-value_with_bits (literal.DecimalF64 numeral) = refl
-value_with_bits (literal.DecimalF32 numeral) = refl
-value_with_bits (literal.DecimalF16 numeral) = refl
-value_with_bits (literal.U16 value) = refl
-value_with_bits (literal.I16 value) = refl
-value_with_bits (literal.U32 value) = refl
-value_with_bits (literal.I32 value) = refl
-value_with_bits (literal.U64 value) = refl
-value_with_bits (literal.I64 value) = refl
-value_with_bits (literal.Bool value) = refl
-value_with_bits (literal.AbstractInt value) = refl
-value_with_bits (literal.AbstractFloat bits) = refl
+value_with_bits _ = refl
 
 pub values_apart : (a b : Literal) → (literal_value a ≡ literal_value b) ↔ (with_bits a ≡ with_bits b)
 values_apart a b = (

@@ -52,11 +52,7 @@ module _ (m : ir_module.Module) where
     -- what has truth values is `bool`: its numbers are those of `bool`
     boolean_kind : (k : ScalarKind) → kind_number k ≡ 3 → k ≡ kind.Bool
     boolean_kind kind.Bool is = refl
-    boolean_kind kind.Sint is = absurd (omega (arith, is))
-    boolean_kind kind.Uint is = absurd (omega (arith, is))
-    boolean_kind kind.Float is = absurd (omega (arith, is))
-    boolean_kind kind.AbstractInt is = absurd (omega (arith, is))
-    boolean_kind kind.AbstractFloat is = absurd (omega (arith, is))
+    boolean_kind _ is = absurd (omega (arith, is))
 
     boolean_scalar : (r : TypeResolution) (s : Scalar) → inner_of r m.types ≡ Some (inner.Scalar s) → IsFit m r → type_of_values m r ≡ BooleanType → is_bool_of s.kind s.width ≡ true
     boolean_scalar r s at fit values =

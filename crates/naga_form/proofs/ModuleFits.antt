@@ -105,7 +105,7 @@ module _ (m : Module) (info : ModuleInfo) (accepted : IsTrue (is_accepted m info
   }
 
   module _ (named : LabelNames) (are : AreLabelNames m named) where
-    -- nothing is left of each function, behind those before it
+    -- nothing is left of each function, after those before it
     all_free : (g : ℕ) (fs : List ir_function.Function) (ess : List (List ExpressionInfo)) →
         ((i : ℕ) (f : ir_function.Function) → slice_get fs i ≡ Some f →
         slice_get (all_functions m) (g + i) ≡ Some f) →

@@ -29,7 +29,7 @@ use Rattle.shader_runs.specs.Value.{ValueType, BooleanType, type_at}
 abbrev pub is_named : Constant → Bool
 is_named c = is_some c.name
 
--- a constant with a name stands behind the named ones before it
+-- a constant with a name stands after the named ones before it
 pub named_at : (cs : List Constant) (h : ℕ) (c : Constant) → slice_get cs h ≡ Some c → is_named c ≡ true →
     slice_get (filter is_named cs) (named_count (take h cs)) ≡ Some c
 named_at [] h c here named = absurd cc
@@ -188,7 +188,7 @@ override_numbered names m o =
     (slice_get_past (named_handles 0 m.constants) (n + o) past)
     ∙ ap (λ k. name_in names (key.Override k)) back
 
--- an item of a list of types in front of others, and one of those behind
+-- an item of a list of types in front of others, and one of those after
 left_type : (xs ys : List ValueType) (i : ℕ) (x : ValueType) → slice_get xs i ≡ Some x → type_at (xs ++ ys) i ≡ x
 left_type xs ys i x here = get_or_append_left xs ys BooleanType i (slice_get_within xs i x here) ∙ get_or_from_slice_get xs i x BooleanType here
 

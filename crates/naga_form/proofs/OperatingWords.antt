@@ -8,7 +8,7 @@ use Rattle.std.specs.Option.{option_map_or}
 use Rattle.std.proofs.lemmas.Bool.{and_from, and_parts, eqb-true, false≢true, not-true, or_parts}
 use Rattle.module_meaning.specs.OperatorTable.{Operator, UnarySign, Texel, OnlyTexel, TexelChange}
 use Rattle.module_meaning.specs.OperatorTable.{Collective, RayStep, run_word, with_type, Formless}
-use Rattle.module_meaning.specs.OperatorTable.{Cast, PartAt, ValueOf, MatrixLoad, WithoutForm}
+use Rattle.module_meaning.specs.OperatorTable.{MatrixLoad, WithoutForm}
 use Rattle.module_meaning.specs.OperatorTable.{CooperativeLoad, formless_asks, asks, is_untyped}
 use Rattle.module_meaning.specs.OperatorTable.{one_word}
 use Rattle.module_meaning.specs.ExpressionOperators.{ExpressionContext, matrix_load}
@@ -63,14 +63,12 @@ pub bits_free : (word : List ℕ) → operates_freely (with_type (codes "bitcast
 unfolding is_request is_built_in is_builtin builtin_words
 bits_free word = refl
 
--- what stands for what has no form: a blank, and behind it no blank
+-- what stands for what has no form: a blank, and after it no blank
 pub formless_free : (what : Formless) → formless_asks what ≡ false →
     operates_freely (run_word (WithoutForm what)) ≡ true
 unfolding is_request is_built_in is_builtin builtin_words
-formless_free (Cast kind width) silent = refl
-formless_free (PartAt index) silent = refl
-formless_free (ValueOf numbers components) silent = refl
 formless_free (MatrixLoad columns rows role row_major) silent = absurd cc
+formless_free _ silent = refl
 
 -- as are the loads of matrices, which ask
 load_among_free : (columns rows : CooperativeSize) (role : CooperativeRole) (row_major : Bool)

@@ -77,29 +77,12 @@ use Rattle.wgsl_words.specs.Words.{operator_text, unary_text}
 
 pub operator_row : (op : BinaryOperator) → operator_text op ≡ text (binary_pieces (operator_form op))
 operator_row operator.Add = refl
-operator_row operator.Subtract = refl
-operator_row operator.Multiply = refl
-operator_row operator.Divide = refl
-operator_row operator.Modulo = refl
-operator_row operator.Equal = refl
-operator_row operator.NotEqual = refl
-operator_row operator.Less = refl
-operator_row operator.LessEqual = refl
-operator_row operator.Greater = refl
-operator_row operator.GreaterEqual = refl
-operator_row operator.And = refl
-operator_row operator.ExclusiveOr = refl
-operator_row operator.InclusiveOr = refl
-operator_row operator.LogicalAnd = refl
-operator_row operator.LogicalOr = refl
-operator_row operator.ShiftLeft = refl
-operator_row operator.ShiftRight = refl
+operator_row _ = refl
 
 -- what stands before one
 pub unary_row : (op : UnaryOperator) → unary_text op ≡ mark_text (unary_mark (unary_form op))
 unary_row unary.Negate = refl
-unary_row unary.LogicalNot = refl
-unary_row unary.BitwiseNot = refl
+unary_row _ = refl
 
 -- the type by which an operator is called, if it is called by one, is spelled by the operator's word
 abbrev pub Spells : Option TypeSpecifier → Operator → Type 0
@@ -282,7 +265,7 @@ module _ (operand : ℕ → PlainForm) (like : ℕ → runs.Plain) where
   operator_read n type op spelled hs same =
       ap runs.AsValue (called_read type op spelled hs same)
 
-  -- no constants behind the operands
+  -- no constants after the operands
   none_behind : (hs : List ℕ) → runs.value_forms like hs ≡ runs.value_forms_then like hs no_more
   none_behind [] = refl
   none_behind (h ∷ hs) = ap (more (runs.value_form (like h))) (none_behind hs)
@@ -437,9 +420,7 @@ load_callee true t is = called_words.taking_type (codes "coopLoadT") t refl is
 
 pub query_is_called : (query : ImageQuery) → IsCalled (query_operator query)
 query_is_called (query.Size level) type = refl
-query_is_called query.NumLevels type = refl
-query_is_called query.NumLayers type = refl
-query_is_called query.NumSamples type = refl
+query_is_called _ type = refl
 
 -- so may the load of an atomic
 pub load_notated : (a : ExpressionContext) (pointer : ℕ) →

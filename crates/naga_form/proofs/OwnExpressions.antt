@@ -40,7 +40,7 @@ HasTree o = (t : ConstantTree) × (o ≡ Some t)
 
 module _ (m : Module) (info : ModuleInfo) where
   module _ (accepted : IsTrue (is_accepted m info)) where
-    -- ---- the module's own expressions stand behind the initialisers that they name
+    -- ---- the module's own expressions stand after the initialisers that they name
     ranges : module_ranges_fit m info ≡ true
     unfolding is_accepted
     ranges = (and_parts (module_ranges_fit m info) (module_is_sound m info && module_operators_agree m info) accepted).0

@@ -270,9 +270,7 @@ module _ (m : ir_module.Module) (info : ModuleInfo) (accepted : IsTrue (is_accep
 
     no_query : (q : ImageQuery) → IsNoSign (Some (query_operator q))
     no_query (query.Size level) = tt
-    no_query query.NumLevels = tt
-    no_query query.NumLayers = tt
-    no_query query.NumSamples = tt
+    no_query _ = tt
 
     sign_fits : (op : BinaryOperator) (left right : ℕ) →
         slice_get function.expressions h ≡ Some (expression.Binary op left right) →

@@ -29,7 +29,7 @@ use Rattle.wgsl_words.specs.Words.{space_access_word, space_word}
 use Rattle.shader_runs.specs.Form as runs
 use Rattle.shader_runs.specs.Form.{constants_from, globals_from, names_from}
 use Rattle.shader_runs.specs.Program as shapes
-use Rattle.shader_runs.specs.Program.{AtPlace, Fixed, Held, pointer_to}
+use Rattle.shader_runs.specs.Program.{AtPlace, Held, pointer_to}
 use Rattle.shader_runs.specs.Scope.{ModuleNames}
 use Rattle.shader_runs.specs.Text.{ModuleVariable, TextConstant}
 use Rattle.text_meaning.specs.Abstraction.{constant_read, expression_read, global_pointer_read}

@@ -112,7 +112,7 @@ module _ (d : Declared) (es : List ir.Expression) (h : ℕ) where
   subgroup_result _ is = absurd cc
 
 -- ---- callees
--- so many functions of the module stand behind, each with its shape, but perhaps another body
+-- so many functions of the module stand after, each with its shape, but perhaps another body
 pub record StandBehind (m : Module) (info : ModuleInfo) (count : ℕ) (callees : List shapes.Function) :
     Type 0 where
   pub shape_of_callee : (g : ℕ) (f : Function) → g < count → slice_get m.functions g ≡ Some f →

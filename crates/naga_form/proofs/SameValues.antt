@@ -416,9 +416,7 @@ module _ (m : Module) (are : TypesAreCounted m) where
           (Some (inner.Image dim arrayed (class.Sampled kind multi))) w
       by true = refl
       by false = refl
-  image_tag dim arrayed (class.Depth multi) w = refl
-  image_tag dim arrayed (class.Storage format access) w = refl
-  image_tag dim arrayed class.External w = refl
+  image_tag dim arrayed _ w = refl
 
   inner_tag : (f : ℕ → Option (List ℕ)) (it : TypeInner) → IsOfTag (inner_key_by f it) it
   inner_tag f (inner.Scalar s) w = over_tag 0 s 0 0 0 (inner.Scalar s) (scalar_of_number s.kind) w
@@ -436,11 +434,8 @@ module _ (m : Module) (are : TypesAreCounted m) where
       by false = mapped_tag (λ it. level 5 (space_number at) (access_number at) 0 0 0 ++ it) (inner.ValuePointer n s at) w (λ x. refl) (value_key n s)
   inner_tag f (inner.Array base n stride) w = mapped_tag (λ it. level 6 (length_kind n) (length_number n) 0 0 0 ++ it) (inner.Array base n stride) w (λ x. refl) (f base)
   inner_tag f (inner.BindingArray base n) w = mapped_tag (λ it. level 7 (length_kind n) (length_number n) 0 0 0 ++ it) (inner.BindingArray base n) w (λ x. refl) (f base)
-  inner_tag f (inner.Struct members span) w = refl
   inner_tag f (inner.Image dim arrayed c) w = image_tag dim arrayed c w
-  inner_tag f (inner.Sampler comparison) w = refl
-  inner_tag f (inner.AccelerationStructure vertex_return) w = refl
-  inner_tag f (inner.RayQuery vertex_return) w = refl
+  inner_tag f _ w = refl
 
   abbrev ValuesAre : Option (List ℕ) → Option TypeInner → Type 0
   ValuesAre form o = (w : List ℕ) → option_map_or (λ it. values_of it w) o (OtherType w) ≡ values_by_form form o w

@@ -48,7 +48,7 @@ use Rattle.naga_form.proofs.TreeWords.{constant_words, initialiser_words, levels
 use Rattle.naga_form.proofs.TreeWords.{or_false_words, written_words, zero_words}
 
 -- ---- expressions
--- in a function of a program of shapes, behind so many others
+-- in a function of a program of shapes, after so many others
 module _ (m : Module) (info : ModuleInfo) (are : TypesAreCounted m) (p : shapes.Module) (f : shapes.Function) (earlier : ℕ) where
   abbrev own : Naming
   own = freely_named free_request earlier f

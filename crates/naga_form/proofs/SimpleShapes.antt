@@ -7,7 +7,7 @@ use Rattle.module_meaning.specs.ExpressionOperators.{ExpressionContext, is_atomi
 use Rattle.module_meaning.specs.StatementShapes.{simple_shape, store_shape}
 use Rattle.module_meaning.specs.Written.{simple_roots}
 use Rattle.shader_runs.specs.Program.{Statement, Emit, Store, Block, If, Switch, Loop, Return, Act}
-use Rattle.shader_runs.specs.Program.{from}
+use Rattle.shader_runs.specs.Program.{from, Jumps}
 
 -- no statements stand in it
 abbrev pub has_no_blocks : Statement → Bool
@@ -29,7 +29,7 @@ no_blocks a _ = refl
 abbrev pub shape_roots : (binds : ℕ → Bool) → Statement → List ℕ
 shape_roots binds (Emit first count) = filter binds (from first count)
 shape_roots binds (Store p v) = p ∷ v ∷ []
-shape_roots binds (Return v) = option_to_list v
+shape_roots binds (Jumps (Return v)) = option_to_list v
 shape_roots binds (Act action xs outcome) = xs
 shape_roots binds _ = []
 

@@ -82,8 +82,6 @@ module _ (names : NameMap) (find : Lookup) (count : ℕ) (found : (v : ℕ) → 
 
   stage_named : (e : EntryPoint) → AreWithin e → (s : ShaderStage) →
       AreNamed (stage_attributes names e s) (stage_variables e s)
-  stage_named e within stage.Vertex = refl
-  stage_named e within stage.Fragment = refl
   stage_named e within stage.Compute = sizes_named e.workgroup_size
   stage_named e within stage.Mesh =
       joined (attribute_of (λ k. Worded Mesh (global_name names k.output_variable)) e.mesh_info)
@@ -99,10 +97,10 @@ module _ (names : NameMap) (find : Lookup) (count : ℕ) (found : (v : ℕ) → 
       (joined (payload_attributes names e) (size_attributes e.workgroup_size)
       (option_to_list e.task_payload) [] (payload_named e.task_payload within.1)
       (sizes_named e.workgroup_size))
-  stage_named e within stage.RayGeneration = refl
   stage_named e within stage.AnyHit = incoming_named e.incoming_ray_payload within.2
   stage_named e within stage.ClosestHit = incoming_named e.incoming_ray_payload within.2
   stage_named e within stage.Miss = incoming_named e.incoming_ray_payload within.2
+  stage_named e within _ = refl
 
   -- so it is of each entry point
   pub stages_named : (flags : WriterFlags) (labels : LabelNames) (m : Module) (info : ModuleInfo) (number : ℕ)

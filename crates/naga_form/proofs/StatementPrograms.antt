@@ -26,10 +26,10 @@ use Rattle.module_meaning.specs.StatementShapes.{simple_shape, store_shape}
 use Rattle.module_meaning.specs.Written.{block_roots, cases_roots, statement_roots}
 use Rattle.shader_runs.specs.Form.{word_of}
 use Rattle.shader_runs.specs.Program as shapes
-use Rattle.shader_runs.specs.Program.{Act, Barrier, Break, Continue, Emit, Kill, Return, Store}
+use Rattle.shader_runs.specs.Program.{Act, Barrier, Emit, Return, Store}
 use Rattle.shader_runs.specs.Program.{binds, binds_as, expression_of, from, holds_continue}
 use Rattle.shader_runs.specs.Program.{operands_of}
-use Rattle.shader_runs.specs.Program.{is_pure}
+use Rattle.shader_runs.specs.Program.{is_pure, Jumps}
 use Rattle.shader_runs.specs.ProgramRun.{barrier_words}
 use Rattle.shader_runs.specs.Scope.{Absent, Availability, Barred, Bound, Everywhere, Handles}
 use Rattle.shader_runs.specs.Scope.{Inline, Naming, after, after_all, after_emit, after_one}
@@ -191,7 +191,7 @@ module _ (flags : WriterFlags) (m : Module) (info : ModuleInfo) (g : ℕ) (f : i
       after_shape_is k (simple_shape d.context st) fit s well (subst (HasRoom k) (labels_given st) room)
   after_is k _ fit s well room = well
 
-  -- behind a statement, and behind a block
+  -- after a statement, and after a block
   room_behind : (k : ℕ) (st : StatementTree) (b : BlockTree) → HasRoom k (labels_in f st ++ block_labels f b) →
       HasRoom (named_by own.function (statement_shape d.context st) k) (block_labels f b)
   room_behind k st b room = room_rest k (named_by own.function (statement_shape d.context st) k) (labels_in f st) (block_labels f b) room (named_by_is m info f es st k)
@@ -290,10 +290,8 @@ module _ (flags : WriterFlags) (m : Module) (info : ModuleInfo) (g : ℕ) (f : i
           is,
         )
     shape_is k (Barrier bits) fit s well room rest is w = barriers_are (barrier_words bits) (barriers_called bits) rest is
-    shape_is k (Return v) fit s well room rest is w = (return_is s well v w, is)
-    shape_is k Break fit s well room rest is w = (tt, is)
-    shape_is k Continue fit s well room rest is w = (tt, is)
-    shape_is k Kill fit s well room rest is w = (tt, is)
+    shape_is k (Jumps (Return v)) fit s well room rest is w = (return_is s well v w, is)
+    shape_is k (Jumps _) fit s well room rest is w = (tt, is)
     shape_is k _ fit s well room rest is w = is
 
     loop_is : (body : tree.Statements) (b : BlockTree) (continuing : tree.Statements)

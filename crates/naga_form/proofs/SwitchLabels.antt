@@ -195,7 +195,7 @@ module _ (n : Naming) (annotated : ℕ → Option TypeSpecifier) (source : Sourc
       ap (λ l. l ++ statements_switches rest)
       (act_tells (word_of n.names action) (operands (value_forms (plain_form n source s) xs)) outcome)
   shape_tells k (shapes.Barrier bits) s rest = barriers_tell (barrier_words bits) rest
-  shape_tells k (shapes.Return v) s rest = ap (λ l. l ++ statements_switches rest) (return_tells s v)
+  shape_tells k (shapes.Jumps (shapes.Return v)) s rest = ap (λ l. l ++ statements_switches rest) (return_tells s v)
   shape_tells k _ s rest = refl
 
   -- what is left out where a block has no statements has no switch

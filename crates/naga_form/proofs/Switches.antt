@@ -33,7 +33,7 @@ label_is (label.I32 (negsuc n)) fits = ltb-true n (2 ^ 31) fits
 label_is (label.U32 n) fits = ltb-true n (2 ^ 32) fits
 label_is label.Default fits = tt
 
--- a label behind those that wait for it
+-- a label after those that wait for it
 pub labels_are : (labels : List tree.Label) (value : SwitchValue) → Each IsLabel labels →
     label_fits_32_bits value ≡ true → IsLabels (labels_form labels (label_form value))
 labels_are [] value are fits = label_is value fits

@@ -52,7 +52,7 @@ module _ (m : Module) (info : ModuleInfo) (flags : WriterFlags) (named : LabelNa
   abbrev pub forms : List Function
   forms = functions_under named flags (module_names m) m info 0 (all_functions m) (all_infos info)
 
-  -- each behind those before it has its name
+  -- each after those before it has its name
   forms_named : (g : ℕ) (fs : List ir_function.Function) (ess : List (List ExpressionInfo)) →
       (behind : List TextFunction) → length behind ≡ g → AreNamed n behind →
       AreNamed n

@@ -285,8 +285,7 @@ module _ (text_of_appended : (first second : List Piece) → text (first ++ seco
 role_is : (r : CooperativeRole) → IsWord (role_word r)
 unfolding is_reserved
 role_is A = record { text = refl; free = refl }
-role_is B = record { text = refl; free = refl }
-role_is C = record { text = refl; free = refl }
+role_is _ = record { text = refl; free = refl }
 
 vertex_return_is : IsWord (codes "vertex_return")
 unfolding is_reserved
@@ -295,8 +294,7 @@ vertex_return_is = record { text = refl; free = refl }
 -- ---- templates
 pub vector_rule : (v : VectorSize) → rule_among type_templates (vector_word v) ≡ TakesScalar
 vector_rule Bi = refl
-vector_rule Tri = refl
-vector_rule Quad = refl
+vector_rule _ = refl
 
 pub matrix_rule : (c r : VectorSize) → rule_among type_templates (matrix_word c r) ≡ TakesScalar
 matrix_rule Bi Bi = refl

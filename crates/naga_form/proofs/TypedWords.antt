@@ -58,7 +58,7 @@ head_alone (b ∷ bytes) e =
     ap (λ x. if x then [] else b ∷ head_word bytes) (word_byte_goes_on b parts.0) ∙ ap (λ bs. b ∷ bs) (head_alone bytes parts.1)
 
 -- ---- no other operator's word is one of these
--- a word with a `<` behind it
+-- a word with a `<` after it
 abbrev opens : List ℕ → Bool
 opens w = is_word_text (head_word w) && list_any (nat_eq 60) w
 
@@ -182,7 +182,7 @@ transposed_opens w = refl
 spelling_is_none : (w : List ℕ) → SpellsAType w → operator_of w ≡ None
 spelling_is_none w is = ap operator_of (sym is.1.1) ∙ type_is_none is.0 is.1.0
 
--- what no text has holds a blank and a number that is no letter's: at its start, or behind the word
+-- what no text has holds a blank and a number that is no letter's: at its start, or after the word
 -- that loads a matrix
 abbrev is_formless_at : (place : ℕ) → List ℕ → Bool
 is_formless_at place w = nat_eq (get_or w place 0) 32 && nat_lt (get_or w (suc place) 4) 4
@@ -204,9 +204,7 @@ none_formless_mathematical = refl
 formless_begins : (x : Formless) → not_formless (formless_word x) ≡ false
 unfolding not_formless
 formless_begins (Cast kind width) = refl
-formless_begins (PartAt index) = refl
-formless_begins (ValueOf numbers components) = refl
-formless_begins (MatrixLoad columns rows role row_major) = refl
+formless_begins _ = refl
 
 formless_is_none : (x : Formless) → operator_of (formless_word x) ≡ None
 formless_is_none x =
@@ -298,22 +296,16 @@ abbrev has_byte : (place byte : ℕ) → List ℕ → Bool
 has_byte place byte w = nat_eq (get_or w place 0) byte
 
 no_formless_reinterpret : (w : List ℕ) (x : Formless) → with_type (codes "bitcast") w ≡ formless_word x → ⊥
-no_formless_reinterpret w (Cast kind width) e = false≢true (ap (has_byte 0 32) e)
-no_formless_reinterpret w (PartAt index) e = false≢true (ap (has_byte 0 32) e)
-no_formless_reinterpret w (ValueOf numbers components) e = false≢true (ap (has_byte 0 32) e)
 no_formless_reinterpret w (MatrixLoad columns rows role row_major) e = false≢true (ap (has_byte 0 99) e)
+no_formless_reinterpret w _ e = false≢true (ap (has_byte 0 32) e)
 
 no_formless_load : (w : List ℕ) (x : Formless) → with_type (codes "coopLoad") w ≡ formless_word x → ⊥
-no_formless_load w (Cast kind width) e = false≢true (ap (has_byte 0 32) e)
-no_formless_load w (PartAt index) e = false≢true (ap (has_byte 0 32) e)
-no_formless_load w (ValueOf numbers components) e = false≢true (ap (has_byte 0 32) e)
 no_formless_load w (MatrixLoad columns rows role row_major) e = false≢true (ap (has_byte 8 32) e)
+no_formless_load w _ e = false≢true (ap (has_byte 0 32) e)
 
 no_formless_transposed : (w : List ℕ) (x : Formless) → with_type (codes "coopLoadT") w ≡ formless_word x → ⊥
-no_formless_transposed w (Cast kind width) e = false≢true (ap (has_byte 0 32) e)
-no_formless_transposed w (PartAt index) e = false≢true (ap (has_byte 0 32) e)
-no_formless_transposed w (ValueOf numbers components) e = false≢true (ap (has_byte 0 32) e)
 no_formless_transposed w (MatrixLoad columns rows role row_major) e = false≢true (ap (has_byte 8 32) e)
+no_formless_transposed w _ e = false≢true (ap (has_byte 0 32) e)
 
 -- ---- the law
 some_none : (o : Operator) → Some o ≡ None → ⊥

@@ -27,7 +27,7 @@ module _ (flags : WriterFlags) (named : LabelNames) (names : NameMap) (m : Modul
   abbrev forms : ℕ → List ir_function.Function → List (List ExpressionInfo) → List Function
   forms g fs ess = functions_under named flags names m info g fs ess
 
-  -- functions behind others
+  -- functions after others
   both_form : (g : ℕ) (fs gs : List ir_function.Function) (ess more : List (List ExpressionInfo)) →
       length fs ≡ length ess →
       forms g fs ess ++ forms (g + length fs) gs more ≡ forms g (fs ++ gs) (ess ++ more)
@@ -84,7 +84,7 @@ all_functions_under m info flags named size =
     ∙ both_form flags named names m info 0 m.functions (entry_functions m.entry_points.items)
     info.functions.items info.entry_points.items size
 
--- an entry point has its number behind the functions
+-- an entry point has its number after the functions
 pub entry_point_at : (m : Module) (j : ℕ) →
     entry_point_numbered m (length m.functions + j) ≡ slice_get m.entry_points.items j
 entry_point_at m j =

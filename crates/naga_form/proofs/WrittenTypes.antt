@@ -177,8 +177,7 @@ value_plain (Some v) s t e = mapped_plain (of_one _) (λ x. refl) (scalar_tree s
 array_plain : (n : Names) (word : List ℕ) (l : ArraySize) (x : TypeSpecifier) →
     is_plain (array_tree n word l x) ≡ true
 array_plain n word (size.Constant number) x = refl
-array_plain n word (size.Pending o) x = refl
-array_plain n word size.Dynamic x = refl
+array_plain n word _ x = refl
 
 image_plain : (dim : ImageDimension) (arrayed : Bool) (c : ImageClass) (t : TypeSpecifier) →
     image_tree dim arrayed c ≡ Some t → is_plain t ≡ true

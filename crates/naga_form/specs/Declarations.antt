@@ -100,7 +100,7 @@ variable_form names t m p =
     }
 
 -- ---- entry points
--- one of the functions, by its number and what is known of it, behind the attributes of its stage
+-- one of the functions, by its number and what is known of it, after the attributes of its stage
 abbrev pub entry_point_under :
     LabelNames → WriterFlags → NameMap → Module → ModuleInfo → (number : ℕ) →
     ir_entry_point.EntryPoint → List ExpressionInfo → EntryPoint

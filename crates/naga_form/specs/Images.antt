@@ -1,4 +1,4 @@
--- How an image is sampled: a word that is called with the operands, behind them level zero where it
+-- How an image is sampled: a word that is called with the operands, after them level zero where it
 -- is written, as a whole number or not, and last an offset.
 --
 -- Throughout, op is an operator, and es are the forms of operands.

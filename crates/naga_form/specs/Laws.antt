@@ -96,7 +96,7 @@ OfAcceptedInScope Holds =
 abbrev pub NamesAreLabelNames : Type 0
 NamesAreLabelNames = (m : Module) → AreLabelNames m (expression_name m)
 
--- and so they are where those of one function are named behind any others, in front of which those
+-- and so they are where those of one function are named after any others, in front of which those
 -- of the module's items are named
 abbrev pub NamesBehindAreLabelNames : Type 0
 NamesBehindAreLabelNames =
@@ -105,7 +105,7 @@ NamesBehindAreLabelNames =
     (named_apart m number
     (name_of_label wgsl_names (item_labels m ++ later) (labels_named_in m number)))
 
--- and where those of each are named so, each behind others of its own
+-- and where those of each are named so, each after others of its own
 abbrev pub NamesOfEachAreLabelNames : Type 0
 NamesOfEachAreLabelNames =
     (m : Module) (later : (number : ℕ) → List (List ℕ)) →

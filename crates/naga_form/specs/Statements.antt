@@ -58,6 +58,12 @@ abbrev pub return_line : Naming → Source → Handles → Option ℕ → Statem
 return_line n source s None = Return
 return_line n source s (Some h) = ReturnValue (value_form n source s h)
 
+abbrev pub jump_form : Naming → Source → Handles → shapes.Jump ℕ → Statement
+jump_form n source s shapes.Break = Break
+jump_form n source s shapes.Continue = Continue
+jump_form n source s (shapes.Return value) = return_line n source s value
+jump_form n source s shapes.Kill = Discard
+
 -- what asks for an event or calls a function, by its word: a line of its own, or a `let` of its
 -- result
 abbrev pub act_line : Naming → (annotated : ℕ → Option TypeSpecifier) → List ℕ → Arguments →
@@ -89,11 +95,7 @@ shape_form n annotated source k (shapes.Act action xs outcome) s rest =
     rest
 shape_form n annotated source k (shapes.Barrier bits) s rest =
     barrier_lines (barrier_words bits) rest
-shape_form n annotated source k (shapes.Return value) s rest =
-    Then (return_line n source s value) rest
-shape_form n annotated source k shapes.Break s rest = Then Break rest
-shape_form n annotated source k shapes.Continue s rest = Then Continue rest
-shape_form n annotated source k shapes.Kill s rest = Then Discard rest
+shape_form n annotated source k (shapes.Jumps j) s rest = Then (jump_form n source s j) rest
 shape_form n annotated source k (shapes.Block b) s rest = rest
 shape_form n annotated source k (shapes.If c a b) s rest = rest
 shape_form n annotated source k (shapes.Switch h cases) s rest = rest
@@ -124,7 +126,7 @@ label_form (label.I32 (negsuc n)) = SignedLabel true (suc n)
 label_form (label.U32 n) = UnsignedLabel n
 label_form label.Default = DefaultLabel
 
--- the labels of a group: these, and behind them its own
+-- the labels of a group: these, and after them its own
 abbrev pub labels_form : List Label → Label → Labels
 labels_form [] own = LastLabel own
 labels_form (l ∷ ls) own = MoreLabels l (labels_form ls own)

@@ -23,8 +23,8 @@ ghost use Rattle.naga_form.specs.Laws.{OperandsAreDistinguished, RequestsAreDist
 
 /// The names that front ends' labels have in the text of a whole module are identifiers, different
 /// in each function, and neither an item nor a handle has one of them. So it is where those of one
-/// function are named behind any labels, in front of which those of the items are named, and where
-/// those of each function are, each behind others.
+/// function are named after any labels, in front of which those of the items are named, and where
+/// those of each function are, each after others.
 pub fn names_are_of_labels()
     ensures whole { NamesAreLabelNames }
     ensures behind { NamesBehindAreLabelNames }

@@ -140,7 +140,7 @@ pub enum Sampling {
 /// How an argument or a result of an entry point, or a struct member in one, is bound.
 #[derive(Debug, Clone, Copy, PartialEq, Eq, Hash)]
 pub enum Binding {
-    /// To a value of the hardware: `@builtin(position)`.
+    /// To a built-in value: `@builtin(position)`.
     BuiltIn(BuiltIn),
     /// To a numbered place between two stages: `@location(0)`.
     Location {

@@ -259,7 +259,7 @@ pub enum Expression {
         op: BinaryOperator,
         /// The operand before it.
         left: Handle<Expression>,
-        /// The operand behind it.
+        /// The operand after it.
         right: Handle<Expression>,
     },
     /// One of two values: `select(reject, accept, condition)`.

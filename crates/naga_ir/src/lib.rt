@@ -7,7 +7,7 @@
 //! [`Statement::Emit`] names it; what statements use later is the value that it had there.
 //!
 //! The names and the meaning are those of naga's crate. A type, variant or field whose name a
-//! contract cannot spell has a `_` behind it: [`Type_`], `data_`.
+//! contract cannot spell has a `_` after it: [`Type_`], `data_`.
 #![tactic(auto)]
 
 pub mod arena;

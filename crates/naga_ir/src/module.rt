@@ -153,7 +153,7 @@ pub struct Function {
     pub result: Option<FunctionResult>,
     /// Its variables.
     pub local_variables: Arena<LocalVariable>,
-    /// Its expressions. Each stands behind its operands.
+    /// Its expressions. Each stands after its operands.
     pub expressions: Arena<Expression>,
     /// The labels that the source gave to values, such as by a `let`.
     pub named_expressions: IndexMap<Handle<Expression>, String>,
@@ -221,7 +221,7 @@ pub struct SpecialTypes {
 /// A shader: its types, its values and variables, its functions and its entry points.
 #[derive(Debug, Drop)]
 pub struct Module {
-    /// Its types. Each stands behind its parts.
+    /// Its types. Each stands after its parts.
     pub types: UniqueArena<Type_>,
     /// Which of the types WGSL knows without a declaration.
     pub special_types: SpecialTypes,
@@ -233,7 +233,7 @@ pub struct Module {
     pub global_variables: Arena<GlobalVariable>,
     /// The values of its constants, and the initialisers of its overrides and global variables.
     pub global_expressions: Arena<Expression>,
-    /// Its functions. Each stands behind those that it calls.
+    /// Its functions. Each stands after those that it calls.
     pub functions: Arena<Function>,
     /// Its entry points.
     pub entry_points: Vec<EntryPoint>,

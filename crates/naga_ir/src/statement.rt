@@ -20,7 +20,7 @@ use std::slice::Iter;
 pub struct Range {
     /// The index of the first.
     pub first: usize,
-    /// The index behind the last.
+    /// The index after the last.
     pub end: usize,
 }
 

@@ -278,7 +278,7 @@ pub enum TypeInner {
         base: Handle<Type_>,
         /// How many.
         size: ArraySize,
-        /// How far each begins behind the one before, in bytes.
+        /// How far each begins after the one before, in bytes.
         stride: u32,
     },
     /// Named members of any types.

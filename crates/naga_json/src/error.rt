@@ -180,7 +180,7 @@ fn write_escaped(told: &mut String, character: char) -> Result<(), AllocError> {
     Ok(())
 }
 
-/// The place behind a step.
+/// The place after a step.
 fn joined(alloc: Global, step: &str, place: &str) -> Result<String, AllocError> {
     let step = told_name(alloc, step)?;
     if place.is_empty() || place.starts_with('[') {

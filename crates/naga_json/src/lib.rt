@@ -14,7 +14,7 @@
 //!   `"Break"` and `{"Load": {"pointer": 2}}`. The content of a variant that has none is null:
 //!   `{"Break": null}`.
 //! - An arena is a list, and a handle a place in it, counted from zero. No two types are equal.
-//! - An `Emit` is `{"start": 3, "end": 5}`, from the first place to behind the last.
+//! - An `Emit` is `{"start": 3, "end": 5}`, from the first place to after the last.
 //! - Flags are their names, as `"LOAD | STORE"`, or their bits, as `3`.
 //! - A float is a number. What JSON has no number for is given by its bits, as
 //!   `{"F32": {"bits": 2139095040}}` for the infinity. An `F16` is given by its bits, as 15360 or

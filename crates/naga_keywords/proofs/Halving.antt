@@ -19,7 +19,7 @@ use Rattle.naga_keywords.specs.declared.sorted.Case.{Case}
 use Rattle.std.proofs.lemmas.List.{get_or-map, length-map}
 use denote.Ref.{Bor}
 
--- all before `low` come before the wanted one, and all from `high` on behind it
+-- all before `low` come before the wanted one, and all from `high` on after it
 pub record IsBetween (ks : List (List ℕ)) (w : List ℕ) (low high : ℕ) : Type 0 where
   pub ascend : low ≤ high
   pub within : high ≤ length ks
@@ -55,7 +55,7 @@ module _ (ks : List (List ℕ)) (w : List ℕ) where
           let same : i ≡ middle = omega (arith, le, ltb-false i middle not) in
           ap (λ at. word_cmp (get_or ks at d) w) same ∙ is
 
-    -- what comes behind the wanted one has all behind it there too
+    -- what comes after the wanted one has all after it there too
     module _ (d : List ℕ) (is : word_cmp (get_or ks middle d) w ≡ Greater) where
       turned : word_cmp w (get_or ks middle d) ≡ Less
       turned = nat_list_cmp_total.antisymm w (get_or ks middle d) ∙ ap ordering_reverse is
@@ -127,7 +127,7 @@ one_probe c left rest members some half had = record {
       half_left c left rest k before.0 some half before.1 before.2;
 }
 
--- the middle of a range, and what is left behind and before it
+-- the middle of a range, and what is left after and before it
 pub middle_below : (low high : ℕ) → low < high → low + (high - low) / 2 < high
 middle_below low high some = omega (arith, some)
 

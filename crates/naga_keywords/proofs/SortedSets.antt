@@ -42,7 +42,7 @@ module _ (w : List ℕ) where
   is_itself : eq_by_cmp word_cmp w w ≡ true
   is_itself = ap is_eq (tied_itself nat_list_cmp_total w)
 
-  -- what comes before the wanted one, or behind it, is another
+  -- what comes before the wanted one, or after it, is another
   differs : (k : List ℕ) (o : Ordering) → is_eq (ordering_reverse o) ≡ false → word_cmp k w ≡ o →
       eq_by_cmp word_cmp w k ≡ false
   differs k o not is =

@@ -27,7 +27,7 @@ is_identifier (c ∷ cs) =
     list_all is_identifier_char (c ∷ cs) && not (is_ascii_digit c)
     && not (c == 95 && is_empty_or_separated cs)
 
--- no `_` has digits alone behind it, or nothing
+-- no `_` has digits alone after it, or nothing
 abbrev pub has_plain_end : List ℕ → Bool
 has_plain_end [] = true
 has_plain_end (c ∷ cs) = not (c == 95 && list_all is_ascii_digit cs) && has_plain_end cs

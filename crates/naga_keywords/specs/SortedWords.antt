@@ -27,7 +27,7 @@ word_cmp = slice_cmp nat_cmp
 abbrev pub keys_of : Case → List (Bor (List ℕ)) → List (List ℕ)
 keys_of case members = map (λ member. comparison_key case member.now) members
 
--- all keys before the index come before the wanted one, and those from there on behind it
+-- all keys before the index come before the wanted one, and those from there on after it
 pub record IsPlaceOf (ks : List (List ℕ)) (w : List ℕ) (index : ℕ) : Type 0 where
   pub within : index ≤ length ks
   pub before : (i : ℕ) (d : List ℕ) → i < index → word_cmp (get_or ks i d) w ≡ Less

@@ -113,7 +113,7 @@ fn ascend(case: Case, words: &[&'static str]) -> bool
 }
 
 /// Where the word is to be put among words in ascending order, if it isn't there. One that comes
-/// behind all of them takes one comparison.
+/// after all of them takes one comparison.
 fn place(case: Case, members: &[&'static str], word: &str) -> Option<usize>
     requires sorted { IsStrictlySortedBy word_cmp (keys_of case members.now) }
     ensures { IsPlaceFor (keys_of case members.now) (comparison_key case word.now) result }

@@ -35,7 +35,7 @@ module _ (types : List Type_) (overrides : List Override) where
   length_known (inner.AccelerationStructure vertex_return) k = k
   length_known (inner.RayQuery vertex_return) k = k
 
-  -- what stands behind all types fits their context
+  -- what stands after all types fits their context
   pub fits : (it : TypeInner) → StandsBehind (length types) (length overrides) it
       → Fits (global_context types overrides) it
   fits it behind = record { in_range = behind.before; knows = length_known it behind.known }

@@ -309,7 +309,7 @@ pub(crate) fn order_name(row_major: bool) -> &'static str {
 
 // ---- its operands
 
-/// Appends the operands by their names, and behind them the index that is known.
+/// Appends the operands by their names, and after them the index that is known.
 fn push_of_expression(expression: &Expression, out: &mut String) -> Result<(), AllocError> {
     match expression {
         Expression::Compose { components, .. } => push_list("components", components, out),

@@ -18,7 +18,7 @@ split_at [] i label e = absurd (none-some label e)
 split_at (x ∷ labels) zero label e = (labels, ap (λ o. unwrap_or o x ∷ labels) e)
 split_at (x ∷ labels) (suc i) label e = let rest = split_at labels i label e in (rest.0, ap (λ t. x ∷ t) rest.1)
 
--- a label that has this base, behind so many others that have it
+-- a label that has this base, after so many others that have it
 record Counted (names : Names) (labels : List (List ℕ)) (base : List ℕ) (number : ℕ) : Type 0 where
   place : ℕ
   label : List ℕ

@@ -66,7 +66,7 @@ last_are xs ys n is =
     let here : length (xs ++ ys) - n ≡ length xs = omega (arith, length-append xs ys, is) in
     ap (λ k. drop k (xs ++ ys)) here ∙ drop-append_seam xs ys
 
--- a member is named behind the members before it
+-- a member is named after the members before it
 pub member_name : (start : Names) (t : ℕ) (earlier done : List LabelledItem) (n : ℕ)
     (label : List ℕ) → length done ≡ n →
     item_name start (earlier ++ done) (key.StructMember t n, label) ≡ name_after
@@ -314,7 +314,7 @@ all_at test (y ∷ xs) (suc i) x all e = all_at test xs i x (and_parts (test y) 
 pub reserved_plain : HasPlainEnds (set.from_list (map (λ word. word.now) RESERVED.now))
 reserved_plain = plain_ends (map (λ word. word.now) RESERVED.now) (words_are (map (λ word. word.now) RESERVED.now) refl)
 
--- the item stands among these, directly behind those
+-- the item stands among these, directly after those
 pub record StandsBehind (items : List LabelledItem) (item : LabelledItem) (done : List LabelledItem) : Type 0 where
   pub place : ℕ
   pub there : slice_get items place ≡ Some item

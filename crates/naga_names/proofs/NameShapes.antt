@@ -236,7 +236,7 @@ kept_three start word e =
     let inner = or_parts (set.contains start.keywords word) (set.contains start.builtin_identifiers word) outer.0 in
     (inner.0, inner.1, outer.1)
 
--- a word that does not begin with `__`, with more behind it, where it does not end in `_`
+-- a word that does not begin with `__`, with more after it, where it does not end in `_`
 identifier_more : (base more : List ℕ) → is_word base ≡ true → ends_separated base ≡ false → begins_double base ≡ false → is_word (base ++ more) ≡ true → is_identifier (base ++ more) ≡ true
 identifier_more [] more some ends single word = absurd (cc)
 identifier_more (c ∷ []) more some ends single word = and_from _ _ word (ap (λ b. not (b && is_empty_or_separated more)) ends)
@@ -370,7 +370,7 @@ plain_ends words all = record {
         either true e = absurd (apart ((bytes_decides q word).0 e))
         either false e = refl
 
--- no name is `_e` and a number behind it
+-- no name is `_e` and a number after it
 pub name_after_not_numbered : (start : Names) (earlier : List (List ℕ)) (label : List ℕ) (h : ℕ) → name_after start earlier label ≡ codes "_e" ++ decimal h → ⊥
 name_after_not_numbered start earlier label h is =
     numbered_of_base start (label_base start label)

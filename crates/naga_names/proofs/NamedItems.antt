@@ -158,7 +158,7 @@ item_put start before now items put apart i item e =
     ∙ update_all_distinct same_key_laws same_key (λ x y. refl) before (named_items start items) item.0 (keys_distinct start [] items apart)
     ∙ ap (λ o. option_or o (before item.0)) (name_found start items i item apart e)
 
--- of an item outside structs, the name behind the labels before it
+-- of an item outside structs, the name after the labels before it
 pub put_at : (start : Names) (before now : NameMap) (items : List LabelledItem) →
     PutsInto before (named_items start items) now → AreApart items → (i : ℕ) (item : LabelledItem) →
     slice_get items i ≡ Some item → is_member item.0 ≡ false →

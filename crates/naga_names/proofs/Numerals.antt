@@ -1,8 +1,8 @@
 -- Numbers in decimal, however great they are: each tells its number, and those below 2 ^ 64 are
 -- written as integers are.
 --
--- Throughout, k and j are how many digits may be written, n is the number and behind what stands
--- behind its digits.
+-- Throughout, k and j are how many digits may be written, n is the number and after what stands
+-- after its digits.
 use Rattle.std.proofs.Common.{◌≡◌, ℕ, zero, suc, ◌+◌, ◌-◌, ◌*◌, ◌/◌, ◌%◌, ◌^◌, ◌<◌, ◌==◌, ap, sym, refl}
 use Rattle.std.proofs.Common.{Bool, true, false, cond, List, [], ◌∷◌, ◌∙◌, arith}
 use Rattle.std.specs.Fmt.{decimal, digits, digits_onto, digit_glyph}
@@ -10,7 +10,7 @@ use Rattle.std.proofs.lemmas.Bool.Decides.{nat_tests}
 use native.Mathlib.Nat.{pow-zero, pow-suc}
 use Rattle.naga_names.specs.Naming.{numeral}
 
--- the number that digits say behind those that said m
+-- the number that digits say after those that said m
 abbrev read_on : ℕ → List ℕ → ℕ
 read_on m [] = m
 read_on m (c ∷ cs) = read_on (m * 10 + (c - 48)) cs

@@ -50,7 +50,7 @@ gives_alike {names} {refusal} {before} {now} {b} {xs} same =
 pub gives_same : {a b : Progress} {xs ys : List LabelledItem} → xs ≡ ys → Gives a xs b → Gives a ys b
 gives_same {a} {b} same gives = subst (λ items. Gives a items b) same gives
 
--- behind a refusal nothing is named
+-- after a refusal nothing is named
 pub gives_behind : (a : Progress) (items : List LabelledItem) → is_some a.refusal ≡ true → Gives a items a
 gives_behind a items is = record { more = λ start first earlier stands. either start first earlier a.refusal is stands }
   where

@@ -41,7 +41,7 @@ pub labels_of-around : (items : List LabelledItem) (item : LabelledItem)
 labels_of-around items item others outside =
     labels_of-append items (item ∷ others) ∙ ap (λ b. labels_of items ++ (cond b [] (item.1 ∷ []) ++ labels_of others)) outside
 
--- its name is that of its label behind these labels
+-- its name is that of its label after these labels
 pub item_name-outside : (start : Names) (earlier : List LabelledItem) (key : NameKey)
     (label : List ℕ) → is_member key ≡ false →
     item_name start earlier (key, label) ≡ name_after start (labels_of earlier) label

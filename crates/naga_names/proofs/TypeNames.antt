@@ -28,7 +28,7 @@ past [] i e = omega arith
 past (y ∷ xs) zero e = absurd (none-some y (sym e))
 past (y ∷ xs) (suc i) e = omega (arith, past xs i e)
 
--- no item is a type behind the last one
+-- no item is a type after the last one
 no_type : (entry_points : List EntryPoint) (t n : ℕ) (types : List Type_) → n + length types ≤ t →
     AllByRecursion (λ (y : LabelledItem). same_key (key.Type_ t) y.0 ≡ false)
     (flat_map (λ p. labelled_type entry_points p.0 p.1) (enumerate_from n types))

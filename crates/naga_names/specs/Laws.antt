@@ -53,7 +53,7 @@ NamesAreNoCaselessKeywords =
     HasPlainEnds start.caseless_keywords →
     set.contains start.caseless_keywords (in_lower_case (name_after start earlier label)) ≡ false
 
--- no name is `_e` and a number behind it
+-- no name is `_e` and a number after it
 abbrev pub NamesAreNotNumbered : Type 0
 NamesAreNotNumbered =
     (start : Names) (earlier : List (List ℕ)) (label : List ℕ) (h : ℕ) →
@@ -65,7 +65,7 @@ NamesDiffer =
     (start : Names) (first : List (List ℕ)) (a : List ℕ) (middle : List (List ℕ)) (b : List ℕ) →
     name_after start first a ≡ name_after start (first ++ a ∷ middle) b → ⊥
 
--- after a `reset` each item has in the map the name that it has behind the items before it
+-- after a `reset` each item has in the map the name that it has after the items before it
 abbrev pub ItemsAreNamed : Type 0
 ItemsAreNamed =
     (start : Names) (before now : NameMap) (module_ : Module) (names : Names) →
@@ -83,7 +83,7 @@ ItemsAreDistinguished =
     is_member b.0 ≡ false → now a.0 ≡ now b.0 → i ≡ j
 
 -- ---- members of structs
--- after a `reset` a member has the name that its label has behind those of the members before it
+-- after a `reset` a member has the name that its label has after those of the members before it
 -- alone, where builtin words are free
 abbrev pub MembersAreNamed : Type 0
 MembersAreNamed =

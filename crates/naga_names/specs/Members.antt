@@ -27,7 +27,7 @@ pub record PutsNoName (old : Names) (before : NameMap) (label : List ℕ) (now :
   pub kept : (q : NameKey) → now q ≡ before q
   pub why : IsRefusalOf old label error
 
--- the members of a struct with their names, each behind the labels of those before it
+-- the members of a struct with their names, each after the labels of those before it
 abbrev pub named_members : Names → ℕ → List StructMember → List (NameKey × List ℕ)
 named_members start t members =
     scan

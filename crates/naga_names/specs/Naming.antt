@@ -97,7 +97,7 @@ is_taken names word =
 abbrev pub ends_in_digit : List ℕ → Bool
 ends_in_digit text = is_ascii_digit (slice_index text (length text - 1))
 
--- the first name of a base has a `_` behind it where
+-- the first name of a base has a `_` after it where
 -- the base ends in a digit or is in one of the sets
 abbrev pub first_name : Names → List ℕ → List ℕ
 first_name names base =
@@ -107,7 +107,7 @@ first_name names base =
 abbrev pub numeral : ℕ → List ℕ
 numeral n = digits_onto (suc n) 10 false n []
 
--- a later one has `_` and the number of earlier uses behind it
+-- a later one has `_` and the number of earlier uses after it
 abbrev pub later_name : List ℕ → ℕ → List ℕ
 later_name base uses = base ++ codes "_" ++ numeral uses
 

@@ -33,7 +33,7 @@ pub record SomeNameIsFull (start : Names) (items : List LabelledItem) : Type 0 w
   pub outside : is_member item.0 ≡ false
   pub full : labels_with_base start (labels_of named) (label_base start item.1) ≡ 2 ^ 32
 
--- some item has a key that can't be told: an entry point behind the first 65,536, or a member or an
+-- some item has a key that can't be told: an entry point after the first 65,536, or a member or an
 -- argument whose index is no `u32`
 abbrev pub SomeKeyIsFull : List LabelledItem → Type 0
 SomeKeyIsFull items = keys_fit items ≡ false

@@ -219,12 +219,12 @@ abbrev pub names_beside : Names → NameKey → Names
 names_beside names (key.StructMember t n) = member_names names
 names_beside names other = names
 
--- the name of an item behind these
+-- the name of an item after these
 abbrev pub item_name : Names → List LabelledItem → LabelledItem → List ℕ
 item_name names earlier item =
     name_after (names_beside names item.0) (labels_beside item.0 earlier) item.1
 
--- each item with the name that it has behind those before it
+-- each item with the name that it has after those before it
 abbrev pub named_items : Names → List LabelledItem → List (NameKey × List ℕ)
 named_items names items =
     scan

@@ -1,4 +1,4 @@
--- Where the expressions stand behind an Emit.
+-- Where the expressions stand after an Emit.
 use Rattle.std.proofs.Common.{◌≡◌, ℕ, zero, suc, ◌+◌, ◌-◌, ◌<◌, ◌≤◌, ◌&&◌, ◌||◌, Bool, true, false}
 use Rattle.std.proofs.Common.{nat_eq, List, [], ◌∷◌, length, get_or, refl, sym, ap, ap₂, ◌∙◌, arith}
 use Rattle.std.proofs.Common.{slice_set, eqb-true, add-one}
@@ -81,7 +81,7 @@ module _ (named : ℕ → List ℕ) where
       ∙ ap (update (handles_of named table) h) (unbound_is u (numbered_name h) (get_or table h Absent))
   cell_emitted false false u name table h lt = ap (handles_of named) (set-get_or table h Absent)
 
--- the name that a handle is bound under behind so many given ones
+-- the name that a handle is bound under after so many given ones
 next_is : (named : ℕ → List ℕ) (numbered : List ℕ) (b : Bool) (k : ℕ) → name_of_bound named numbered (next_name b k) ≡ cond b (named k) numbered
 next_is named numbered true k = refl
 next_is named numbered false k = refl
@@ -137,7 +137,7 @@ module _ (names : NameMap) (m : Module) (info : ModuleInfo) (named : ℕ → Lis
   abbrev handles : List Availability → Handles
   handles table = handles_of named table
 
-  -- an Emit of a handle gives it the cell that stands behind one
+  -- an Emit of a handle gives it the cell that stands after one
   pub emitted_is : (h k : ℕ) (table : List Availability) (cell : Availability) → h < length table →
       (let evaluated = expression_of shape h in
       cell ≡ emitted_availability (binds shape h) (is_pure evaluated)

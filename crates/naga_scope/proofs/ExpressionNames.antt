@@ -1,4 +1,4 @@
--- Labels that are named one behind another.
+-- Labels that are named one after another.
 use Rattle.std.proofs.Common.{◌≡◌, ◌++◌, ◌∙◌, ℕ, List, [], ◌∷◌, append-nil, append_assoc, ap, refl}
 use Rattle.std.proofs.Common.{arith, length-append, subst, sym}
 use Rattle.std.specs.Prelude.{Err, IfErr, Ok, OnOk, Result}
@@ -26,7 +26,7 @@ names_kept : (old mid : Names) → HasOtherUses old mid → (earlier labels : Li
 names_kept old mid words earlier labels =
     ap (λ n. names_behind n earlier labels) words ∙ names_of_uses old mid.uses earlier labels
 
--- the names of labels and of others behind them
+-- the names of labels and of others after them
 names_joined : (old : Names) (earlier xs ys : List (List ℕ)) →
     names_behind old earlier (xs ++ ys)
     ≡ names_behind old earlier xs ++ names_behind old (earlier ++ xs) ys

@@ -268,15 +268,9 @@ spelled_alone f (inner.ValuePointer n s at) none =
     pointer_decided (space_word at) _ (value_key n s) (is_none (wordless s)) (value_decided n s)
 spelled_alone f (inner.Array base n stride) none = absurd cc
 spelled_alone f (inner.BindingArray base n) none = absurd cc
-spelled_alone f (inner.Struct members span) none = refl
 spelled_alone f (inner.Image dim arrayed (class.Sampled kind multi)) none =
     let s : Scalar = record { kind = kind; width = 4 } in decided (is_some (scalar_word s)) _ s
-spelled_alone f (inner.Image dim arrayed (class.Depth multi)) none = refl
-spelled_alone f (inner.Image dim arrayed (class.Storage format access)) none = refl
-spelled_alone f (inner.Image dim arrayed class.External) none = refl
-spelled_alone f (inner.Sampler comparison) none = refl
-spelled_alone f (inner.AccelerationStructure vertex_return) none = refl
-spelled_alone f (inner.RayQuery vertex_return) none = refl
+spelled_alone f _ none = refl
 
 -- a struct of the module is spelled
 named_decided : (b spelled : Bool) (name key : Option (List ℕ)) → is_some name ≡ true →

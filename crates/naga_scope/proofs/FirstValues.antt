@@ -1,4 +1,4 @@
--- The first values of locals, each in scope behind the locals before it.
+-- The first values of locals, each in scope after the locals before it.
 use Rattle.std.proofs.Common.{◌≡◌, ℕ, ◌+◌, min, Bool, true, false, ◌&&◌, nat_lt, List, [], ◌∷◌, map}
 use Rattle.std.proofs.Common.{Option, Some, None, refl, sym, ap, ap₂, ◌∙◌, add-one, ◌<◌, arith}
 use Rattle.std.specs.Prelude.{slice_get, if◌then◌else◌, Ok}

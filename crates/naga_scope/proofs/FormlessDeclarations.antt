@@ -60,7 +60,7 @@ module _ (m : Module) where
       ap (λ b. if b then None else slice_get m.entry_points.items (h - length m.functions))
       (lt-ltb h (length m.functions) lt)
 
-  -- the entry points come behind the functions
+  -- the entry points come after the functions
   numbered : (j : ℕ) → entry_point_numbered m (length m.functions + j) ≡ slice_get m.entry_points.items j
   numbered j =
       let behind : length m.functions ≤ length m.functions + j = omega arith in

@@ -1,34 +1,20 @@
 -- In a function whose handles are in range, so are the results of its statements.
-use Rattle.std.proofs.Common.{ℕ, Bool, true, false, ◌&&◌, ◌≡◌, refl, subst, sym}
+use Rattle.std.proofs.Common.{ℕ, Bool, true, false, ◌&&◌, ◌≡◌, subst, sym}
 use Rattle.naga_scope.specs.Continues.{before_continue, from_continue, holds_continue}
 use Rattle.std.specs.Prelude.{IsTrue, cond, nat_lt}
 use Rattle.std.proofs.lemmas.Bool.{and_parts}
-use Rattle.module_meaning.specs.Ranges.{all_below, atomic_in_range, block_in_range, cases_in_range, gather_in_range, is_below, simple_in_range, statement_in_range}
+use Rattle.module_meaning.specs.Ranges.{block_in_range, cases_in_range, is_below, statement_in_range}
 use Rattle.module_meaning.specs.Numbers.{label_fits_32_bits}
-use Rattle.naga_ir.specs.Operands.{simple_result}
-use Rattle.naga_ir.specs.StatementTree.{SimpleStatement, atomic, work_group_uniform_load, call, subgroup_ballot, subgroup_gather}
-use Rattle.naga_ir.specs.StatementTree.{subgroup_collective_operation, StatementTree, simple, block, branch, switch, loop}
+use Rattle.naga_ir.specs.StatementTree.{StatementTree, simple, block, branch, switch, loop}
 use Rattle.naga_ir.specs.StatementTree.{BlockTree, no_statements, statement, CaseTrees, no_cases, case}
 use Rattle.shader_runs.proofs.Update.{and_right}
 use Rattle.naga_scope.specs.Results.{CaseResultsFit, ResultsFit, StatementResultsFit}
+use Rattle.module_meaning.proofs.StatementRanges.{result_below}
 
 module _ (callees count : ℕ) where
-  simple_fits : (st : SimpleStatement) → IsTrue (simple_in_range callees count st) → IsTrue (is_below count (simple_result st))
-  simple_fits (atomic p f v r) within =
-      and_right (nat_lt v count) (is_below count r)
-      (and_right (atomic_in_range count f) (nat_lt v count && is_below count r)
-      (and_right (nat_lt p count) (atomic_in_range count f && (nat_lt v count && is_below count r)) within))
-  simple_fits (work_group_uniform_load p r) within = and_right (nat_lt p count) (nat_lt r count) within
-  simple_fits (call f xs r) within = and_right (all_below count xs) (is_below count r) (and_right (nat_lt f callees) (all_below count xs && is_below count r) within)
-  simple_fits (subgroup_ballot r p) within = (and_parts (nat_lt r count) (is_below count p) within).0
-  simple_fits (subgroup_gather mode x r) within =
-      and_right (nat_lt x count) (nat_lt r count) (and_right (gather_in_range count mode) (nat_lt x count && nat_lt r count) within)
-  simple_fits (subgroup_collective_operation op collective x r) within = and_right (nat_lt x count) (nat_lt r count) within
-  simple_fits _ within = refl
-
   mutual
     statement_fits : (st : StatementTree) → IsTrue (statement_in_range callees count st) → StatementResultsFit count st
-    statement_fits (simple st) within = simple_fits st within
+    statement_fits (simple st) within = result_below callees count st within
     statement_fits (block b) within = results_fit b within
     statement_fits (branch c x y) within =
         let in_x = block_in_range callees count x in

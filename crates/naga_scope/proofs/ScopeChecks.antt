@@ -19,8 +19,7 @@ use Rattle.naga_scope.specs.declared.scope_faults.ScopeFault.TheVariants.{FirstV
 use Rattle.naga_scope.specs.declared.scope_faults.ScopeFault.TheVariants.{EmittedOperand}
 use Rattle.naga_scope.specs.declared.scope_faults.ScopeFault.TheVariants.{GivenBefore, NeedsNoEmit}
 use Rattle.shader_runs.specs.Program.{Statement, Emit, Store, Block, If, Switch, Loop, Return, Act}
-use Rattle.shader_runs.specs.Program.{Statements, end, then, Cases, no_case, case, Function}
-use Rattle.shader_runs.specs.Program.{Break, Continue, Kill, Barrier}
+use Rattle.shader_runs.specs.Program.{Jumps, Statements, end, then, Cases, no_case, case, Function}
 use Rattle.shader_runs.specs.Program.{expression_of, operands_of, binds, from, is_emittable}
 use Rattle.shader_runs.specs.Scope.{Handles, Naming, before_local, bound_name, at_start, is_new}
 use Rattle.shader_runs.specs.Scope.{usable, usable_all, usable_if, after_one, after}
@@ -133,7 +132,7 @@ module _ (f : Naming) where
         onward_ok last (check_all f k (next_number n) b s) (all_ok k (next_number n) b s)
         (λ m. onward_ok (λ n. result_and ended (Ok n)) (check_all f k1 m d s1) (all_ok k1 m d s1)
         (λ m. and_done ended m (use_if_ok f.function s2 n e)))
-    statement_ok k n (Return v) s =
+    statement_ok k n (Jumps (Return v)) s =
         and_done (check_use_if f.function s n v) (next_number n) (use_if_ok f.function s n v)
     statement_ok k n (Act a xs r) s =
         and_ok (check_uses f.function s n xs) (result_and (check_result n r s) (Ok (next_number n)))
@@ -276,14 +275,11 @@ module _ (f : Naming) (g : Function) where
         further_is j (suc m + length bs + length ds) (suc m + length (bs ++ ds))
         (let e = length-append bs ds in omega (arith, e))
         (subst (λ j. IsNumber j (suc m + length bs + length ds)) (done_ok ended y.0 j y.2) continuing)
-    statement_number k n m j (Return v) at s is ok = done_number (check_use_if f.function s n v) n m j is ok
+    statement_number k n m j (Jumps (Return v)) at s is ok = done_number (check_use_if f.function s n v) n m j is ok
     statement_number k n m j (Act a xs r) at s is ok =
         done_number (check_result n r s) n m j is
         (and_of (check_uses f.function s n xs) (result_and (check_result n r s) (Ok (next_number n))) j ok)
-    statement_number k n m j Break at s is ok = plain_number n m j is ok
-    statement_number k n m j Continue at s is ok = plain_number n m j is ok
-    statement_number k n m j Kill at s is ok = plain_number n m j is ok
-    statement_number k n m j (Barrier bits) at s is ok = plain_number n m j is ok
+    statement_number k n m j _ at s is ok = plain_number n m j is ok
 
     all_number : (k n m j : ℕ) (ss : Statements) (at : Point) (s : Handles) → IsNumber n m →
         check_all f k n ss s ≡ Ok j → IsNumber j (m + length (standing g at ss))
@@ -554,10 +550,10 @@ module _ (f : Naming) (e : ScopeFault) where
             let used = subst (λ o. UsesAt f.function at (Loop b d o) last h) (sym same) break_if in
             let out : IsOutOfScopeAt f.function last h = λ d. false_is_not_true (usable f.function s2 h) x.0 ((t2.used h).1 d) in
             subst (BreaksWith f.function (record { at = at; statement = Loop b d o }) n) x.1 (refl, (last, used, out))
-    statement_breaks k n m (Return v) at s t num is =
-        itself f.function e m n at (Return v) num
-        (use_if_breaks f.function at s t (Return v) n e v
-        (λ h same. subst (λ v. UsesAt f.function at (Return v) at h) (sym same) returned)
+    statement_breaks k n m (Jumps (Return v)) at s t num is =
+        itself f.function e m n at (Jumps (Return v)) num
+        (use_if_breaks f.function at s t (Jumps (Return v)) n e v
+        (λ h same. subst (λ v. UsesAt f.function at (Jumps (Return v)) at h) (sym same) returned)
         (done_err (check_use_if f.function s n v) (next_number n) e is))
     statement_breaks k n m (Act a xs r) at s t num is =
         itself f.function e m n at (Act a xs r) num

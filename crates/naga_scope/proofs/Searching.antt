@@ -49,7 +49,7 @@ module _ {X : Type 0} (HasForm : (i : ℕ) → X → Type 0) (xs : List X) where
     passed = none_passed;
   }
 
-  -- the first that is left stands in the arena, and so do the others behind it
+  -- the first that is left stands in the arena, and so do the others after it
   record Turn (h : ℕ) (x : X) (rest : List (ℕ × X)) (place : ℕ) : Type 0 where
     at : h ≡ place
     here : slice_get xs h ≡ Some x

@@ -14,8 +14,8 @@ use Rattle.naga_ir.specs.declared.module.Function as ir_function
 use Rattle.naga_ir.specs.declared.module.Module.{Module}
 use Rattle.naga_info.specs.declared.info.ExpressionInfo.{ExpressionInfo}
 use Rattle.naga_info.specs.declared.info.ModuleInfo.{ModuleInfo}
-use Rattle.shader_runs.specs.Program.{Expression, Load, Operator, Access, AccessIndex, Logical}
-use Rattle.shader_runs.specs.Program.{Argument, Constant, Global, Local, Request, Result, Swizzle}
+use Rattle.shader_runs.specs.Program.{Expression, Load, AccessIndex}
+use Rattle.shader_runs.specs.Program.{Constant, Request, Result}
 use Rattle.shader_runs.specs.Program.{operands_of}
 use Rattle.shader_runs.specs.Program.{Function, expression_of, is_counted, is_named, binds}
 use Rattle.shader_runs.specs.Scope.{Handles, Availability, is_present, is_constant_leaf}
@@ -46,48 +46,15 @@ use Rattle.shader_runs.specs.Program.{is_emittable, is_pure}
 -- ---- the runs' words for shapes are tests of their kind
 pure_shape : (o : Option Expression) → is_pure o ≡ is_pure_kind (shape_kind o)
 pure_shape (Some (Constant tree)) = refl
-pure_shape (Some (Argument number)) = refl
-pure_shape (Some (Local number)) = refl
-pure_shape (Some (Global held number)) = refl
-pure_shape (Some (Load pointer)) = refl
-pure_shape (Some (Operator word xs)) = refl
-pure_shape (Some (Access base index)) = refl
-pure_shape (Some (AccessIndex selector base)) = refl
-pure_shape (Some (Swizzle letters vector)) = refl
-pure_shape (Some (Logical circuit left right)) = refl
-pure_shape (Some (Request word xs ts)) = refl
-pure_shape (Some Result) = refl
-pure_shape None = refl
+pure_shape _ = refl
 
 constant_shape : (o : Option Expression) → is_constant_leaf o ≡ is_constant_kind (shape_kind o)
 constant_shape (Some (Constant tree)) = refl
-constant_shape (Some (Argument number)) = refl
-constant_shape (Some (Local number)) = refl
-constant_shape (Some (Global held number)) = refl
-constant_shape (Some (Load pointer)) = refl
-constant_shape (Some (Operator word xs)) = refl
-constant_shape (Some (Access base index)) = refl
-constant_shape (Some (AccessIndex selector base)) = refl
-constant_shape (Some (Swizzle letters vector)) = refl
-constant_shape (Some (Logical circuit left right)) = refl
-constant_shape (Some (Request word xs ts)) = refl
-constant_shape (Some Result) = refl
-constant_shape None = refl
+constant_shape _ = refl
 
 emittable_shape : (o : Option Expression) → is_emittable o ≡ is_emittable_kind (shape_kind o)
 emittable_shape (Some (Constant tree)) = refl
-emittable_shape (Some (Argument number)) = refl
-emittable_shape (Some (Local number)) = refl
-emittable_shape (Some (Global held number)) = refl
-emittable_shape (Some (Load pointer)) = refl
-emittable_shape (Some (Operator word xs)) = refl
-emittable_shape (Some (Access base index)) = refl
-emittable_shape (Some (AccessIndex selector base)) = refl
-emittable_shape (Some (Swizzle letters vector)) = refl
-emittable_shape (Some (Logical circuit left right)) = refl
-emittable_shape (Some (Request word xs ts)) = refl
-emittable_shape (Some Result) = refl
-emittable_shape None = refl
+emittable_shape _ = refl
 
 -- a test that doesn't tell requests from loads holds of an expression's kind as of its shape's
 shaped_test : (test : ExpressionKind → Bool) → test kind.Request ≡ test kind.Load →

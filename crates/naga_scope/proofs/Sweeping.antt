@@ -1,6 +1,6 @@
 -- A sweep over a function's expressions from the last to the first, which marks what is written.
 use Rattle.std.proofs.Common.{◌≡◌, ℕ, zero, suc, ◌<◌, ◌≤◌, Bool, true, false, List, [], ◌∷◌}
-use Rattle.std.proofs.Common.{◌&&◌, ◌||◌, ◌⊎◌, inl, inr, refl, sym, ap, ◌∙◌, subst, length, arith}
+use Rattle.std.proofs.Common.{◌&&◌, ◌⊎◌, inl, inr, refl, sym, ap, ◌∙◌, subst, length, arith}
 use Rattle.std.proofs.Common.{nat_eq, nat_lt, Some, slice_get, eqb-true, ap₂}
 use Rattle.std.specs.Prelude.{IsTrue}
 use Rattle.std.specs.List.{IsAmong}
@@ -55,7 +55,7 @@ from_there h j le = by (cases_order j h)
 
 -- ---- the sweep
 module _ (expression_has_form : Expression → Bool) (es : List Expression) (roots : List ℕ) (first : List Bool) where
-  -- Behind this handle, what is marked has a form and its operands are marked. What is marked is
+  -- After this handle, what is marked has a form and its operands are marked. What is marked is
   -- written, and what was is.
   pub record Swept (marks : List Bool) (end : ℕ) : Type 0 where
     pub sound : (h : ℕ) → is_marked marks h ≡ true → IsWritten es roots h

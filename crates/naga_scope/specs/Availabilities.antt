@@ -37,7 +37,7 @@ abbrev pub name_of_bound : (named : ℕ → List ℕ) → (numbered : List ℕ) 
 name_of_bound named numbered Numbered = numbered
 name_of_bound named numbered (Named number) = named number
 
--- the name of a handle that is bound behind so many given ones, whether it is given one or not
+-- the name of a handle that is bound after so many given ones, whether it is given one or not
 abbrev pub next_name : (is_named : Bool) → (number : ℕ) → BoundName
 next_name true number = Named number
 next_name false number = Numbered
@@ -148,13 +148,13 @@ abbrev pub first_availability : (is_constant_tree : Bool) → Availability
 first_availability true = Everywhere
 first_availability false = Absent
 
--- the cell of an operator that no name binds, behind its Emit
+-- the cell of an operator that no name binds, after its Emit
 abbrev pub unbound_availability : (has_operands : Bool) → Availability → Availability
 unbound_availability true before = Inline
 unbound_availability false Absent = Barred
 unbound_availability false before = before
 
--- the cell of an expression behind its Emit, which has this name where it is bound
+-- the cell of an expression after its Emit, which has this name where it is bound
 abbrev pub emitted_availability : (is_bound is_operator has_operands : Bool) → BoundName →
     Availability →
     Availability

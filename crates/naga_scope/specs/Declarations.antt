@@ -2,7 +2,7 @@
 -- of its members.
 --
 -- Throughout, m is a module, number is that of a function or an entry point, f is a function, p an
--- entry point, b a binding, v a value of the hardware, ty is the handle of a type, h that of an
+-- entry point, b a binding, v a built-in value, ty is the handle of a type, h that of an
 -- expression, s a member, c a constant, o an override, g a variable, a an argument, i is the place
 -- of an item in its list, fault is why members can't stay where they are, ks are the members of a
 -- struct as the module places them, and it is what is found.
@@ -111,7 +111,7 @@ IsFormlessConstant m c it = IsTrue (is_some c.name) × IsFormlessValue m c.ty (S
 abbrev pub BindingHasForm : Option Binding → Type 0
 BindingHasForm bound = (b : Binding) → bound ≡ Some b → IsTrue (binding_has_form b)
 
--- it is to this value of the hardware, which has none
+-- it is to this built-in value, which has none
 abbrev pub IsFormlessBinding : Option Binding → BuiltIn → Type 0
 IsFormlessBinding bound v =
     (bound ≡ Some (binding.BuiltIn v)) × IsFalse (binding_has_form (binding.BuiltIn v))
@@ -177,7 +177,7 @@ IsFormlessType m ty t it =
 abbrev pub PassedHasForm : Function → Type 0
 PassedHasForm f = (b : Binding) → IsPassed f b → IsTrue (binding_has_form b)
 
--- it takes or gives this value of the hardware, which has none
+-- it takes or gives this built-in value, which has none
 abbrev pub IsFormlessPassed : Function → BuiltIn → Type 0
 IsFormlessPassed f v =
     IsPassed f (binding.BuiltIn v) × IsFalse (binding_has_form (binding.BuiltIn v))

@@ -5,7 +5,7 @@ use Rattle.naga_names.specs.Naming.{HasNamed, Names, name_after}
 use Rattle.naga_names.specs.declared.error.NamerError.{NamerError}
 use Rattle.naga_names.specs.declared.error.NamerError.TheVariants.{Full, KeyFull, Memory}
 
--- the names of labels, each behind the earlier ones and those in front of it
+-- the names of labels, each after the earlier ones and those in front of it
 abbrev pub names_behind : Names → (earlier labels : List (List ℕ)) → List (List ℕ)
 names_behind start earlier [] = []
 names_behind start earlier (label ∷ labels) =
@@ -15,8 +15,8 @@ names_behind start earlier (label ∷ labels) =
 abbrev pub HasOtherUses : (old new : Names) → Type 0
 HasOtherUses old new = new ≡ record old { uses = new.uses }
 
--- Behind any labels that were named before, the namer has named these too, one behind another, and
--- their names stand behind those that were held.
+-- After any labels that were named before, the namer has named these too, one after another, and
+-- their names stand after those that were held.
 pub record NamesLabels (old : Names) (held labels : List (List ℕ)) (new : Names)
     (now : List (List ℕ)) : Type 0 where
   pub words : HasOtherUses old new
@@ -39,7 +39,7 @@ IsRefusalOfLabels start earlier labels Full = SomeLabelIsFull start earlier labe
 IsRefusalOfLabels start earlier labels KeyFull = ⊥
 IsRefusalOfLabels start earlier labels (Memory e) = ⊤
 
--- behind any labels that were named before, the namer refused one of these, and has named those in
+-- after any labels that were named before, the namer refused one of these, and has named those in
 -- front of it
 pub record RefusesLabels (old : Names) (labels : List (List ℕ)) (new : Names)
     (error : NamerError) : Type 0 where
@@ -48,7 +48,7 @@ pub record RefusesLabels (old : Names) (labels : List (List ℕ)) (new : Names)
   pub why : (earlier : List (List ℕ)) → HasNamed old earlier →
       IsRefusalOfLabels old earlier labels error
 
--- whatever the answer, it has named some first ones of these behind what it had named
+-- whatever the answer, it has named some first ones of these after what it had named
 pub record HasBegunLabels (old : Names) (labels : List (List ℕ)) (new : Names) : Type 0 where
   pub words : HasOtherUses old new
   pub some : (earlier : List (List ℕ)) → HasNamed old earlier → HasNamedSome new earlier labels

@@ -40,7 +40,7 @@ changed index now p =
 unfoldable pub back_to : (mark : ℕ) → TextPoint → TextPoint
 back_to mark p = record p { table = undone (drop mark p.log) p.table; log = take mark p.log }
 
--- what was introduced behind it is forgotten, and the log stays
+-- what was introduced after it is forgotten, and the log stays
 unfoldable pub forget_from : (mark : ℕ) → TextPoint → TextPoint
 forget_from mark p = record p { table = forgotten (drop mark p.log) p.table }
 
@@ -73,7 +73,7 @@ unfoldable pub Logged : (before after : TextPoint) → (more : List Change) → 
 Logged before after more =
     (after.log ≡ before.log ++ more) × (undone more after.table ≡ before.table)
 
--- Behind some changes, which undone give what was before.
+-- After some changes, which undone give what was before.
 pub record Reverts (before after : TextPoint) : Type 0 where
   pub size : length after.table ≡ length before.table
   pub room : after.room ≡ before.room
@@ -81,7 +81,7 @@ pub record Reverts (before after : TextPoint) : Type 0 where
   pub more : List Change
   pub logged : Logged before after more
 
--- Behind some statements in turn: each cell has grown by each change too.
+-- After some statements in turn: each cell has grown by each change too.
 pub record Extends (before after : TextPoint) : Type 0 where
   pub size : length after.table ≡ length before.table
   pub room : after.room ≡ before.room

@@ -13,7 +13,7 @@ use Rattle.naga_scope.specs.declared.scope_faults.ScopeFault.TheVariants.{FirstV
 use Rattle.naga_scope.specs.declared.scope_faults.ScopeFault.TheVariants.{EmittedOperand}
 use Rattle.naga_scope.specs.declared.scope_faults.ScopeFault.TheVariants.{GivenBefore, NeedsNoEmit}
 use Rattle.shader_runs.specs.Program.{Statement, Emit, Store, Block, If, Switch, Loop, Return, Act}
-use Rattle.shader_runs.specs.Program.{Statements, end, then, Cases, no_case, case, Function}
+use Rattle.shader_runs.specs.Program.{Jumps, Statements, end, then, Cases, no_case, case, Function}
 use Rattle.shader_runs.specs.Program.{expression_of, operands_of, binds, from, is_emittable}
 use Rattle.shader_runs.specs.Scope.{Handles, Naming, before_local, at_start, is_new, usable}
 use Rattle.shader_runs.specs.Scope.{after_one, after, after_all, named_after, named_by, named_by_all}
@@ -98,7 +98,7 @@ abbrev mutual
       let ended = check_use_if f.function (after_all f k1 d s1) n e in
       onward (λ n. onward (λ n. result_and ended (Ok n)) (check_all f k1 n d s1))
       (check_all f k (next_number n) b s)
-  check_statement f k n (Return v) s =
+  check_statement f k n (Jumps (Return v)) s =
       result_and (check_use_if f.function s n v) (Ok (next_number n))
   check_statement f k n (Act a xs r) s =
       result_and (check_uses f.function s n xs)

@@ -1,4 +1,4 @@
--- Which handles are in scope behind a list of statements, with nothing forgotten.
+-- Which handles are in scope after a list of statements, with nothing forgotten.
 use Rattle.std.specs.Prelude.{ℕ}
 use Rattle.shader_runs.specs.Program.{Statements, end, then}
 use Rattle.shader_runs.specs.Scope.{Handles, Naming, after, named_by}

@@ -67,7 +67,7 @@ fn is_earlier(
     }
 }
 
-/// Whether the first value of this local is in scope where it stands, behind the locals before it.
+/// Whether the first value of this local is in scope where it stands, after the locals before it.
 fn first_value_holds(
     scope: &Scope,
     function: &Function,
@@ -82,7 +82,7 @@ fn first_value_holds(
     is_usable_if(scope, function, local.init) && is_earlier(function, local.init, handle)
 }
 
-/// The fault of the first value of this local, if it has one, behind the locals before it.
+/// The fault of the first value of this local, if it has one, after the locals before it.
 fn check_first_value(
     scope: &Scope,
     function: &Function,

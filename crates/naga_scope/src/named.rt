@@ -32,7 +32,7 @@ pub(crate) fn expression_names(
     Ok(names)
 }
 
-/// The names of what a block emits, behind those that there are.
+/// The names of what a block emits, after those that there are.
 #[cycle(named)]
 fn name_block(
     function: &Function,

@@ -88,7 +88,7 @@ impl Availability {
         }
     }
 
-    /// Where an operator that no `let` binds stands behind its `Emit`.
+    /// Where an operator that no `let` binds stands after its `Emit`.
     fn unbound(self, has_operands: bool) -> Self
         ensures { result ≡ unbound_availability has_operands self }
     {
@@ -124,14 +124,14 @@ pub struct Change {
 /// Where each expression of a function stands at a point of its text, one cell for each, and how
 /// many names that front ends gave stand in front of the point.
 ///
-/// A log of what was changed undoes it behind a block, so that the table is never copied. Room for
+/// A log of what was changed undoes it after a block, so that the table is never copied. Room for
 /// all changes of a function's body is made once, and nothing inside asks for memory.
 #[derive(Debug, Drop)]
 pub struct Scope {
     availabilities: Vec<Availability>,
     /// How many names that front ends gave stand in front of the point. It is never undone.
     named: usize,
-    /// As long as there is room for changes; those behind `used` mean nothing.
+    /// As long as there is room for changes; those after `used` mean nothing.
     log: Vec<Change>,
     used: usize,
 }
@@ -402,7 +402,7 @@ impl Scope {
         }
     }
 
-    /// Where the expression with this handle stands behind an `Emit` of it. Its operands are looked
+    /// Where the expression with this handle stands after an `Emit` of it. Its operands are looked
     /// at only where that depends on them.
     fn emitted(
         &self,
@@ -432,7 +432,7 @@ impl Scope {
         }
     }
 
-    /// Goes behind an `Emit` of the expression with this handle. It is named where a `let` binds
+    /// Goes after an `Emit` of the expression with this handle. It is named where a `let` binds
     /// it, by the next name of those that front ends gave where it has such a one. An operator that
     /// no `let` binds is written where it is used, if its operands are in scope here. A `Load` that
     /// no `let` binds stays absent, since it may not be read later than here.
@@ -462,7 +462,7 @@ impl Scope {
         self.stand(handle, availability);
     }
 
-    /// How many names are given behind an `Emit` of the expression with this handle.
+    /// How many names are given after an `Emit` of the expression with this handle.
     fn named_behind(&self, function: &Function, handle: Handle<Expression>) -> usize
         requires { self.now.named + 1 < 2 ^ 64 }
         ensures { result ≡ self.now.named + length (option_to_list (label_of function.now handle)) }
@@ -473,7 +473,7 @@ impl Scope {
         }
     }
 
-    /// Goes behind a statement that gives the expression with this handle: its result is bound
+    /// Goes after a statement that gives the expression with this handle: its result is bound
     /// under the name that is made of the handle.
     pub fn give(&mut self, handle: Handle<Expression>)
         requires size { handle < length self.old.table }

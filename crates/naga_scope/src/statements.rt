@@ -22,7 +22,7 @@ pub enum FormlessStatement {
     RayQuery,
     /// A scan over a subgroup that WGSL has no word for.
     SubgroupOperation,
-    /// A case of a `switch` with statements, behind which the next case's body runs.
+    /// A case of a `switch` with statements, after which the next case's body runs.
     FallThrough,
     /// A texel that is compared and exchanged.
     ImageCompareExchange,

@@ -1,4 +1,4 @@
--- How calls that write texts one behind another write the texts together.
+-- How calls that write texts one after another write the texts together.
 use Rattle.std.proofs.Common.{◌≡◌, ℕ, List, [], ◌++◌, append_assoc, Result, Ok, Err, refl, sym, ap}
 use Rattle.std.proofs.Common.{◌∙◌, subst}
 use Rattle.std.proofs.lemmas.List.{append-nil}
@@ -28,7 +28,7 @@ pub stopped_then : {content text middle more now : List ℕ} {failed among failu
 stopped_then {content} {text} {middle} {more} {now} {failures = failures} {error = error} w s =
     record { behind = behind_then content text middle more now w.appended s.behind; reason = subst (λ n. IsWant n failures error) w.kept s.reason }
 
--- the answer of a call that writes behind a text that was written
+-- the answer of a call that writes after a text that was written
 pub appends_then : (r : Result Unit Error) {content text middle : List ℕ} {failed among : ℕ} (more now : List ℕ) (failures : ℕ)
     → Wrote content failed text middle among → Appends r middle among more now failures → Appends r content failed (text ++ more) now failures
 appends_then (Ok x) more now failures w a = wrote_then w a

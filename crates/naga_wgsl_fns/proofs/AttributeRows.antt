@@ -1,6 +1,6 @@
 -- The texts of attributes, from what is written of them in turn.
 --
--- Throughout, list are attributes, more those behind one, n is a number, w a word, i an interpolation
+-- Throughout, list are attributes, more those after one, n is a number, w a word, i an interpolation
 -- and s a sampling.
 use Rattle.std.proofs.Common.{◌≡◌, ◌∙◌, ◌++◌, ℕ, Bool, true, false, List, [], ◌∷◌, append_assoc, ap}
 use Rattle.std.proofs.Common.{codes, decimal, refl, sym}
@@ -45,7 +45,7 @@ pub interpolated_parts : (i s : List ℕ) →
 unfolding interpolated_text joined_texts
 interpolated_parts i s = refl
 
--- ---- some attributes behind others
+-- ---- some attributes after others
 pub no_attributes : attributes_text [] ≡ []
 unfolding attributes_text
 no_attributes = refl

@@ -64,7 +64,7 @@ wants_after before after any = by before.want refl
         let same : after ≡ before = subst (λ o. Follows o before [] after) (sym is) (any []).goes.0 in
         ap (λ (o : OutputView). is_some o.want) same ∙ ap is_some (sym is)
 
--- behind a want nothing changes
+-- after a want nothing changes
 pub wanting_stays : (before after : OutputView) (text : List ℕ) → is_some before.want ≡ true → Wrote before after text → after ≡ before
 unfolding Goes
 wanting_stays before after text some w = by before.want some w.goes.0

@@ -381,7 +381,7 @@ pub next_part_row : (m : Module) (first : Bool) (part : ℕ) →
 unfolding next_part_text joined_texts
 next_part_row m first part = refl
 
--- the next part, and those behind it
+-- the next part, and those after it
 pub parts_more : (m : Module) (first : Bool) (part : ℕ) (more : List ℕ) →
     parts_left m first (part ∷ more) ≡
     joined_texts (next_part_text m first part) (parts_left m false more)

@@ -1,4 +1,4 @@
--- The names that front ends gave in a function, behind labels that were named before.
+-- The names that front ends gave in a function, after labels that were named before.
 use Rattle.std.proofs.Common.{◌≡◌, ◌≤◌, ◌^◌, ◌∙◌, ◌++◌, ℕ, zero, suc, List, [], ◌∷◌, append-nil}
 use Rattle.std.proofs.Common.{append_assoc, ap, arith, get_or, refl, slice_get, subst, sym, take}
 use Rattle.std.specs.Option.{option_map_or}
@@ -49,7 +49,7 @@ few_named labels namer words has base =
 
 -- ---- the names of a function
 module _ (m : Module) (handle : ℕ) (earlier : List (List ℕ)) where
-  -- those that a namer gave behind these labels
+  -- those that a namer gave after these labels
   pub named_are : (old : Names) → HasOtherUses wgsl_names old → (names : List (List ℕ)) →
       names ≡ names_behind old earlier (labels_named_in m handle) → (k : ℕ) →
       get_or names k [] ≡ name_of_label wgsl_names earlier (labels_named_in m handle) k

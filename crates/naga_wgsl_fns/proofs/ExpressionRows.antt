@@ -563,7 +563,7 @@ pub next_operand_row : (f : FunctionText) (table : List Availability) (first : B
 unfolding next_operand_text joined_texts
 next_operand_row f table first operand = refl
 
--- the next operand, and those behind it
+-- the next operand, and those after it
 pub operands_more : (f : FunctionText) (table : List Availability) (first : Bool) (operand : ℕ)
     (more : List ℕ) →
     operands_left f table first (operand ∷ more) ≡

@@ -132,7 +132,7 @@ module _ (m : Module) (ordered : GlobalsStandInOrder m) (h : ℕ)
           inside (y ∷ ys) below (suc i) at = inside ys below.1 i at
 
 -- ---- representatives
--- The representative of one without a form has none and does not stand behind it, and what names why it
+-- The representative of one without a form has none and does not stand after it, and what names why it
 -- has none names why that one has none.
 pub record IsFormless (m : Module) (h representative : ℕ) : Type 0 where
   pub there : representative < length m.global_expressions

@@ -1,4 +1,4 @@
--- A function that is written by itself in a module that no text is written for: the function behind it
+-- A function that is written by itself in a module that no text is written for: the function after it
 -- is refused, and an override has an initialiser without a form. What its text means is told by the
 -- one answer that it got.
 --
@@ -31,7 +31,7 @@ use Rattle.naga_back.specs.Flags.{annotates_types}
 use Rattle.naga_wgsl_fns.specs.Items.{AreNamesOfText, FunctionWriting, IsMeantUnder, IsWritableFunction}
 use Rattle.naga_wgsl_fns.specs.Items.{named_behind}
 
--- One program has the texts of all functions, each of which was written by itself behind labels of its
+-- One program has the texts of all functions, each of which was written by itself after labels of its
 -- own: there are names of which each text's are a part.
 names_of_all : (m : Module) (later : (number : ℕ) → List (List ℕ)) (number : ℕ) →
     AreNamesOfText m (item_labels m ++ later number) number

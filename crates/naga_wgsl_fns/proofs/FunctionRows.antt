@@ -175,7 +175,7 @@ result_row f = by f.function.now.result
     by (Some r) =
         ap (λ t. codes " -> " ++ t) (text-append (attributes_pieces (passing_attributes r.binding)) _)
 
--- what is left of the arguments from this number on, with the parenthesis behind the last
+-- what is left of the arguments from this number on, with the parenthesis after the last
 abbrev pub arguments_left : FunctionText → ℕ → List FunctionArgument → List ℕ
 arguments_left f zero more = text (parameters_pieces (parameters_form (module_names f.shader.now) f.shader.now (number f) zero more))
 arguments_left f (suc n) more = text (more_parameters_pieces (parameters_form (module_names f.shader.now) f.shader.now (number f) (suc n) more))
@@ -284,7 +284,7 @@ locals_more f i handle lt is =
     ∙ (locals_step f i local.0 (drop (i + 1) locals)
     ∙ (ap (λ o. option_map_or (local_text_of f i) o [] ++ more) (sym local.1) ∙ ap (λ h. local_text f h ++ more) (sym is)))
 
--- behind the locals, the empty line
+-- after the locals, the empty line
 pub locals_none : (f : FunctionText) (i : ℕ) → length f.function.now.local_variables ≤ i → locals_left f i (drop i f.function.now.local_variables) ≡ []
 locals_none f i past = ap (locals_left f i) (drop_all i f.function.now.local_variables past)
 

@@ -115,7 +115,7 @@ unfolding offset_text
 no_offset f = refl
 
 -- ---- arguments
--- an operand behind others, and several
+-- an operand after others, and several
 next_then : (f : FunctionText) (table : List Availability) (h : ℕ) (hs : List ℕ)
     (args : Arguments) →
     text (more_arguments_pieces (operands_then (value_forms (form_at f table) (h ∷ hs)) args)) ≡
@@ -166,7 +166,7 @@ unfolding offset_text joined_texts
 offset_then f None = refl
 offset_then f (Some h) = next_argument_text (constant_form (source f) h) NoArguments
 
--- what is written of operands behind others
+-- what is written of operands after others
 pub furthers_none : (f : FunctionText) (table : List Availability) → [] ≡ furthers_text f table []
 unfolding furthers_text
 furthers_none f table = refl

@@ -142,7 +142,7 @@ meant_under named flags m info accepted are ty earlier writable content now stan
       interface = λ declarations have. has_interface_under m info flags named accepted declarations have;
     }
 
--- behind the labels of the items and any others
+-- after the labels of the items and any others
 pub is_meant : (flags : WriterFlags) (m : Module) (info : ModuleInfo) → IsTrue (is_accepted m info) →
     (ty : FunctionType) (earlier later : List (List ℕ)) → earlier ≡ item_labels m ++ later →
     IsWritableAt (annotates_types flags) m info earlier (function_number m ty) →

@@ -1,4 +1,4 @@
--- A part at an index, by what it is taken of and by what stands behind that.
+-- A part at an index, by what it is taken of and by what stands after that.
 use Rattle.std.proofs.Common.{◌≡◌, ℕ, Bool, true, false, ◌++◌, List, [], ◌∷◌, Option, Some, None}
 use Rattle.std.proofs.Common.{refl, sym, ap, ◌∙◌, subst}
 use Rattle.std.specs.Prelude.{if◌then◌else◌, slice_get}
@@ -24,7 +24,7 @@ use Rattle.wgsl_text.specs.Expressions as tree
 use Rattle.wgsl_text.specs.Reading.{expression_layout}
 use Rattle.wgsl_text.specs.Text.{text}
 
--- a part of this base: a part of its form, written as the base and what stands behind it
+-- a part of this base: a part of its form, written as the base and what stands after it
 pub record PartForm (f : FunctionText) (table : List Availability) (e : Option ir.Expression)
     (base : ℕ) : Type 0 where
   pub part : tree.Expression → tree.Expression

@@ -189,7 +189,7 @@ pub member_selector_row : (f : FunctionText) (base index h : ℕ) →
 unfolding named_member_text selector_text
 member_selector_row f base index h is = sym (ap (λ o. option_map_or selector_end o []) is)
 
--- what stands behind the base
+-- what stands after the base
 pub element_end : (f : FunctionText) (table : List Availability) (handle : ℕ) (e : ir.Expression)
     (b index : ℕ) → slice_get (expressions f) handle ≡ Some e → e ≡ expression.Access b index →
     index_text f table index ≡ part_end_text f table handle

@@ -311,7 +311,7 @@ module _ (explicit : Bool) (m : Module) (info : ModuleInfo) (accepted : IsTrue (
   is_of_plan es here namer (Unnamed e) refusal = tt
   is_of_plan es here namer (plan_error.Memory e) refusal = tt
 
-  -- behind these labels
+  -- after these labels
   module _ (earlier : List (List ℕ)) where
     for_scope : (reported : Error) → IsCustom (codes "operand out of scope") reported →
         HasScopeFaultIn m info i → IsPlanRefusal explicit m info earlier i reported

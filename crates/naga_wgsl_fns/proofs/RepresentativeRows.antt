@@ -18,7 +18,7 @@ use Rattle.naga_wgsl_fns.proofs.ConstantRows.{initialiser_written, unnamed_const
 use Rattle.naga_wgsl_fns.specs.Constants.{global_text}
 use Rattle.naga_wgsl_fns.specs.ModuleText.{CanWriteOf}
 
--- what one is written by has its text, is written as it is, and does not stand behind it
+-- what one is written by has its text, is written as it is, and does not stand after it
 pub record IsRepresentative (m : Module) (h representative : ℕ) : Type 0 where
   pub text : global_text m representative ≡ global_text m h
   pub written : global_is_written m representative ≡ true

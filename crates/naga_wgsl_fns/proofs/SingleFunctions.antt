@@ -93,7 +93,7 @@ items_named m handle old new items same r named =
     by (Ok _) has = with_more (labels_named_in m handle) has.0
     by (Err e) has = with_more has.1.named has.1.has
 
--- an entry point's text is its function's behind that of its stage
+-- an entry point's text is its function's after that of its stage
 point_layout : (m : Module) (p : ir_entry_point.EntryPoint) (form : Function) →
     entry_point_layout
     (record { stage = stage_attributes (module_names m) p p.stage; function = form }) ≡
@@ -104,7 +104,7 @@ point_layout m p form =
     text-append attributes (LineEnd ∷ function_pieces form)
     ∙ sym (append_assoc (text attributes) (codes "\n") (function_layout form))
 
--- what stands behind the same text is the same
+-- what stands after the same text is the same
 pub same_behind : (content a b : List ℕ) → content ++ a ≡ content ++ b → a ≡ b
 same_behind [] a b e = e
 same_behind (x ∷ content) a b e = same_behind content a b (ap (drop 1) e)
@@ -331,7 +331,7 @@ module _ (m : Module) (info : ModuleInfo) (flags : WriterFlags) (earlier : List 
         (one_is flags m info accepted (named_behind m earlier g) g f stands known.0
         known.1 (identifiers f stands) here.formed (leb-true (length f.expressions) (2 ^ 64) here.counted))
 
-    -- the names of the plan are those behind the earlier labels
+    -- the names of the plan are those after the earlier labels
     text_same : text_under m info flags (names_of planned) g ≡ whole
     text_same =
         ap (λ names. text_under m info flags names g)

@@ -27,7 +27,7 @@ use Rattle.naga_ir.specs.declared.statement.Range.{Range}
 use Rattle.naga_ir.specs.declared.statement.Statement.{Statement}
 use Rattle.naga_back.specs.Indentation.{indentation}
 use Rattle.naga_scope.proofs.Listed.{first_of}
-use Rattle.module_meaning.specs.Ranges.{statement_in_range}
+use Rattle.module_meaning.specs.Ranges.{named_in_range, statement_in_range}
 use Rattle.module_meaning.specs.StatementShapes.{barrier_bits}
 use Rattle.shader_runs.specs.Program as shapes
 use Rattle.shader_runs.specs.Program.{binds, from}
@@ -42,7 +42,7 @@ use Rattle.naga_form.specs.Expressions.{Source, as_value, as_reference, plain_fo
 use Rattle.naga_form.specs.Expressions.{unnamed_form}
 use Rattle.wgsl_text.specs.Statements.{Statements, NoStatements, Then, statement_pieces}
 use Rattle.wgsl_text.specs.Statements.{statements_pieces, CallStatement}
-use Rattle.naga_form.specs.Statements.{act_line, barrier_lines, cases_form, let_form, then_if, lets_form, return_line, loop_form}
+use Rattle.naga_form.specs.Statements.{act_line, barrier_lines, cases_form, let_form, then_if, lets_form, jump_form, loop_form}
 use Rattle.naga_form.specs.Statements.{line_form, lines_form, optional_form, shape_form}
 use Rattle.wgsl_text.proofs.Statements.{let_text as let_row_text, typed_let_text, assign_text}
 use Rattle.wgsl_text.proofs.Statements.{return_text as return_row_text, then_text}
@@ -312,7 +312,7 @@ module _ (f : FunctionText) where
   unfolding lets_text
   lets_none k s i index last past = ap (lets_text f k s i) (range_none index last past)
 
-  -- what is in scope behind it, and how many names are given
+  -- what is in scope after it, and how many names are given
   pub emitted_after : (k k1 : ℕ) (s s1 : Handles) (index last handle : ℕ) → index < last → handle ≡ index
       → k1 ≡ named_after (naming f).function handle k → s1 ≡ after_one (naming f) k handle s
       → after_emit (naming f) k (from index (last - index)) s ≡ after_emit (naming f) k1 (from (index + 1) (last - (index + 1))) s1
@@ -347,14 +347,8 @@ module _ (f : FunctionText) where
   shape_then k (shapes.Act action xs outcome) s rest i =
       one_then (act_line (naming f) (let_annotation f) (word_of (naming f).names action) (operands (value_forms (plain_form (naming f) (source f) s) xs)) outcome) rest i
   shape_then k (shapes.Barrier bits) s rest i = barriers_then (barrier_words bits) rest i
-  shape_then k (shapes.Return value) s rest i = one_then (return_line (naming f) (source f) s value) rest i
-  shape_then k shapes.Break s rest i = one_then tree.Break rest i
-  shape_then k shapes.Continue s rest i = one_then tree.Continue rest i
-  shape_then k shapes.Kill s rest i = one_then tree.Discard rest i
-  shape_then k (shapes.Block b) s rest i = refl
-  shape_then k (shapes.If c a b) s rest i = refl
-  shape_then k (shapes.Switch h cases) s rest i = refl
-  shape_then k (shapes.Loop b d e) s rest i = refl
+  shape_then k (shapes.Jumps j) s rest i = one_then (jump_form (naming f) (source f) s j) rest i
+  shape_then k _ s rest i = refl
 
   abbrev lines_at : ℕ → BlockTree → Handles → Statements
   lines_at k b s = lines_form (naming f) (let_annotation f) (source f) k b s
@@ -406,7 +400,7 @@ lines_none f k s i items n past = ap (λ (ss : List Statement). block_text f k s
 -- ---- what is in range
 pub emit_within : (callees expressions first last : ℕ) → IsTrue (statement_in_range callees expressions (simple (emit first last))) → last ≤ expressions
 emit_within callees expressions first last range =
-    leb-true last expressions (and_parts (nat_le first expressions) (nat_le last expressions) range).1
+    leb-true last expressions (and_parts (nat_le first expressions) (nat_le last expressions) (and_parts (named_in_range callees expressions (emit first last)) _ range).0).1
 
 pub ruleset lines = (lines_more, lines_none, first_of)
 

@@ -10,20 +10,13 @@ use Rattle.std.proofs.Common.{ap, sym, ◌∙◌}
 use Rattle.std.specs.Prelude.{◌&&◌, nat_lt}
 use Rattle.std.proofs.lemmas.Bool.{and_parts, ltb-true}
 use Rattle.module_meaning.specs.Numbers.{label_fits_32_bits}
-use Rattle.module_meaning.specs.Ranges.{all_below, atomic_in_range, block_in_range, cases_in_range, cooperative_in_range}
-use Rattle.module_meaning.specs.Ranges.{gather_in_range, is_below, statement_in_range}
+use Rattle.module_meaning.specs.Ranges.{all_below, block_in_range, cases_in_range}
+use Rattle.module_meaning.specs.Ranges.{is_below, statement_in_range}
 use Rattle.module_meaning.specs.Written.{IsWrittenIn, block_roots, cases_roots, simple_roots, statement_roots}
-use Rattle.naga_ir.specs.Operands.{atomic_operands, gather_operands, simple_result}
-use Rattle.naga_ir.specs.StatementTree.{SimpleStatement, emit, return, store, image_store, atomic, image_atomic}
-use Rattle.naga_ir.specs.StatementTree.{work_group_uniform_load, call, ray_query, subgroup_ballot, subgroup_gather}
-use Rattle.naga_ir.specs.StatementTree.{subgroup_collective_operation, cooperative_store, ray_pipeline_function}
+use Rattle.naga_ir.specs.Operands.{simple_result, simple_operands}
+use Rattle.naga_ir.specs.StatementTree.{SimpleStatement, emit}
 use Rattle.naga_ir.specs.StatementTree.{StatementTree, simple, block, branch, switch, loop, BlockTree, no_statements, statement}
 use Rattle.naga_ir.specs.StatementTree.{CaseTrees, no_cases, case}
-use Rattle.naga_ir.specs.declared.operators.AtomicFunction.{AtomicFunction}
-use Rattle.naga_ir.specs.declared.operators.AtomicFunction.TheVariants as atomic_function
-use Rattle.naga_ir.specs.declared.operators.GatherMode.{GatherMode}
-use Rattle.naga_ir.specs.declared.operators.GatherMode.TheVariants as gather
-use Rattle.naga_ir.specs.declared.statement.RayPipelineFunction.TheVariants.{TraceRay}
 use Rattle.naga_wgsl_fns.proofs.StatementRows.{emit_within}
 use Rattle.std.proofs.Common.{◌≡◌, ℕ, suc, zero, ◌<◌, ◌≤◌, ◌+◌, ◌-◌, Bool, true, false, List, [], ◌∷◌, ◌++◌}
 use Rattle.std.proofs.Common.{Option, Some, None, IsTrue, length, arith, refl}
@@ -35,8 +28,9 @@ use Rattle.naga_form.proofs.WrittenHandles.{written_are_closed}
 use Rattle.naga_ir.specs.declared.module.LocalVariable.{LocalVariable}
 use Rattle.shader_runs.specs.Program.{from}
 use Rattle.naga_wgsl_fns.proofs.Wanted.{first_within}
-use Rattle.naga_wgsl_fns.specs.FunctionText.{AreInText, CanWrite, IsInText, bound, callees}
+use Rattle.naga_wgsl_fns.specs.FunctionText.{AreInText, CanWrite, bound, callees}
 use Rattle.naga_wgsl_fns.specs.declared.functions.FunctionText.{FunctionText}
+use Rattle.module_meaning.proofs.StatementRanges.{operands_below, result_below}
 
 -- ---- the handles of an `Emit`
 pub first_of : (P : ℕ → Type 0) (b : Bool) (h : ℕ) (hs : List ℕ) → AllByRecursion P (if b then h ∷ hs else hs) → IsTrue b → P h
@@ -85,20 +79,6 @@ module _ (count : ℕ) where
       let parts = and_parts (nat_lt h count) (all_below count hs) is in
       (ltb-true h count parts.0, listed_within hs parts.1)
 
-  compared_within : (fun : AtomicFunction) → IsTrue (atomic_in_range count fun) → AllWithin count (atomic_operands fun)
-  compared_within (atomic_function.Exchange compare) is = some_within compare is
-  compared_within _ is = tt
-
-  told_within : (mode : GatherMode) → IsTrue (gather_in_range count mode) → AllWithin count (gather_operands mode)
-  told_within gather.BroadcastFirst is = tt
-  told_within (gather.Broadcast h) is = one_within h is
-  told_within (gather.Shuffle h) is = one_within h is
-  told_within (gather.ShuffleDown h) is = one_within h is
-  told_within (gather.ShuffleUp h) is = one_within h is
-  told_within (gather.ShuffleXor h) is = one_within h is
-  told_within (gather.QuadBroadcast h) is = one_within h is
-  told_within (gather.QuadSwap direction) is = tt
-
 module _ (binds : ℕ → Bool) (callees count : ℕ) where
   emitted_within : (first end n : ℕ) → end - first ≡ n → end ≤ count → AllWithin count (from first n)
   emitted_within first end zero e le = tt
@@ -108,78 +88,15 @@ module _ (binds : ℕ → Bool) (callees count : ℕ) where
   line_within (emit first end) range =
       let le = emit_within callees count first end range in
       filtered count binds (from first (end - first)) (emitted_within first end (end - first) refl le)
-  line_within (return value) range = some_within count value range
-  line_within (store pointer value) range =
-      let parts = and_parts (nat_lt pointer count) (nat_lt value count) range in
-      (ltb-true pointer count parts.0, one_within count value parts.1)
-  line_within (image_store image coordinate array_index value) range =
-      let one = and_parts (nat_lt image count) (nat_lt coordinate count && (is_below count array_index && nat_lt value count)) range in
-      let two = and_parts (nat_lt coordinate count) (is_below count array_index && nat_lt value count) one.1 in
-      let three = and_parts (is_below count array_index) (nat_lt value count) two.1 in (
-        ltb-true image count one.0,
-        (ltb-true coordinate count two.0, both_within count (option_to_list array_index) (value ∷ []) (some_within count array_index three.0) (one_within count value three.1)),
-      )
-  line_within (atomic pointer fun value outcome) range =
-      let one = and_parts (nat_lt pointer count) (atomic_in_range count fun && (nat_lt value count && is_below count outcome)) range in
-      let two = and_parts (atomic_in_range count fun) (nat_lt value count && is_below count outcome) one.1 in
-      let three = and_parts (nat_lt value count) (is_below count outcome) two.1 in
-      (ltb-true pointer count one.0, both_within count (atomic_operands fun) (value ∷ []) (compared_within count fun two.0) (one_within count value three.0))
-  line_within (image_atomic image coordinate array_index fun value) range =
-      let one = and_parts (nat_lt image count) (nat_lt coordinate count && (is_below count array_index && (atomic_in_range count fun && nat_lt value count))) range in
-      let two = and_parts (nat_lt coordinate count) (is_below count array_index && (atomic_in_range count fun && nat_lt value count)) one.1 in
-      let three = and_parts (is_below count array_index) (atomic_in_range count fun && nat_lt value count) two.1 in
-      let four = and_parts (atomic_in_range count fun) (nat_lt value count) three.1 in (
-        ltb-true image count one.0,
-        (
-          ltb-true coordinate count two.0,
-          both_within count (option_to_list array_index ++ atomic_operands fun) (value ∷ [])
-              (both_within count (option_to_list array_index) (atomic_operands fun) (some_within count array_index three.0) (compared_within count fun four.0))
-              (one_within count value four.1),
-        ),
-      )
-  line_within (work_group_uniform_load pointer outcome) range = one_within count pointer (and_parts (nat_lt pointer count) (nat_lt outcome count) range).0
-  line_within (call function arguments outcome) range =
-      let one = and_parts (nat_lt function callees) (all_below count arguments && is_below count outcome) range in
-      listed_within count arguments (and_parts (all_below count arguments) (is_below count outcome) one.1).0
-  line_within (ray_query query) range = one_within count query range
-  line_within (subgroup_ballot outcome predicate) range = some_within count predicate (and_parts (nat_lt outcome count) (is_below count predicate) range).1
-  line_within (subgroup_gather mode argument outcome) range =
-      let one = and_parts (gather_in_range count mode) (nat_lt argument count && nat_lt outcome count) range in
-      (ltb-true argument count (and_parts (nat_lt argument count) (nat_lt outcome count) one.1).0, told_within count mode one.0)
-  line_within (subgroup_collective_operation op collective argument outcome) range = one_within count argument (and_parts (nat_lt argument count) (nat_lt outcome count) range).0
-  line_within (cooperative_store target place) range =
-      let one = and_parts (nat_lt target count) (cooperative_in_range count place) range in
-      let two = and_parts (nat_lt place.pointer count) (nat_lt place.stride count) one.1 in
-      (ltb-true target count one.0, (ltb-true place.pointer count two.0, one_within count place.stride two.1))
-  line_within (ray_pipeline_function (TraceRay structure descriptor payload)) range =
-      let one = and_parts (nat_lt structure count) (nat_lt descriptor count && nat_lt payload count) range in
-      let two = and_parts (nat_lt descriptor count) (nat_lt payload count) one.1 in
-      (ltb-true structure count one.0, (ltb-true descriptor count two.0, one_within count payload two.1))
-  line_within _ range = tt
+  line_within st range = listed_within count (simple_operands st) (operands_below callees count st range)
 
   -- the result of a statement
   pub result_within : (st : SimpleStatement) (h : ℕ) → IsTrue (statement_in_range callees count (simple st)) → simple_result st ≡ Some h → h < count
-  result_within st h range is = by (simple_result st) (below st range) is
+  result_within st h range is = by (simple_result st) (result_below callees count st range) is
     where
       by : (o : Option ℕ) → IsTrue (is_below count o) → o ≡ Some h → h < count
       by None below is = absurd cc
       by (Some r) below is = ltb-true h count (ap (λ o. is_below count o) (sym is) ∙ below)
-
-      below : (st : SimpleStatement) → IsTrue (statement_in_range callees count (simple st)) → IsTrue (is_below count (simple_result st))
-      below (atomic pointer fun value outcome) range =
-          let one = and_parts (nat_lt pointer count) (atomic_in_range count fun && (nat_lt value count && is_below count outcome)) range in
-          let two = and_parts (atomic_in_range count fun) (nat_lt value count && is_below count outcome) one.1 in
-          (and_parts (nat_lt value count) (is_below count outcome) two.1).1
-      below (work_group_uniform_load pointer outcome) range = (and_parts (nat_lt pointer count) (nat_lt outcome count) range).1
-      below (call function arguments outcome) range =
-          let one = and_parts (nat_lt function callees) (all_below count arguments && is_below count outcome) range in
-          (and_parts (all_below count arguments) (is_below count outcome) one.1).1
-      below (subgroup_ballot outcome predicate) range = (and_parts (nat_lt outcome count) (is_below count predicate) range).0
-      below (subgroup_gather mode argument outcome) range =
-          let one = and_parts (gather_in_range count mode) (nat_lt argument count && nat_lt outcome count) range in
-          (and_parts (nat_lt argument count) (nat_lt outcome count) one.1).1
-      below (subgroup_collective_operation op collective argument outcome) range = (and_parts (nat_lt argument count) (nat_lt outcome count) range).1
-      below _ range = refl
 
   mutual
     statement_within : (st : StatementTree) → IsTrue (statement_in_range callees count st) → AllWithin count (statement_roots binds st)

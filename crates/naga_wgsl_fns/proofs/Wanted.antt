@@ -564,7 +564,7 @@ module _ (t : FunctionText) (can : CanWrite t) where
   pub named_after_one : (h k : ℕ) → named_after (naming t).function h k ≡ k + length (option_to_list (label_of f h))
   named_after_one h k = named_one m t.module_info.now f es h k
 
-  -- what a `let` names a handle behind so many given names
+  -- what a `let` names a handle after so many given names
   pub next_row : (k h : ℕ) → bound_text t h (next_name (is_some (label_of f h)) k) ≡ next_name_text t k h
   unfolding bound_text next_name_text
   next_row k h =

@@ -5,7 +5,7 @@ use Rattle.naga_words.specs.Sink.{IsBehind}
 use Rattle.naga_wgsl_fns.specs.declared.error.Error.{Error}
 use Rattle.naga_wgsl_fns.specs.Errors.{IsWant}
 
--- the text stands behind what the sink held, and the sink has not failed
+-- the text stands after what the sink held, and the sink has not failed
 pub record Wrote (content : List ℕ) (failed : ℕ) (text now : List ℕ) (failures : ℕ) : Type 0 where
   pub appended : now ≡ content ++ text
   pub kept : failures ≡ failed

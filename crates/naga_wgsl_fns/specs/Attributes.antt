@@ -8,7 +8,7 @@ use Rattle.wgsl_text.specs.Text.{text}
 use Rattle.naga_ir.specs.declared.binding.Binding.{Binding}
 use Rattle.naga_form.specs.Attributes.{binding_attributes}
 
--- each with one blank behind it
+-- each with one blank after it
 unfoldable pub attributes_text : List Attribute → List ℕ
 attributes_text list = text (attributes_pieces list)
 

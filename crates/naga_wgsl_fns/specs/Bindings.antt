@@ -27,7 +27,7 @@ pub record RefusesBinding (b : Binding) (content now : List ℕ) (before after :
   pub untouched : now ≡ content
   pub kept : after ≡ before
 
--- A call was asked to write the binding behind the text that its sink held; it answered, and the
+-- A call was asked to write the binding after the text that its sink held; it answered, and the
 -- sink holds another text now. The sink had failed so often before, and has failed so often now.
 pub record BindingWriting (b : Binding) (answer : Result Unit Error) (content now : List ℕ)
     (before after : ℕ) : Type 0 where

@@ -31,7 +31,7 @@ global_text m h = expression_layout (global_at m h)
 abbrev pub parts_at : Module → (handle : ℕ) → List ℕ
 parts_at m h = option_map_or expression_operands (slice_get m.global_expressions h) []
 
--- parts behind `(`, and behind others where they are no first ones, with the `)` behind them
+-- parts after `(`, and after others where they are no first ones, with the `)` after them
 abbrev pub parts_left : Module → (first : Bool) → List ℕ → List ℕ
 parts_left m true hs = text (arguments_pieces (arguments_of (map (global_at m) hs)))
 parts_left m false hs = text (more_arguments_pieces (arguments_of (map (global_at m) hs)))

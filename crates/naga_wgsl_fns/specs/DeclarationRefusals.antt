@@ -28,7 +28,7 @@ use Rattle.naga_wgsl_fns.specs.declared.error.Error.{Error}
 use Rattle.wgsl_layout.specs.declared.members.Misplaced.{Misplaced}
 use Rattle.wgsl_layout.specs.declared.members.Misplaced.TheVariants.{OffAlignment, Overlapping}
 
--- a value of the hardware that WGSL has no word for
+-- a built-in value that WGSL has no word for
 abbrev pub NamesBuiltin : Error → Type 0
 NamesBuiltin error = IsUnsupported (codes "builtin value") error
 

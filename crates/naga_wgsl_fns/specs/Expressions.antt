@@ -97,8 +97,8 @@ global_reference_text f table handle variable =
 abbrev pub operands_at : FunctionText → (handle : ℕ) → List ℕ
 operands_at f handle = option_map_or expression_operands (slice_get (expressions f) handle) []
 
--- operands that are written behind `(`, and behind others where they are no first ones, with the
--- `)` behind them
+-- operands that are written after `(`, and after others where they are no first ones, with the
+-- `)` after them
 abbrev pub operands_left : FunctionText → (table : List Availability) → (first : Bool) → List ℕ →
     List ℕ
 operands_left f table true operands =
@@ -266,7 +266,7 @@ named_member_text f h index =
 abbrev pub selector_of : (letter : Option (List ℕ)) → (index : ℕ) → Selector
 selector_of letter index = option_map_or MemberNamed letter (ElementAt index)
 
--- what stands behind the base of a part at an index
+-- what stands after the base of a part at an index
 abbrev pub part_end : FunctionText → (table : List Availability) → Option ir.Expression → List ℕ
 part_end f table (Some (expression.Access base index)) = index_text f table index
 part_end f table (Some (expression.AccessIndex base index)) = selector_text f base index

@@ -50,7 +50,7 @@ names_of plan number = get_or plan.named number []
 abbrev pub stage_before : Module → (number : ℕ) → List ℕ
 stage_before m number = option_map_or (stage_text m) (entry_point_numbered m number) []
 
--- the text of a function of the module, behind that of its stage, with what is known of its
+-- the text of a function of the module, after that of its stage, with what is known of its
 -- expressions and the names that front ends gave in it
 abbrev pub text_of :
     Module → ModuleInfo → WriterFlags → (named : ℕ → List ℕ) → (number : ℕ) → ir.Function →
@@ -128,7 +128,7 @@ pub record IsAtStart (f : FunctionText) (p : TextPoint) : Type 0 where
   pub named : p.named ≡ 0
   pub scope : HasScope f p (block_changes f.function.now.body)
 
--- the locals, and an empty line behind them if there are any
+-- the locals, and an empty line after them if there are any
 unfoldable pub locals_text : FunctionText → List ℕ
 locals_text f = text (locals_pieces (form_of f).locals) ++ text (group_end (form_of f).locals)
 
@@ -136,7 +136,7 @@ locals_text f = text (locals_pieces (form_of f).locals) ++ text (group_end (form
 unfoldable pub group_end_text : (is_empty : Bool) → List ℕ
 group_end_text is_empty = if is_empty then [] else codes "\n"
 
--- what stands behind the head
+-- what stands after the head
 unfoldable pub body_text : FunctionText → List ℕ
 body_text f = locals_text f ++ (lines_text 1 (form_of f).body ++ codes "}\n")
 
@@ -144,7 +144,7 @@ body_text f = locals_text f ++ (lines_text 1 (form_of f).body ++ codes "}\n")
 abbrev pub first_form : FunctionText → (value : ℕ) → Expression
 first_form f value = value_form (naming f) (source f) (at_start (naming f).function) value
 
--- what stands behind a local's type
+-- what stands after a local's type
 unfoldable pub first_text : FunctionText → (value : Option ℕ) → List ℕ
 first_text f value = text (value_pieces (option_map (first_form f) value))
 

@@ -46,7 +46,7 @@ AppendsTheValue m handle content now =
     (expression : Expression) → ReadsExpression (tokens text) expression →
     HasValueOf m info handle (program_under named m info flags) expression
 
--- A call was asked to write the expression behind the text that its sink held; it answered, and the
+-- A call was asked to write the expression after the text that its sink held; it answered, and the
 -- sink holds another text now. The sink had failed so often before, and has failed so often now.
 pub record GlobalWriting (m : Module) (handle : ℕ) (answer : Result Unit Error)
     (content now : List ℕ)

@@ -47,7 +47,7 @@ head_text f image gather level compares clamped =
     sampling_word (sample_operator of_depths gather (level_of level) compares clamped false false)
     ++ (codes "(" ++ component_text of_depths gather)
 
--- operands behind others
+-- operands after others
 unfoldable pub furthers_text : FunctionText → (table : List Availability) → List ℕ → List ℕ
 furthers_text f table [] = []
 furthers_text f table (h ∷ hs) = next_operand_text f table false h ++ furthers_text f table hs

@@ -49,7 +49,7 @@ use Rattle.naga_wgsl_fns.specs.declared.error.Error.{Error}
 use Rattle.naga_wgsl_fns.specs.declared.error.Error.TheVariants.{FmtError, Memory}
 
 -- with the words and prefixes of WGSL the namer has named the labels of the module's items, and
--- others behind them
+-- others after them
 pub record HasNamedItemsOf (m : Module) (namer : Names) : Type 0 where
   pub later : List (List ℕ)
   pub named : HasNamedLabels (item_labels m ++ later) namer
@@ -88,7 +88,7 @@ RefusesFunctionOnlyFor (Ok _) explicit m info earlier number before now =
 RefusesFunctionOnlyFor (Err error) explicit m info earlier number before now =
     IsFunctionRefusal explicit m info earlier number before now error
 
--- a text stands behind what the sink held, and it is read as one function and as no other
+-- a text stands after what the sink held, and it is read as one function and as no other
 pub record AppendsOneFunction (content now : List ℕ) : Type 0 where
   pub text : List ℕ
   pub appended : now ≡ content ++ text
@@ -107,7 +107,7 @@ AppendsOne (item.Function handle) content now = AppendsOneFunction content now
 AppendsOne (item.EntryPoint index) content now = AppendsOneEntryPoint content now
 
 -- ---- what the function means
--- the names of labels where those of this function are named behind the earlier ones
+-- the names of labels where those of this function are named after the earlier ones
 abbrev pub names_behind : Module → (earlier : List (List ℕ)) → (number : ℕ) → LabelNames
 names_behind m earlier number = named_apart m number (named_behind m earlier number)
 
@@ -214,9 +214,9 @@ AnswersShowAllOfItems =
     TypeWasWritten m v.ty) →
     ItemsHaveForms m
 
--- A call was asked to write the function behind the text that its sink held; it answered, and the
+-- A call was asked to write the function after the text that its sink held; it answered, and the
 -- sink holds another text now. The sink had failed so often before, and has failed so often now.
--- The namer is that behind the call.
+-- The namer is that after the call.
 pub record FunctionWriting (m : Module) (info : ModuleInfo) (flags : WriterFlags)
     (earlier : List (List ℕ)) (ty : FunctionType) (answer : Result Unit Error) (namer : Names)
     (content now : List ℕ) (before after : ℕ) : Type 0 where

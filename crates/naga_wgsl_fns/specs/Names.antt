@@ -22,7 +22,7 @@ unfoldable pub bound_text : FunctionText → (handle : ℕ) → BoundName → Li
 bound_text f handle name =
     name_of_bound (named_in f) (numbered_name handle) name
 
--- the one that a `let` binds behind so many given names
+-- the one that a `let` binds after so many given names
 unfoldable pub next_name_text : FunctionText → (given handle : ℕ) → List ℕ
 next_name_text f given handle = bound_name (naming f) given handle
 

@@ -65,7 +65,7 @@ use Rattle.naga_wgsl_fns.specs.declared.error.Error.TheVariants.{Memory, Unimple
 use Rattle.naga_wgsl_fns.specs.declared.error.Error.TheVariants.{UnsupportedRelationalFunction}
 
 -- the names of some labels that front ends gave in the function with this number can't be told
--- behind these earlier labels, since so many of them have one base
+-- after these earlier labels, since so many of them have one base
 abbrev pub ExpressionNamesAreFullIn : Module → (earlier : List (List ℕ)) → (number : ℕ) → Type 0
 ExpressionNamesAreFullIn m earlier number =
     SomeLabelIsFull wgsl_names earlier (labels_named_in m number)
@@ -340,7 +340,7 @@ TellsOfFullNamer (Custom message) = string_bytes message ≡ codes "namer is ful
 TellsOfFullNamer _ = ⊥
 
 -- the rules of scope hold in the function with this number, each written handle of it, each of its
--- statements and each type that it spells has a form, and behind these labels those that front ends
+-- statements and each type that it spells has a form, and after these labels those that front ends
 -- gave in it can be named
 pub record IsWritableAt (explicit : Bool) (m : Module) (info : ModuleInfo)
     (earlier : List (List ℕ)) (number : ℕ) : Type 0 where

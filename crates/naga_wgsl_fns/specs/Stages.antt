@@ -19,7 +19,7 @@ pub record StageIsThere (m : Module) (e : EntryPoint) : Type 0 where
   pub payload : IsTrue (is_below (length m.global_variables) e.task_payload)
   pub incoming : IsTrue (is_below (length m.global_variables) e.incoming_ray_payload)
 
--- the attributes of its stage, and the line end behind them
+-- the attributes of its stage, and the line end after them
 unfoldable pub stage_text : Module → EntryPoint → List ℕ
 stage_text m e = attributes_text (stage_attributes (module_names m) e e.stage) ++ codes "\n"
 

@@ -62,7 +62,7 @@ unfoldable pub block_text : FunctionText → ℕ → Handles → (i : ℕ) → B
 block_text f k s i b = lines_text i (lines_form (naming f) (let_annotation f) (source f) k b s)
 
 -- ---- where what follows stands
--- how many names are given behind a statement and behind a block, and which handles are in scope
+-- how many names are given after a statement and after a block, and which handles are in scope
 -- there
 abbrev pub named_behind_statement : FunctionText → StatementTree → ℕ → ℕ
 named_behind_statement f st k = named_by (naming f).function (statement_shape (context f) st) k
@@ -154,7 +154,7 @@ barriers_text i flags =
     lines_text i (barrier_lines (barrier_words (barrier_bits flags)) NoStatements)
 
 -- ---- blocks
--- lines behind one that opens them
+-- lines after one that opens them
 unfoldable pub braces_text : (i : ℕ) → (start body : List ℕ) → List ℕ
 braces_text i start body = line_start i start ++ (body ++ line_start i (codes "}\n"))
 
@@ -196,7 +196,7 @@ cases_text f k s i labels cases =
 abbrev pub labels_of : List SwitchCase → List Label
 labels_of cases = map (λ c. label_form c.value) cases
 
--- a label, labels each of which has another one behind it, and those of a group up to the colon
+-- a label, labels each of which has another one after it, and those of a group up to the colon
 unfoldable pub label_text : Label → List ℕ
 label_text label = text (label_pieces label)
 

@@ -115,7 +115,7 @@ impl FunctionText<'_> {
         out.put(" = ");
     }
 
-    /// The operands of a statement, up to the `)` behind them.
+    /// The operands of a statement, up to the `)` after them.
     fn write_act_operands<W: TextSink>(
         &self,
         statement: &Statement,

@@ -1,4 +1,4 @@
-//! Attributes, each with one blank behind it.
+//! Attributes, each with one blank after it.
 
 ghost use Rattle.naga_words.specs.Output.{Writes};
 ghost use Rattle.naga_wgsl_fns.specs.Attributes.{interpolated_text, numbered_text, text_if};

@@ -25,13 +25,13 @@ use naga_words::{Output, TextSink};
 use std::alloc::Global;
 use wgsl_words::{ToWgsl, TryToWgsl};
 
-/// Writes the attributes of a binding behind what the sink holds, each with one blank behind it:
+/// Writes the attributes of a binding after what the sink holds, each with one blank after it:
 /// `@location(0) @interpolate(flat) `. What is absent is left out, and so is an interpolation in
 /// perspective at the center.
 ///
-/// A value of the hardware that WGSL has no word for is refused as `Unsupported`, of the kind
+/// A built-in value that WGSL has no word for is refused as `Unsupported`, of the kind
 /// `builtin value`, with its debug text; the sink is then as it was. After want of memory or a
-/// failure of the sink a beginning of the attributes may stand behind what the sink held.
+/// failure of the sink a beginning of the attributes may stand after what the sink held.
 pub fn write_binding<W: TextSink>(
     alloc: Global,
     binding: &Binding,
@@ -113,7 +113,7 @@ fn write_attributes<W: TextSink>(binding: Binding, out: &mut Output<'_, W>)
     }
 }
 
-/// A value of the hardware, and whether it is computed alike in each pipeline.
+/// A built-in value, and whether it is computed alike in each pipeline.
 fn write_builtin<W: TextSink>(value: BuiltIn, out: &mut Output<'_, W>)
     requires { IsTrue (is_some (builtin_word value)) }
     ensures { Writes W.text W.failures out.old out.new (binding_text (binding.BuiltIn value)) }

@@ -16,7 +16,7 @@ use naga_ir::{Block, Expression, Handle};
 use naga_words::{Output, TextSink};
 
 impl FunctionText<'_> {
-    /// A block's statements, behind the blanks that there are. The scope stays.
+    /// A block's statements, after the blanks that there are. The scope stays.
     #[cycle(statement)]
     #[tactic(auto, using(naga_scope::proofs::Logs::reverts))]
     pub(crate) fn write_here<W: TextSink>(
@@ -60,7 +60,7 @@ impl FunctionText<'_> {
         at.indent.back_to(level);
     }
 
-    /// A block between braces, behind what opens it. The scope stays.
+    /// A block between braces, after what opens it. The scope stays.
     #[cycle(statement)]
     #[tactic(auto, using(naga_words::proofs::Writing::writes_then, crate::proofs::BlockRows::braces_row))]
     pub(crate) fn write_braces<W: TextSink>(
@@ -103,7 +103,7 @@ impl FunctionText<'_> {
         self.write_braces("{\n", nested, at, out);
     }
 
-    /// What stands behind the block of an `if`, up to the brace that closes the last one: an `else`
+    /// What stands after the block of an `if`, up to the brace that closes the last one: an `else`
     /// where the module has statements for it.
     #[cycle(statement)]
     #[tactic(auto, using(naga_words::proofs::Writing::writes_then, naga_words::proofs::Writing::writes_nothing, crate::proofs::BlockRows::else_row, crate::proofs::BlockRows::no_else, crate::proofs::Passing::nothing_passed))]

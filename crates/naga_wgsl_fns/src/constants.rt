@@ -153,7 +153,7 @@ impl ModuleText<'_> {
         self.write_parts(alloc, handle, out);
     }
 
-    /// The parts of the expression with this handle, up to the `)` behind them.
+    /// The parts of the expression with this handle, up to the `)` after them.
     #[cycle(global)]
     fn write_parts<W: TextSink>(
         &self,
@@ -173,7 +173,7 @@ impl ModuleText<'_> {
         out.put(")");
     }
 
-    /// A part, and what stands between it and the one before. Behind a want its own parts are not
+    /// A part, and what stands between it and the one before. After a want its own parts are not
     /// looked at.
     #[cycle(global)]
     #[tactic(auto, using(naga_words::proofs::Writing::writes_then, naga_words::proofs::Writing::writes_no_more, crate::proofs::ConstantRows::next_part_row))]

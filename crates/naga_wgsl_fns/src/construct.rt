@@ -23,7 +23,7 @@ pub enum Construct {
     RelationalFunction(RelationalFunction),
     /// A scalar that WGSL has no word for.
     ScalarType(Scalar),
-    /// A value of the hardware that WGSL has no word for.
+    /// A built-in value that WGSL has no word for.
     BuiltIn(BuiltIn),
     /// A type that has no form for another reason than its scalars.
     OtherType,

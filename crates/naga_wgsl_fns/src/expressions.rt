@@ -22,7 +22,7 @@ use naga_words::{Output, TextSink};
 
 impl FunctionText<'_> {
     /// An expression as a value: its name where it has one here, else what it is made of. A
-    /// reference is written with `&`. Behind a want its operands are not looked at: a text may be
+    /// reference is written with `&`. After a want its operands are not looked at: a text may be
     /// exponential in the function's size.
     #[cycle(expression)]
     #[tactic(auto, using(naga_words::proofs::Writing::writes_no_more, crate::proofs::ExpressionRows::value_row))]
@@ -242,7 +242,7 @@ impl FunctionText<'_> {
         self.write_operands(scope, handle, out);
     }
 
-    /// The operands of the expression with this handle, up to the `)` behind them.
+    /// The operands of the expression with this handle, up to the `)` after them.
     #[cycle(expression)]
     pub(crate) fn write_operands<W: TextSink>(
         &self,

@@ -45,7 +45,7 @@ use naga_words::{Output, TextSink};
 use std::alloc::Global;
 use std::collections::HashMap;
 
-/// Writes the declaration of a function, with the line end behind its last line: the function, its
+/// Writes the declaration of a function, with the line end after its last line: the function, its
 /// arguments and its locals under their names in `names`, which has them all, and what front ends
 /// named under the names that the plan has. In front of an entry point stands its stage.
 ///
@@ -54,7 +54,7 @@ use std::collections::HashMap;
 /// that tell types where the flags ask for it.
 ///
 /// Where the call gives up, because the sink failed or for want of memory, a beginning of the text
-/// stands behind what the sink held. Memory is taken where the sink takes it, for the blanks of a
+/// stands after what the sink held. Memory is taken where the sink takes it, for the blanks of a
 /// level deeper than any before, and where a type is spelled.
 #[tactic(auto, using(naga_words::proofs::Writing::fresh_output))]
 pub fn write_planned<'a, W: TextSink>(
@@ -127,7 +127,7 @@ pub(crate) struct FunctionText<'a> {
 }
 
 impl FunctionText<'_> {
-    /// The whole function, behind its stage. The scope is that at its start.
+    /// The whole function, after its stage. The scope is that at its start.
     #[tactic(auto, using(naga_words::proofs::Writing::writes_then, crate::proofs::FunctionRows::item_row))]
     fn write_item<W: TextSink>(&self, at: &mut Position, out: &mut Output<'_, W>)
         requires can { CanWrite self.now }
@@ -182,7 +182,7 @@ impl FunctionText<'_> {
         out.put(" {\n");
     }
 
-    /// The arguments, and the parenthesis behind the last.
+    /// The arguments, and the parenthesis after the last.
     #[tactic(auto, using(naga_words::proofs::Writing::loop_writes))]
     fn write_arguments<W: TextSink>(&self, out: &mut Output<'_, W>)
         requires { CanWrite self.now }
@@ -256,7 +256,7 @@ impl FunctionText<'_> {
         self.write_type(answer.ty, out);
     }
 
-    /// What stands behind the head. The scope is that at the function's start.
+    /// What stands after the head. The scope is that at the function's start.
     #[tactic(auto, using(naga_words::proofs::Writing::writes_then, crate::proofs::FunctionRows::body_row))]
     fn write_body<W: TextSink>(&self, at: &mut Position, out: &mut Output<'_, W>)
         requires can { CanWrite self.now }
@@ -281,7 +281,7 @@ impl FunctionText<'_> {
         self.write_here(&self.function.body, at, out);
     }
 
-    /// The locals, and an empty line behind them if there are any.
+    /// The locals, and an empty line after them if there are any.
     #[tactic(auto, using(naga_words::proofs::Writing::loop_writes))]
     fn write_locals<W: TextSink>(&self, scope: &Scope, out: &mut Output<'_, W>)
         requires can { CanWrite self.now }
@@ -314,7 +314,7 @@ impl FunctionText<'_> {
         self.write_first_value(scope, local.init, out);
     }
 
-    /// What stands behind the type of a local.
+    /// What stands after the type of a local.
     #[tactic(auto, using(crate::proofs::FunctionRows::first_row))]
     fn write_first_value<W: TextSink>(
         &self,
@@ -351,7 +351,7 @@ impl FunctionText<'_> {
     }
 }
 
-/// The empty line behind a group, unless there is nothing in it.
+/// The empty line after a group, unless there is nothing in it.
 #[tactic(auto, unfolding(crate::specs::Functions::group_end_text))]
 pub fn write_group_end<W: TextSink>(is_empty: bool, out: &mut Output<'_, W>)
     ensures { Writes W.text W.failures out.old out.new (group_end_text is_empty) }

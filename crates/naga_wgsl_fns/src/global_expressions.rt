@@ -22,7 +22,7 @@ use naga_words::{Output, TextSink};
 use std::alloc::Global;
 use std::collections::HashMap;
 
-/// Writes one of the module's own expressions behind what the sink holds, as the initialiser of
+/// Writes one of the module's own expressions after what the sink holds, as the initialiser of
 /// what the module declares. The module is accepted with what is known of it, and `names` has the
 /// names of its items in WGSL.
 ///
@@ -34,7 +34,7 @@ use std::collections::HashMap;
 /// with a scalar without a word as `Unsupported`, of the kind `scalar type`, and one of any other
 /// type without a form as `Custom`, `type without a WGSL form`; an operator as `Custom`, `operator
 /// in a constant`. Such a refusal leaves the sink as it was. After want of memory or a failure of
-/// the sink a beginning of the text may stand behind what the sink held.
+/// the sink a beginning of the text may stand after what the sink held.
 ///
 /// As an initialiser in what is written for the module the text has the value of the module's own
 /// expression, in every world, under all values of overrides of their types and every typed meaning

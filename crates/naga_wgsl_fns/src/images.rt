@@ -23,7 +23,7 @@ use naga_scope::Scope;
 use naga_words::{Output, TextSink};
 
 impl FunctionText<'_> {
-    /// A sampling: its word with the operands, behind them level zero where it is written, and last
+    /// A sampling: its word with the operands, after them level zero where it is written, and last
     /// the offset as a constant.
     #[cycle(expression)]
     pub(crate) fn write_sampling<W: TextSink>(
@@ -66,7 +66,7 @@ impl FunctionText<'_> {
         }
     }
 
-    /// The word of a sampling and `(`, and behind that the component of a gather.
+    /// The word of a sampling and `(`, and after that the component of a gather.
     fn write_sampling_head<W: TextSink>(
         &self,
         image: Handle<Expression>,

@@ -63,7 +63,7 @@ impl Indent {
     }
 
     /// Indents what is written from here on one level deeper. Where there is no memory for that,
-    /// the output remembers it as a want, so that no text with too few blanks comes behind it.
+    /// the output remembers it as a want, so that no text with too few blanks comes after it.
     pub(crate) fn deepen<W: TextSink>(&mut self, out: &mut Output<'_, W>)
         ensures text { (text : ℕ → List ℕ) (after : OutputView) →
             Wrote (output_view W.text W.failures out.new) after (text self.new) →

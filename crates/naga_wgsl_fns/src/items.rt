@@ -25,8 +25,8 @@ use naga_words::TextSink;
 use std::alloc::Global;
 use std::collections::HashMap;
 
-/// Writes a function or an entry point of a module behind what the sink holds, without an empty
-/// line behind it; in front of an entry point stands its stage. The module is accepted with what is
+/// Writes a function or an entry point of a module after what the sink holds, without an empty
+/// line after it; in front of an entry point stands its stage. The module is accepted with what is
 /// known of it, `names` has the names of its items in WGSL, and `namer` is the one that gave them,
 /// with any calls since.
 ///
@@ -35,11 +35,11 @@ use std::collections::HashMap;
 /// that `namer` gives them next, in the order of the text. The function is looked at before its
 /// text: for what stands in it, it is refused as a module is that has it. Such a refusal leaves the
 /// sink as it was, and `namer` has named some first ones of these labels. After want of memory or a
-/// failure of the sink a beginning of the text may stand behind what the sink held.
+/// failure of the sink a beginning of the text may stand after what the sink held.
 ///
 /// What the text means is said of it as a part of the program that is written for the module, where
 /// its labels have the names that they got here and all others have any names that labels may have.
-/// So texts that were written one by one, each behind the others' labels, are parts of one program.
+/// So texts that were written one by one, each after the others' labels, are parts of one program.
 ///
 /// - Its `let`s are the module's, and its identifiers and words stand for what the module means,
 ///   whatever else the module has. That initialisers of constants with names do asks for the forms

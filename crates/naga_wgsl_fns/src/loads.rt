@@ -63,7 +63,7 @@ impl FunctionText<'_> {
         matches!(&self.shader.types[ty].inner, TypeInner::Atomic(_))
     }
 
-    /// A cooperative matrix from memory: the operands of the expression with this handle behind the word
+    /// A cooperative matrix from memory: the operands of the expression with this handle after the word
     /// that loads a matrix of the type.
     #[cycle(expression)]
     pub(crate) fn write_matrix_load<W: TextSink>(
@@ -144,7 +144,7 @@ impl FunctionText<'_> {
     }
 }
 
-/// The word that loads a cooperative matrix, whose columns or rows lie one behind another.
+/// The word that loads a cooperative matrix, whose columns or rows lie one after another.
 fn load_str(row_major: bool) -> &'static str
     ensures { result.now ≡ load_word row_major }
 {

@@ -119,7 +119,7 @@ impl FunctionText<'_> {
         at.scope.forget_from(mark);
     }
 
-    /// What stands behind the body: `continuing`, where the module has statements for it, or where
+    /// What stands after the body: `continuing`, where the module has statements for it, or where
     /// the loop has a `break if`.
     #[cycle(statement)]
     #[tactic(auto, using(naga_scope::proofs::Logs::reverts_same))]

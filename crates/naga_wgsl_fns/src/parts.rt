@@ -134,7 +134,7 @@ impl FunctionText<'_> {
         }
     }
 
-    /// What stands behind the base of a part.
+    /// What stands after the base of a part.
     #[cycle(expression)]
     fn write_part_end<W: TextSink>(
         &self,

@@ -5,7 +5,7 @@ ghost use Rattle.naga_wgsl_fns.specs.Appends.{Appends};
 use crate::error::Error;
 use naga_words::TextSink;
 
-/// Writes a piece of text behind what the sink holds. Want of memory is told as
+/// Writes a piece of text after what the sink holds. Want of memory is told as
 /// [`Error::Memory`], a failure of the sink as [`Error::FmtError`]; a beginning of the piece may then stand there.
 pub fn put<W: TextSink>(piece: &str, out: &mut W) -> Result<(), Error>
     ensures { Appends result (W.text out.old) (W.failures out.old) piece.now

@@ -20,8 +20,8 @@ use naga_names::NameKey;
 use naga_words::{Output, TextSink};
 
 impl ModuleText<'_> {
-    /// The attributes of an entry point's stage, each with one blank behind it, and the line end
-    /// behind them: `@compute @workgroup_size(8, 8, 1) `.
+    /// The attributes of an entry point's stage, each with one blank after it, and the line end
+    /// after them: `@compute @workgroup_size(8, 8, 1) `.
     #[tactic(auto, using(naga_words::proofs::Writing::writes_then, crate::proofs::StageRows::stage_row))]
     pub fn write_stage<W: TextSink>(&self, point: &EntryPoint, out: &mut Output<'_, W>)
         requires can { CanWriteIn self.now }

@@ -17,7 +17,7 @@ use crate::lines::Position;
 use naga_ir::Statement;
 use naga_words::{Output, TextSink};
 
-// Each of these calls goes on behind a want as if there were none, so that what it says of the
+// Each of these calls goes on after a want as if there were none, so that what it says of the
 // scope holds in any case; no expression is looked at then.
 impl FunctionText<'_> {
     /// The statements in order. After the call, the scope is that after the last.

@@ -128,7 +128,7 @@ impl FunctionText<'_> {
     }
 }
 
-/// From which case on labels wait behind the case with this number, in front of which those from
+/// From which case on labels wait after the case with this number, in front of which those from
 /// the first one on wait.
 fn first_waiting(case: &SwitchCase, first: usize, index: usize) -> usize
     requires { index < usize.MAX }

@@ -15,7 +15,7 @@ module _ {X : Type 0} where
     pub place : ℕ
     pub is : pairs ≡ enumerate_from place (drop place items)
 
-  -- the next item stands there, and the others behind it
+  -- the next item stands there, and the others after it
   record Step (items : List X) (place : ℕ) (pair : ℕ × X) (later : List (ℕ × X)) : Type 0 where
     at : slice_get items place ≡ Some pair.1
     handle : place ≡ pair.0
@@ -84,7 +84,7 @@ module _ {X : Type 0} where
         rest = record { place = has.rest.place + 1; is = more.rest };
       }
 
-  -- behind the last the whole is written
+  -- after the last the whole is written
   pub at_last : (start now : OutputView) (whole : List ℕ) (one : ℕ × X → List ℕ) (items : List X)
       (pairs : List (ℕ × X)) → HasWritten start now whole one items pairs → pairs ≡ [] →
       Wrote start now whole

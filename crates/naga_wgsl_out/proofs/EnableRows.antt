@@ -18,7 +18,7 @@ pub line_row : (word : List ℕ) → line_text true word ≡ joined_texts (codes
 unfolding joined_texts
 line_row word = refl
 
--- the lines of these, and what stands behind them
+-- the lines of these, and what stands after them
 lines_text : (rows : List (Bool × List ℕ)) → (behind : List ℕ) → List ℕ
 lines_text [] behind = behind
 lines_text (row ∷ rows) behind = joined_texts (line_text row.0 row.1) (lines_text rows behind)

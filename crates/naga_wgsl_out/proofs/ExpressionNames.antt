@@ -66,7 +66,7 @@ module _ (m : Module) where
           named_are m g (labels_before m g) old before.words planned.named
           (n.names (labels_before m g) before.labels) k
 
-  -- behind which none of its labels is full
+  -- after which none of its labels is full
   pub none_full : (g : ℕ) (namer : Names) → g < length (all_functions m) → HasNamedBefore m (g + 1) namer →
       ExpressionNamesAreFullIn m (labels_before m g) g → ⊥
   none_full g namer lt before full =

@@ -186,7 +186,7 @@ module _ (m : Module) (info : ModuleInfo) (flags : WriterFlags)
         subst (λ e. Concludes (Err e) content now before after) (sym is)
         (stopped error (stopped_first (module_lines m info flags) s))
 
-    -- behind it
+    -- after it
     module _ (middle : List ℕ) (among : ℕ) (stands : Wrote content before front middle among) where
       wrote : WroteFunctions m info flags middle among now after →
           Concludes (Ok tt) content now before after

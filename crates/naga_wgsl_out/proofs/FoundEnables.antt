@@ -52,7 +52,7 @@ found_at test found next one whole item items index within at is one_is holds =
     (ap (λ y. either found (enables_among test (y ∷ drop (index + 1) items))) at
     ∙ (ap (λ ys. either found (enables_among test ys)) (sym split) ∙ holds))
 
--- behind the last
+-- after the last
 pub found_all : {X : Type 0} (test : Extension → X → Bool) (found whole : Enables) (left : List X) →
     left ≡ [] → either found (enables_among test left) ≡ whole → found ≡ whole
 found_all test found whole left none holds =

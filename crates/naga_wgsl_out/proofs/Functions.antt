@@ -133,7 +133,7 @@ module _ (m : Module) (info : ModuleInfo) (flags : WriterFlags)
       let own = function_pieces (function_form flags (module_names m) (expression_name m g) m info g p.function es) in
       text-append stage (LineEnd ∷ own) ∙ sym (append_assoc (text stage) (codes "\n") (text own))
 
-  -- the line of one, by whether another comes behind it
+  -- the line of one, by whether another comes after it
   point_line : (j : ℕ) (p : EntryPoint) (es : List ExpressionInfo) (more : Bool) →
       slice_get m.entry_points.items (j + 0) ≡ Some p →
       known_of info (length m.functions + (j + 0)) ≡ es →
@@ -188,7 +188,7 @@ module _ (m : Module) (info : ModuleInfo) (flags : WriterFlags)
       ∙ (λ i. point_line j p es true (there 0 p refl) (known 0 es refl)
       (lt-ltb (j + 1) (length m.entry_points.items) more) i ++ rest i))
 
--- what stands in front of the functions, and what stands behind
+-- what stands in front of the functions, and what stands after
 front_then : (m : Module) (info : ModuleInfo) (flags : WriterFlags) (rest : List ℕ) →
     front_text m info flags ++ rest ≡
     enables_text (written_enables m info flags) ++
@@ -250,7 +250,7 @@ points_counted m keys = by (nat_lt (2 ^ 16) (length m.entry_points.items)) refl
     by false is =
         let past = ltb-false (2 ^ 16) (length m.entry_points.items) is in omega (arith, past)
 
--- behind the functions and the entry points there is none
+-- after the functions and the entry points there is none
 pub last_point : (m : Module) (j : ℕ) → j ≡ m.entry_points.len →
     length m.functions + j ≡ length (all_functions m)
 last_point m j is =
@@ -359,7 +359,7 @@ module _ (m : Module) (info : ModuleInfo) (flags : WriterFlags) {n : ℕ} {conte
         ∙ ap (λ fs. lines_of m info flags fs)
         (ap (λ q. take n all ++ q ∷ []) stands ∙ sym (take_more all n here below)))
 
-    -- and those behind it
+    -- and those after it
     line_then : line ++ lines_behind m info flags (n + 1) ≡ lines_behind m info flags n
     line_then =
         let split : drop n all ≡ get_or all n here ∷ drop (n + 1) all =

@@ -1,7 +1,7 @@
 -- The parts that the texts of declarations share, from what is written of them in turn; and what
 -- stands in front of a module's functions.
 --
--- Throughout, m is a module, and rest what stands behind a type.
+-- Throughout, m is a module, and rest what stands after a type.
 use Rattle.std.proofs.Common.{◌≡◌, ◌∙◌, ◌++◌, ◌==◌, ℕ, List, [], ◌∷◌, append_assoc, ap, arith, codes}
 use Rattle.std.proofs.Common.{false, length, map, ne_eqb, refl, suc, sym}
 use Rattle.std.specs.List.{enumerate_from}
@@ -26,7 +26,7 @@ pub typed_row : (m : Module) (key : NameKey) (ty : ℕ) →
 unfolding typed_text joined_texts
 typed_row m key ty = refl
 
--- a name, its type and what stands behind
+-- a name, its type and what stands after
 pub typed_then : (m : Module) (key : NameKey) (ty : ℕ) (rest : List ℕ) →
     name_in (module_names m) key ++ (codes ": " ++ (spelled_text m ty ++ rest)) ≡
     typed_text m key ty ++ rest
@@ -50,7 +50,7 @@ unfolding value_text
 no_value_row m = refl
 
 -- ---- groups
--- the empty line behind items, one of each item of an arena
+-- the empty line after items, one of each item of an arena
 pub group_end_row : {X Y : Type 0} (form : ℕ × X → Y) (items : List X) →
     group_end_text (length items == 0) ≡ text (group_end (map form (enumerate_from 0 items)))
 unfolding group_end_text

@@ -74,7 +74,7 @@ variables_row m =
     (group_end_row (variable_form (module_names m) (type_names m) m) m.global_variables)
 
 -- ---- one
--- decorations are attributes like others, with no line end behind them
+-- decorations are attributes like others, with no line end after them
 decorations_are : (coherent volatile : Bool) →
     text
     (global_attributes_pieces

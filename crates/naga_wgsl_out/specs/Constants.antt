@@ -35,7 +35,7 @@ named_form m h c = record {
   value = global_form m (type_names m) c.init;
 }
 
--- their texts: all, with an empty line behind them if there are any
+-- their texts: all, with an empty line after them if there are any
 unfoldable pub constants_text : Module → List ℕ
 constants_text m = text (constants_pieces (constants_of m)) ++ text (group_end (constants_of m))
 
@@ -52,7 +52,7 @@ abbrev pub overrides_of : Module → List Override
 overrides_of m =
     map (override_form (module_names m) (type_names m) m) (enumerate_from 0 m.overrides)
 
--- with an empty line behind them if there are any
+-- with an empty line after them if there are any
 unfoldable pub overrides_text : Module → List ℕ
 overrides_text m = text (overrides_pieces (overrides_of m)) ++ text (group_end (overrides_of m))
 

@@ -69,7 +69,7 @@ words_among [] = []
 words_among (row ∷ rows) = if row.0 then row.1 ∷ words_among rows else words_among rows
 
 -- ---- the text
--- the lines that enable extensions with these words, and an empty line behind the last
+-- the lines that enable extensions with these words, and an empty line after the last
 abbrev pub enables_text : (words : List (List ℕ)) → List ℕ
 enables_text words = text (enables_pieces words) ++ text (group_end words)
 
@@ -86,7 +86,7 @@ is_any_behind one (row ∷ rows) = is_any_behind (one || row.0) rows
 abbrev pub is_any : Enables → Bool
 is_any e = is_any_behind e.f16 (drop 1 (words_found e))
 
--- the empty line behind those that were found
+-- the empty line after those that were found
 abbrev pub end_text : (any : Bool) → List ℕ
 end_text true = codes "\n"
 end_text false = []

@@ -14,7 +14,7 @@ use Rattle.naga_wgsl_out.specs.ModuleRefusals.{RefusesOnlyFor}
 use Rattle.naga_back.specs.declared.flags.WriterFlags.{WriterFlags}
 use Rattle.naga_back.specs.Flags.{annotates_types}
 
--- a text stands behind what the sink held, and it is read as one program and as no other
+-- a text stands after what the sink held, and it is read as one program and as no other
 pub record AppendsOneReading (content now : List ℕ) : Type 0 where
   pub text : List ℕ
   pub appended : now ≡ content ++ text
@@ -27,7 +27,7 @@ EachReading content now Q =
     (text : List ℕ) → now ≡ content ++ text → (program : Program) →
     Reads (tokens text) program → Q program
 
--- A call was asked to write the module, of which this is known, behind the text that its sink held;
+-- A call was asked to write the module, of which this is known, after the text that its sink held;
 -- it answered, and the sink holds another text now. The sink had failed so often before, and has
 -- failed so often now.
 pub record FaithfulWriting (flags : WriterFlags) (m : Module) (info : ModuleInfo)

@@ -21,7 +21,7 @@ use Rattle.naga_wgsl_fns.specs.declared.error.Error.{Error}
 use Rattle.naga_wgsl_fns.specs.declared.error.Error.TheVariants.{FmtError, Custom, Memory}
 
 -- the names of some items of the module can't be told, since so many of them have one base; or
--- those of some labels that front ends gave in a function, behind all labels in front of them; or,
+-- those of some labels that front ends gave in a function, after all labels in front of them; or,
 -- of either, the key of an item is out of range
 abbrev pub ItemsAreFull : Module → Type 0
 ItemsAreFull m = SomeNameIsFull wgsl_names (labelled_items wgsl_names m)

@@ -24,7 +24,7 @@ abbrev pub globals_of : Module → List Global
 globals_of m =
     map (variable_form (module_names m) (type_names m) m) (enumerate_from 0 m.global_variables)
 
--- their texts, and an empty line behind them if there are any
+-- their texts, and an empty line after them if there are any
 unfoldable pub variables_text : Module → List ℕ
 variables_text m = text (globals_pieces (globals_of m)) ++ text (group_end (globals_of m))
 
@@ -34,7 +34,7 @@ variable_text m h v =
     text (globals_pieces (variable_form (module_names m) (type_names m) m (h, v) ∷ []))
 
 -- ---- parts
--- where it is bound, with a line end behind that
+-- where it is bound, with a line end after that
 unfoldable pub resource_text : Option ResourceBinding → List ℕ
 resource_text binding = text (global_attributes_pieces (resource_attributes binding))
 
@@ -49,7 +49,7 @@ alone_text space = text (space_pieces (SpaceAlone space))
 unfoldable pub access_text : (space access : List ℕ) → List ℕ
 access_text space access = text (space_pieces (SpaceAndAccess space access))
 
--- what stands behind the attributes
+-- what stands after the attributes
 unfoldable pub var_text : Module → (h : ℕ) → GlobalVariable → List ℕ
 var_text m h v =
     codes "var" ++

@@ -34,7 +34,7 @@ pub record IsTextWithin (flags : WriterFlags) (bound : ℕ) (m : Module) (info :
   pub bindings : EachReading [] text (BindsAs m info (annotates_types flags))
   pub layouts : EachReading [] text (KeepsLayouts m)
 
--- the writer refused the module, or memory was wanting, behind a text that was not too long
+-- the writer refused the module, or memory was wanting, after a text that was not too long
 pub record IsRefusedWithin (flags : WriterFlags) (bound : ℕ) (m : Module) (info : ModuleInfo)
     (error : Error) : Type 0 where
   pub beginning : List ℕ

@@ -64,7 +64,7 @@ abbrev pub front_text : Module → ModuleInfo → WriterFlags → List ℕ
 front_text m info flags =
     enables_text (written_enables m info flags) ++ declarations_text m
 
--- an empty line stands behind each function that others may call, and between two entry points
+-- an empty line stands after each function that others may call, and between two entry points
 abbrev pub line_behind : Module → FunctionType → List ℕ
 line_behind m (item.Function handle) = codes "\n"
 line_behind m (item.EntryPoint index) =
@@ -92,7 +92,7 @@ abbrev pub lines_before : Module → ModuleInfo → WriterFlags → (number : �
 lines_before m info flags number =
     lines_of m info flags (take number (enumerate_from 0 (all_functions m)))
 
--- Behind what the sink held stand the functions and entry points in front of the first one that
+-- After what the sink held stand the functions and entry points in front of the first one that
 -- can't be written, with their empty lines, and nothing else.
 pub record WroteFunctionsBefore (m : Module) (info : ModuleInfo) (flags : WriterFlags)
     (content now : List ℕ) : Type 0 where
@@ -110,14 +110,14 @@ pub record HasPlan (explicit : Bool) (m : Module) (info : ModuleInfo) (handle : 
   pub plan : IsPlanOf explicit m info handle planned
   pub nameable : ExpressionNamesAreFullIn m (labels_before m handle) handle → ⊥
 
--- a plan with its names, behind which the namer has named the labels of the function too
+-- a plan with its names, after which the namer has named the labels of the function too
 pub record IsNamedPlan (explicit : Bool) (m : Module) (info : ModuleInfo) (handle : ℕ)
     (namer : Names) (planned : Planned) : Type 0 where
   pub plan : IsPlanOf explicit m info handle planned
   pub names : AreExpressionNames m handle planned.named
   pub namer_is : HasNamedBefore m (handle + 1) namer
 
--- the function with this number stands behind what the sink held, written by a plan of it
+-- the function with this number stands after what the sink held, written by a plan of it
 pub record WroteNext (m : Module) (info : ModuleInfo) (flags : WriterFlags) (number : ℕ)
     (namer : Names) (content : List ℕ) (failed : ℕ) (now : List ℕ) (failures : ℕ) : Type 0 where
   pub wrote : Wrote content failed (line_at m info flags number) now failures
@@ -141,7 +141,7 @@ WritesNext m info flags number namer (Err error) content failed now failures =
     StoppedWithin content failed (line_at m info flags number) now failures error
     ⊎ HasNoPlan m info flags number content failed now failures error
 
--- all functions stand behind what the sink held, each written by a plan of it
+-- all functions stand after what the sink held, each written by a plan of it
 pub record WroteFunctions (m : Module) (info : ModuleInfo) (flags : WriterFlags) (content : List ℕ)
     (failed : ℕ) (now : List ℕ) (failures : ℕ) : Type 0 where
   pub wrote : Wrote content failed (module_lines m info flags) now failures

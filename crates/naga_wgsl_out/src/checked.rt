@@ -1,4 +1,4 @@
-//! The writer, behind the question whether a module is accepted.
+//! The writer, after the question whether a module is accepted.
 
 ghost use Rattle.std.specs.Prelude.{◌≡◌, [], OnOk};
 ghost use Rattle.std.specs.Option.{IfSome, is_none};

@@ -19,7 +19,7 @@ use naga_wgsl_fns::module_text::ModuleText;
 use naga_words::{Output, TextSink};
 use std::alloc::Global;
 
-/// The constants that have names, and an empty line behind them if there are any.
+/// The constants that have names, and an empty line after them if there are any.
 pub(crate) fn write_constants<W: TextSink>(
     alloc: Global,
     text: &ModuleText<'_>,
@@ -83,7 +83,7 @@ fn write_constant<W: TextSink>(
     write_first_value(alloc, text, constant.init, out);
 }
 
-/// The overrides, and an empty line behind them if there are any.
+/// The overrides, and an empty line after them if there are any.
 pub(crate) fn write_overrides<W: TextSink>(
     alloc: Global,
     text: &ModuleText<'_>,

@@ -32,10 +32,10 @@ use std::collections::HashMap;
 
 /// Writes what the module declares in front of its functions: its structs, but those that no text
 /// declares, its constants that have names, its overrides and its variables, with an empty line
-/// behind each struct and behind the last of each other kind.
+/// after each struct and after the last of each other kind.
 ///
 /// Where the call gives up, because the sink failed or for want of memory, a beginning of the text
-/// stands behind what the sink held.
+/// stands after what the sink held.
 pub(crate) fn write_declarations<W: TextSink>(
     alloc: Global,
     module: &Module,
@@ -75,7 +75,7 @@ fn write_all<W: TextSink>(alloc: Global, text: &ModuleText<'_>, out: &mut Output
     write_variables(alloc, text, out);
 }
 
-/// The name of an item, and behind a colon its type.
+/// The name of an item, and after a colon its type.
 #[tactic(auto, using(naga_words::proofs::Writing::writes_then, crate::proofs::ItemRows::typed_row))]
 pub(crate) fn write_typed<W: TextSink>(
     alloc: Global,
@@ -95,7 +95,7 @@ pub(crate) fn write_typed<W: TextSink>(
     text.write_type(alloc, ty, out);
 }
 
-/// What stands behind the type of an override or of a variable.
+/// What stands after the type of an override or of a variable.
 pub(crate) fn write_value<W: TextSink>(
     alloc: Global,
     text: &ModuleText<'_>,

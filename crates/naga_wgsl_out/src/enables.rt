@@ -28,7 +28,7 @@ use naga_wgsl_fns::error::error_of_want;
 use naga_words::{Output, TextSink};
 
 /// Writes a line for each extension that a text of the module enables, written with these flags,
-/// and an empty line behind the last.
+/// and an empty line after the last.
 pub fn write_enables<W: TextSink>(
     module: &Module,
     info: &ModuleInfo,
@@ -146,7 +146,7 @@ impl Enables {
         }
     }
 
-    /// Writes their lines, in the order of WGSL's text, and an empty line behind the last.
+    /// Writes their lines, in the order of WGSL's text, and an empty line after the last.
     fn write<W: TextSink>(self, out: &mut Output<'_, W>)
         ensures { Writes W.text W.failures out.old out.new
             (enables_text (words_among (words_found self))) }
@@ -197,7 +197,7 @@ fn write_line<W: TextSink>(needed: bool, word: &str, out: &mut Output<'_, W>)
     }
 }
 
-/// The empty line behind the last line, if there is one.
+/// The empty line after the last line, if there is one.
 #[tactic(auto, using(naga_words::proofs::Writing::writes_nothing))]
 fn write_end<W: TextSink>(any: bool, out: &mut Output<'_, W>)
     ensures { Writes W.text W.failures out.old out.new (end_text any) }

@@ -23,7 +23,7 @@ use naga_words::{Output, TextSink};
 use std::alloc::Global;
 use wgsl_layout::gap_size;
 
-/// The structs, an empty line behind each.
+/// The structs, an empty line after each.
 pub(crate) fn write_structs<W: TextSink>(
     alloc: Global,
     text: &ModuleText<'_>,

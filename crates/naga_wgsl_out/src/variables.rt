@@ -20,7 +20,7 @@ use naga_words::{Output, TextSink};
 use std::alloc::Global;
 use wgsl_words::address_space_str;
 
-/// The variables, and an empty line behind them if there are any.
+/// The variables, and an empty line after them if there are any.
 pub(crate) fn write_variables<W: TextSink>(
     alloc: Global,
     text: &ModuleText<'_>,
@@ -53,7 +53,7 @@ fn write_variable<W: TextSink>(
     write_var(alloc, text, handle, variable, out);
 }
 
-/// A variable behind its attributes.
+/// A variable after its attributes.
 fn write_var<W: TextSink>(
     alloc: Global,
     text: &ModuleText<'_>,
@@ -79,7 +79,7 @@ fn write_var<W: TextSink>(
     write_value(alloc, text, variable.init, out);
 }
 
-/// Where a variable is bound, if it is, and a line end behind that.
+/// Where a variable is bound, if it is, and a line end after that.
 #[tactic(auto, using(naga_words::proofs::Writing::writes_nothing, crate::proofs::VariableRows::unbound_row))]
 fn write_resource<W: TextSink>(binding: Option<ResourceBinding>, out: &mut Output<'_, W>)
     ensures { Writes W.text W.failures out.old out.new (resource_text binding) }

@@ -45,7 +45,7 @@ use std::alloc::Global;
 use std::collections::HashMap;
 use std::marker::Model;
 
-/// Writes modules as WGSL to a sink, one behind another.
+/// Writes modules as WGSL to a sink, one after another.
 ///
 /// ```text
 /// let mut writer = Writer::new(alloc, String::new(alloc), WriterFlags::EXPLICIT_TYPES);
@@ -86,7 +86,7 @@ impl<W: TextSink> Writer<W> {
         out
     }
 
-    /// Writes an accepted module behind what the sink holds: a text that is read as one program,
+    /// Writes an accepted module after what the sink holds: a text that is read as one program,
     /// which has the module's interface and does what the module does. The next call starts afresh.
     ///
     /// The text depends on the module, on what is known of it and on the flags alone. A `let` binds
@@ -104,8 +104,8 @@ impl<W: TextSink> Writer<W> {
     /// leave where they are, an operand out of scope or a name that can't be told, by the errors
     /// that `docs/REFUSALS.md` lists. Where a function or an entry point is refused, what the text
     /// enables, the other declarations, and the functions and entry points in front of it stand in
-    /// the sink, whole. Behind want of memory or a failure of the sink a beginning of the text
-    /// stands there, and behind any other refusal what stood there before.
+    /// the sink, whole. After want of memory or a failure of the sink a beginning of the text
+    /// stands there, and after any other refusal what stood there before.
     ///
     /// `docs/DIFFERENCES.md` lists where this departs from naga's writer. Of what naga writes,
     /// these are operands out of scope: an expression where no `Emit` gave it, a use in
@@ -297,7 +297,7 @@ fn write_with_line<W: TextSink>(
     put(line_behind(module, ty), out)
 }
 
-/// The empty line behind a function that others may call, and between two entry points.
+/// The empty line after a function that others may call, and between two entry points.
 fn line_behind(module: &Module, ty: &FunctionType) -> &'static str
     ensures { result.now ≡ line_behind «module».now ty.now }
 {

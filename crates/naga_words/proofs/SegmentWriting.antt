@@ -1,4 +1,4 @@
--- Texts in segments, written one behind another to an output, and what a want then says of them.
+-- Texts in segments, written one after another to an output, and what a want then says of them.
 use Rattle.std.proofs.Common.{◌≡◌, ℕ, ◌<◌, true, false, Bool, List, [], ◌∷◌, ◌++◌}
 use Rattle.std.proofs.Common.{Option, Some, None, append_assoc, refl, sym, ap, subst, ◌∙◌}
 use Rattle.std.specs.Option.{is_some}
@@ -38,7 +38,7 @@ some_text (Word w ∷ ps) = let r = some_text ps in (w ++ r.0, WordThen w r.1)
 some_text (Shown ∷ ps) = let r = some_text ps in ([] ++ r.0, ShownThen [] r.1)
 some_text (Missing ∷ ps) = ([], NoSegments)
 
--- more segments behind what was begun
+-- more segments after what was begun
 begun_more_text : (ps qs : List Segment) (s : List ℕ) → IsText (before_missing ps) s
     → (t : List ℕ) × IsText (before_missing (ps ++ qs)) (s ++ t)
 begun_more_text [] qs s NoSegments = some_text qs
@@ -89,7 +89,7 @@ begun_at_once ps a =
     let r = some_text ps in
     record { whole = r.0; is_text = r.1; behind = ([], r.0, refl, sym (append-nil a)) }
 
--- what lacks a segment at its front, and what lacks one behind
+-- what lacks a segment at its front, and what lacks one after
 lacks_before : (ps qs : List Segment) → lacks ps ≡ true → lacks (ps ++ qs) ≡ true
 lacks_before [] qs h = cc
 lacks_before (Word w ∷ ps) qs h = lacks_before ps qs h
@@ -267,7 +267,7 @@ spells_nothing {refuses} before = record { goes = (by before.want refl, refl) }
         (record { text = []; is_text = NoSegments; behind = sym (append-nil before.content) }, refl)
     by (Some want) is = refl
 
--- behind a want all segments are written
+-- after a want all segments are written
 pub spells_no_more : {refuses : Bool} (before : OutputView) (segments : List Segment)
     → is_some before.want ≡ true → SpelledSegments refuses before before segments
 unfolding SegmentsGo

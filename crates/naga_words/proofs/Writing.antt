@@ -1,4 +1,4 @@
--- Texts written one behind another are written together, in rows and in loops, and what a want then
+-- Texts written one after another are written together, in rows and in loops, and what a want then
 -- says.
 use Rattle.std.proofs.Common.{◌≡◌, ℕ, true, List, [], ◌++◌, append_assoc, Option, Some, None}
 use Rattle.std.proofs.Common.{refl, sym, ap, ◌∙◌, subst}
@@ -15,7 +15,7 @@ pub behind_first : (content text now more : List ℕ) → IsBehind content text 
 behind_first content text now more (taken, rest, whole, is) =
     (taken, rest ++ more, ap (λ t. t ++ more) whole ∙ append_assoc taken rest more, is)
 
--- behind the first text, a beginning of the second
+-- after the first text, a beginning of the second
 pub behind_then : (content text middle more now : List ℕ) → middle ≡ content ++ text → IsBehind middle more now → IsBehind content (text ++ more) now
 behind_then content text middle more now at (taken, rest, whole, is) = (
   text ++ taken,
@@ -69,7 +69,7 @@ writes_nothing before = record { goes = (by before.want refl, refl) }
     by None is = subst (λ o. Lies before.content before.failures [] before.content before.failures o) is (sym (append-nil before.content), refl)
     by (Some want) is = refl
 
--- behind a want every text is written
+-- after a want every text is written
 pub writes_no_more : (before : OutputView) (text : List ℕ) → is_some before.want ≡ true → Wrote before before text
 unfolding Goes
 writes_no_more before text some = record { goes = (by before.want some, refl) }
@@ -104,7 +104,7 @@ leaves_last start now after whole left leaves w = leaves.with after w
 pub leaves_none : (start now : OutputView) (whole left : List ℕ) → Leaves start now whole left → left ≡ [] → Wrote start now whole
 leaves_none start now whole left leaves none = leaves.with now (subst (λ t. Wrote now now t) (sym none) (writes_nothing now))
 
--- behind a want nothing is left to be done
+-- after a want nothing is left to be done
 pub leaves_wanting : (start now : OutputView) (whole left : List ℕ) → Leaves start now whole left → is_some now.want ≡ true → Wrote start now whole
 leaves_wanting start now whole left leaves some = leaves.with now (writes_no_more now left some)
 

@@ -32,14 +32,14 @@ IsReason may_refuse failed failures (Sink (SinkMemory error)) = ⊤
 IsReason may_refuse failed failures (Memory error) = ⊤
 IsReason may_refuse failed failures NoForm = may_refuse
 
--- with no want the text stands behind what was held; with one, a beginning of it
+-- with no want the text stands after what was held; with one, a beginning of it
 abbrev pub Lies : (content : List ℕ) (failed : ℕ) (text now : List ℕ) (failures : ℕ)
     → Option TypeTextError → Type 0
 Lies content failed text now failures None = (now ≡ content ++ text) × (failures ≡ failed)
 Lies content failed text now failures (Some want) =
     IsBehind content text now × IsReason ⊥ failed failures want
 
--- behind a want nothing is done
+-- after a want nothing is done
 abbrev pub Follows : Option TypeTextError →
     (before : OutputView) (text : List ℕ) (after : OutputView) → Type 0
 Follows None before text after =
@@ -61,13 +61,13 @@ abbrev pub Writes : {Sink : Type 0} → (text : Sink → List ℕ) (failures : S
 Writes text failures before after written =
     Wrote (output_view text failures before) (output_view text failures after) written
 
--- One text behind another. By this word a search sees the segments of a row, where `++` behind a
+-- One text after another. By this word a search sees the segments of a row, where `++` after a
 -- literal computes away.
 unfoldable pub joined_texts : (first more : List ℕ) → List ℕ
 joined_texts first more = first ++ more
 
 -- ---- the same of a text in segments, of which a context that refuses may refuse one
--- with no want a text of the segments stands behind what was held; with one, a beginning of one
+-- with no want a text of the segments stands after what was held; with one, a beginning of one
 abbrev pub SegmentsLie : (refuses : Bool) (segments : List Segment) (before after : OutputView)
     → Option TypeTextError → Type 0
 SegmentsLie refuses segments before after None =
@@ -76,7 +76,7 @@ SegmentsLie refuses segments before after (Some want) =
     HasBegun segments before.content after.content ×
     IsReason (IsRefused refuses segments) before.failures after.failures want
 
--- behind a want nothing is done
+-- after a want nothing is done
 abbrev pub SegmentsFollow : Option TypeTextError → (refuses : Bool) (segments : List Segment)
     → (before after : OutputView) → Type 0
 SegmentsFollow None refuses segments before after =

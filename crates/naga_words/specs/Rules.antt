@@ -12,7 +12,7 @@ use Rattle.naga_words.specs.Predeclared.{predeclared_name}
 use Rattle.naga_words.specs.Spelling.{Context, Fits, FitsResolution, inner_segments}
 use Rattle.naga_words.specs.Spelling.{resolution_segments}
 
--- the types behind the first
+-- the types after the first
 abbrev pub more_arguments_segments : Context → List TypeResolution → List Segment
 more_arguments_segments c [] = []
 more_arguments_segments c (r ∷ rs) =

@@ -50,13 +50,13 @@ before_missing [] = []
 before_missing (Missing ∷ segments) = []
 before_missing (segment ∷ segments) = segment ∷ before_missing segments
 
--- A text of the segments stands behind what was held before.
+-- A text of the segments stands after what was held before.
 pub record HasWritten (segments : List Segment) (content now : List ℕ) : Type 0 where
   pub text : List ℕ
   pub is_text : IsText segments text
   pub behind : now ≡ content ++ text
 
--- A beginning of a text of the segments before the first that is refused stands behind what was
+-- A beginning of a text of the segments before the first that is refused stands after what was
 -- held before.
 pub record HasBegun (segments : List Segment) (content now : List ℕ) : Type 0 where
   pub whole : List ℕ

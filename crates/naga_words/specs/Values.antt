@@ -69,7 +69,7 @@ value_pointer_segments refuses (Some space) access value = pointer_in space acce
 abbrev pub length_of_number : ℕ → List Segment
 length_of_number number = three (codes ", ") (decimal number) (codes ">")
 
--- a storage image, by its word, its format and what may be done with it; no blank stands behind the
+-- a storage image, by its word, its format and what may be done with it; no blank stands after the
 -- comma
 abbrev pub storage_image_segments : List ℕ → List ℕ → List ℕ → List Segment
 storage_image_segments word format access =

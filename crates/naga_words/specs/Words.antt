@@ -44,7 +44,7 @@ abbrev pub image_word : List ℕ → Bool → ImageDimension → Bool → List �
 image_word prefix multi dim arrayed =
     prefix ++ (multisampled_prefix multi ++ (dimension_word dim ++ array_suffix arrayed))
 
--- the end of a cooperative matrix; no blank stands behind the comma
+-- the end of a cooperative matrix; no blank stands after the comma
 abbrev pub role_tail : CooperativeRole → List ℕ
 role_tail role = codes "," ++ (role_word role ++ codes ">")
 

@@ -13,7 +13,7 @@ use std::marker::Model;
 /// Hands text to a writer of bytes, piece by piece, and keeps it as well.
 ///
 /// Contracts see the writer, the text that was handed to it, and the number of failures. Where
-/// contracts know what the writer holds, they know that each piece that was taken stands behind it.
+/// contracts know what the writer holds, they know that each piece that was taken stands after it.
 ///
 /// ```text
 /// let mut sink = IoSink::new(rt.alloc(), rt.stdout());

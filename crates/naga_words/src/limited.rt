@@ -9,7 +9,7 @@ use std::alloc::Global;
 use std::marker::Model;
 
 /// A text that refuses the first write which would take it past its limit, and then takes each
-/// later one. So a program that goes on behind a refusal is told by what it wrote.
+/// later one. So a program that goes on after a refusal is told by what it wrote.
 ///
 /// Contracts see its text, its limit and the number of its failures.
 ///

@@ -12,7 +12,7 @@ use std::alloc::AllocError;
 /// Takes text piece by piece for a sink, up to the first want: of memory, of a form for a type, or
 /// a failure of the sink.
 ///
-/// Behind a want nothing is written. So a writer goes on as if there were none, and whoever made
+/// After a want nothing is written. So a writer goes on as if there were none, and whoever made
 /// the output asks for its [outcome](Output::outcome) once, at the end.
 #[derive(Drop)]
 pub struct Output<'a, W: TextSink> {

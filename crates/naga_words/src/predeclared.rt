@@ -61,7 +61,7 @@ fn exchange_name(alloc: Global, scalar: Scalar) -> Result<String, AllocError>
     Ok(text)
 }
 
-/// The name of a result of floating-point numbers, behind the function's part of it.
+/// The name of a result of floating-point numbers, after the function's part of it.
 fn struct_of_result(
     alloc: Global,
     function: &str,

@@ -31,7 +31,7 @@ impl From<AllocError> for SinkError {
 ///
 /// A contract sees the text that it has taken, and the number of its failures, which it need not
 /// keep and which has no greatest value. Where a piece is refused, the sink may hold a beginning of
-/// it behind what it held.
+/// it after what it held.
 ///
 /// A `String` is a sink, and what writes to one asks for no more than this:
 ///
@@ -46,7 +46,7 @@ pub trait TextSink {
 
     ghost failures: { Self → ℕ };
 
-    /// Takes `piece` behind what it has taken. `Failed` comes only together with one more failure.
+    /// Takes `piece` after what it has taken. `Failed` comes only together with one more failure.
     fn write_str(&mut self, piece: &str) -> Result<(), SinkError>
         ensures text_ok { OnOk result (text self.new ≡ text self.old ++ piece.now) }
         ensures text_err { OnErr result (IsBehind (text self.old) piece.now (text self.new)) }

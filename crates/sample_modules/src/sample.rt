@@ -86,7 +86,7 @@ impl Sample {
         self.end_function()
     }
 
-    /// Puts the function behind the module's others, and begins with another.
+    /// Puts the function after the module's others, and begins with another.
     pub fn end_function(&mut self) -> Result<(), AllocError> {
         let next = FunctionBuilder::unlabelled(self.alloc);
         let function = mem::replace(&mut self.function, next);

@@ -254,7 +254,7 @@ fn skipping(
     Ok(body)
 }
 
-/// A sum of literals that a loop's body gives behind a `continue`, and its `continuing` uses too.
+/// A sum of literals that a loop's body gives after a `continue`, and its `continuing` uses too.
 pub fn build_folded(alloc: Global, shader: &mut ModuleBuilder) -> Result<(), AllocError> {
     let bool_type = shader.scalar(Scalar::BOOL)?;
     let i32_type = shader.scalar(Scalar::I32)?;
@@ -272,7 +272,7 @@ pub fn build_folded(alloc: Global, shader: &mut ModuleBuilder) -> Result<(), All
     Ok(())
 }
 
-/// A sum of arguments that a loop's body gives behind a `continue`. Its `continuing` may not use
+/// A sum of arguments that a loop's body gives after a `continue`. Its `continuing` may not use
 /// it, so that no text is written.
 pub fn build_continue(alloc: Global, shader: &mut ModuleBuilder) -> Result<(), AllocError> {
     let bool_type = shader.scalar(Scalar::BOOL)?;

@@ -1,4 +1,4 @@
--- With more turns a course asks for what it asks with fewer, and what it asks beyond stands behind
+-- With more turns a course asks for what it asks with fewer, and what it asks beyond stands after
 -- all events that it makes with fewer.
 use Rattle.std.proofs.Common.{◌≡◌, ℕ, zero, suc, ◌<◌, ◌≤◌, ◌⊎◌, inl, inr, List, ◌∷◌, length}
 use Rattle.std.proofs.Common.{refl, sym, ap, ◌∙◌, subst, arith}

@@ -13,11 +13,11 @@ use Rattle.shader_runs.specs.Outcome.{Done, Broke, Returned, ReachedOrHalted, Gi
 use Rattle.shader_runs.specs.Outcome.{after_switch, and_then, branch_by, or_stuck, turn, turns}
 use Rattle.shader_runs.specs.Outcome.{with_integer}
 use Rattle.shader_runs.specs.Program.{Action, Asked, Called, Access, AccessIndex, Cases, no_case, case}
-use Rattle.shader_runs.specs.Program.{Constant, Emit, Argument, Local, Global, Expression, Function}
+use Rattle.shader_runs.specs.Program.{Constant, Emit, Expression, Function}
 use Rattle.shader_runs.specs.Program.{Block, If, Switch, Loop, Return, Act, Store, Label, Load, Logical}
 use Rattle.shader_runs.specs.Program.{Numbered, Operator, Request, Statement, Statements, Swizzle, end}
 use Rattle.shader_runs.specs.Program.{expression_of, from, handle_type, is_counted}
-use Rattle.shader_runs.specs.Program.{operands_of, then}
+use Rattle.shader_runs.specs.Program.{operands_of, then, Jumps}
 use Rattle.shader_runs.specs.ProgramRun.{Call, KeptValues, action_answer, after_load, after_request}
 use Rattle.shader_runs.specs.ProgramRun.{also, computed_value, constant_values, constants_kept, emit}
 use Rattle.shader_runs.specs.ProgramRun.{emit_as, first_used, first_used_all, gathered_value}
@@ -35,11 +35,7 @@ module _ (c : Call) (told : List Function) (body : Statements) where
   -- ---- values
   used_as : (o : Option Expression) (v : Option Value) → used_value_as c o v ≡ used_value_as retold o v
   used_as (Some (Constant e)) v = refl
-  used_as (Some (Argument i)) v = refl
-  used_as (Some (Local i)) v = refl
-  used_as (Some (Global held i)) v = refl
-  used_as (Some _) v = refl
-  used_as None v = refl
+  used_as _ v = refl
 
   used : (kept : KeptValues) (h : ℕ) → used_value c kept h ≡ used_value retold kept h
   used kept h = used_as (expression_of c.function h) (kept h)
@@ -138,7 +134,7 @@ module _ (c : Call) (told : List Function) (body : Statements) where
           λ i. turns n
           (turn (λ kept t. all_run b kept t i) (λ kept t. all_run d kept t i) (λ kept t. left e kept t i))
           kept t
-      one_runs (Return v) kept t = returned v kept t
+      one_runs (Jumps (Return v)) kept t = returned v kept t
       one_runs (Act a xs r) kept t =
           (λ i. or_stuck (used_all kept xs i) t
           (λ vs. with_result c.environment.parts c.function a r kept (answered a vs t i)))

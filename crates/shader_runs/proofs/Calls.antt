@@ -143,10 +143,8 @@ module _ (p : Module) (f : Naming) (i : ℕ) where
       subst (λ k. k ≤ length f.function.first_values) (sym (length-take i f.function.first_values)) short
 
   fixed_before : (x : FixedName) → IsFixedName p (before f i).function x → IsFixedName p f.function x
-  fixed_before (ArgumentName k) h = h
   fixed_before (LocalName k) h = omega (arith, fewer)
-  fixed_before (ConstantName k) h = h
-  fixed_before (GlobalName k) h = h
+  fixed_before _ h = h
 
   named_handles : (hs : List ℕ) (k : ℕ) → named_after_all (before f i).function hs k ≡ named_after_all f.function hs k
   named_handles [] k = refl
@@ -526,7 +524,7 @@ module _ (p : Module) (n : ModuleNames) (uses : Bytes → WordUse) (uses_fit : U
     abbrev kept : KeptValues
     kept = constants_kept f.function env m
 
-    -- one first value, and those of the variables behind it
+    -- one first value, and those of the variables after it
     first_reached : IsTrue (has_types env.parts f.function.argument_types vs) →
         length vs ≡ argument_count f.function → (i : ℕ) (o : Option ℕ) →
         IsTrue (usable_if (before_local f.function i) (at_start f.function) o) →

@@ -5,7 +5,7 @@ use Rattle.shader_runs.specs.Value.{Bytes}
 use Rattle.shader_runs.specs.Program.{Expression, Statement, Emit, Store, Block, If, Switch, Loop}
 use Rattle.shader_runs.specs.Program.{Return, Barrier, Act, Statements, end, then, Cases, no_case}
 use Rattle.shader_runs.specs.Program.{case, Module, expression_of, operands_of, binds, from}
-use Rattle.shader_runs.specs.Program.{is_emittable}
+use Rattle.shader_runs.specs.Program.{is_emittable, Jumps}
 use Rattle.shader_runs.specs.ProgramRun.{Call, barrier_words}
 use Rattle.shader_runs.specs.Scope.{Bound, Handles, Names, bound_name, usable, usable_all}
 use Rattle.shader_runs.specs.Scope.{usable_if, is_new, named_after, named_by}
@@ -71,7 +71,7 @@ abbrev mutual
       let s1 = after_all (naming c n) k b s in
       let k1 = named_by_all c.function b k in
       FitsAll p c n k b s × FitsAll p c n k1 d s1 × IsTrue (usable_if c.function (after_all (naming c n) k1 d s1) e)
-  Fits p c n k (Return v) s = IsTrue (usable_if c.function s v) × ReturnFits c.function v
+  Fits p c n k (Jumps (Return v)) s = IsTrue (usable_if c.function s v) × ReturnFits c.function v
   Fits p c n k (Barrier bits) s = EachAsks p (naming c n) (barrier_words bits)
   Fits p c n k (Act a xs r) s = IsTrue (usable_all c.function s xs) × ActionFits p c.callees (naming c n) a xs r × MayGive c n r s
   Fits p c n k _ s = Unit {0}

@@ -104,7 +104,7 @@ slice_get_drop (suc n) (x ∷ xs) i =
     let same : suc (n + i) ≡ suc n + i = omega arith in
     slice_get_drop n xs i ∙ ap (slice_get (x ∷ xs)) same
 
--- lists whose parts behind n are the same have the same elements there
+-- lists whose parts after n are the same have the same elements there
 behind_same : {X : Type 0} (n : ℕ) (xs ys : List X) → drop n xs ≡ drop n ys → (i : ℕ) → n ≤ i → slice_get xs i ≡ slice_get ys i
 behind_same n xs ys e i le =
     let there : i ≡ n + (i - n) = omega (arith, le) in
@@ -118,7 +118,7 @@ all_found_some : (vs : List Value) → all_found (map Some vs) ≡ Some vs
 all_found_some [] = refl
 all_found_some (v ∷ vs) = ap (also (Some v)) (all_found_some vs)
 
--- behind the constants stand the overrides
+-- after the constants stand the overrides
 values_behind : (value : ConstantTree → Option Value) (es : List ConstantTree) (os vs : List Value) → map Some vs ≡ map value es ++ map Some os → drop (length es) vs ≡ os
 values_behind value es os vs e =
     same_Some (drop (length es) vs) os (sym (all_found_some (drop (length es) vs)) ∙ ap all_found (sym (drop-map Some (length es) vs) ∙ ap (drop (length es)) e ∙ behind es) ∙ all_found_some os)
@@ -203,7 +203,7 @@ module _ (p : Module) (n : ModuleNames) (fits : ConstantsFit p n) (s : Settings)
   override_first (suc r) i le =
       override_same (tree_value (known_value (found_after p s m r)) m) (λ e. None) p.initialisers s.overrides i le
 
-  -- a constant's value is found in the round behind its place
+  -- a constant's value is found in the round after its place
   found_typed : (rounds i : ℕ) (e : ConstantTree) → slice_get p.initialisers i ≡ Some e →
       position i < rounds →
       TypedValue p.parts (type_at p.constant_types i) (known_value (found_after p s m rounds) i)

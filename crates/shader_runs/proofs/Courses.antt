@@ -113,7 +113,7 @@ filled (joins c next) t = resumed (filled c t) (λ x e. filled (next x) e)
 abbrev pub events_made : {A : Type 0} → ReachedOrHalted A → ℕ
 events_made q = length (reached_events q)
 
--- it asks behind the events u for an answer of type k
+-- it asks after the events u for an answer of type k
 pub data AsksAt : Course → List Event → List Event → ValueType → Type 0 where
   now : {parts : PartTypes} {k : ValueType} {r : Event} {next : Value → Course} {t : List Event} →
       AsksAt (asks parts k r next) t t k
@@ -165,7 +165,7 @@ filled_right (joins c next) t = go (filled c t) (filled_right c t) (λ x e. fill
     go (Gives x e) h rest = rest x e
     go (Halts x e) h rest = h
 
--- events come behind those that stand
+-- events come after those that stand
 resumed_grows : (t : List Event) (q : ReachedOrHalted Pause) (f : Pause → List Event → ReachedOrHalted Pause) →
     length t ≤ events_made q → ((x : Pause) (e : List Event) → length e ≤ events_made (f x e)) →
     length t ≤ events_made (resumed q f)
@@ -211,7 +211,7 @@ asks_before (inside {c = c} {next = next} {t = t} a) = omega (arith, asks_before
 asks_before (behind {c = c} {next = next} {t = t} h a) =
     omega (arith, asks_before a, ap (λ q. events_made q) (joined_from c next t h))
 
--- the type that is wanted behind i events, if one is
+-- the type that is wanted after i events, if one is
 abbrev pub or_else : {A : Type 0} → Option A → Option A → Option A
 or_else (Some a) o = Some a
 or_else None o = o
@@ -235,7 +235,7 @@ asked (joins c next) t i = or_else (asked c t i) (where_given (filled c t) (λ x
 nat_apart : (i j : ℕ) → i < j → nat_eq i j ≡ false
 nat_apart i j lt = ne_eqb i j (λ e. omega (arith, lt, e))
 
--- nothing is asked behind the last event
+-- nothing is asked after the last event
 pub none_asked : (c : Course) (t : List Event) (i : ℕ) → events_made (filled c t) ≤ i → asked c t i ≡ None
 none_asked (comes_to x) t i le = refl
 none_asked (stops x sound) t i le = refl

@@ -5,9 +5,9 @@ use Rattle.std.proofs.Common.{option_map}
 use Rattle.std.specs.Prelude.{IsTrue}
 use Rattle.shader_runs.specs.Value.{Bytes, PartTypes, ValueType, has_type, Value, place_in, Place}
 use Rattle.shader_runs.specs.World.{Event, Ask, Read, update, bind}
-use Rattle.shader_runs.specs.Outcome.{Outcome, Done, Next, and_then, Continued, Broke, Returned}
-use Rattle.shader_runs.specs.Outcome.{Stopped, ReachedOrHalted, Gives, or_stuck, reach, unless}
-use Rattle.shader_runs.specs.Program.{Expression, Constant, Argument, Local, Global, Load, Operator}
+use Rattle.shader_runs.specs.Outcome.{Outcome, Done, Next, and_then}
+use Rattle.shader_runs.specs.Outcome.{ReachedOrHalted, Gives, or_stuck, reach, unless}
+use Rattle.shader_runs.specs.Program.{Global, Local, Argument, Constant, Expression, Load, Operator}
 use Rattle.shader_runs.specs.Program.{Access, AccessIndex, Logical, Swizzle, Request}
 use Rattle.shader_runs.specs.Program.{ConstantTrees, expression_of, handle_type, operands_of}
 use Rattle.shader_runs.specs.Program.{is_counted, binds, binds_as, Module}
@@ -96,11 +96,8 @@ related_new c n s names names' kept h st o r a i keeps same others d =
         (kept k) (kept k) (s k) (λ p. refl) (keeps k) (r.availability k)
 
 keeps_fresh : (names : Scope) (x : Bytes) (d : Option Denotation) (st : Availability) → st ≢ Bound x → KeepsName names (bind names x d) st
-keeps_fresh names x d Absent f = tt
-keeps_fresh names x d Barred f = tt
-keeps_fresh names x d Everywhere f = tt
-keeps_fresh names x d Inline f = tt
 keeps_fresh names x d (Bound y) f = bind_other names x d y (λ e. f (ap Bound e))
+keeps_fresh names x d _ f = tt
 
 pub emitted_used : (c : Call) (e : Option Expression) (o : Option Value) → IsTrue (is_emittable e) → used_value_as c e o ≡ o
 emitted_used c (Some (Constant v)) o i = absurd (true≢false (sym i))
@@ -443,10 +440,7 @@ extends_emit c n k (h ∷ hs) s =
 
 then_assoc : {S : Type 0} (o : Outcome S) (f g : Next S) → and_then (and_then o f) g ≡ and_then o (λ s t. and_then (f s t) g)
 then_assoc (Done s t) f g = refl
-then_assoc (Continued s t) f g = refl
-then_assoc (Broke s t) f g = refl
-then_assoc (Returned v t) f g = refl
-then_assoc (Stopped x t) f g = refl
+then_assoc _ f g = refl
 
 -- emitted handles, and what follows
 pub emit_alike : (p : Module) (c : Call) (n : Names) (d : Respond) (facts : Facts p c n d)

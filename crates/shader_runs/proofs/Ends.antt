@@ -7,8 +7,8 @@ use Rattle.shader_runs.specs.World.{Event}
 use Rattle.shader_runs.specs.Outcome.{Outcome, Done, Continued, Broke, Returned, Stopped, Next}
 use Rattle.shader_runs.specs.Outcome.{and_then, and_continue, within, turns, and_again}
 use Rattle.shader_runs.specs.Outcome.{after_switch, branch_by, with_integer, or_stuck}
-use Rattle.shader_runs.specs.Program.{Label, Numbered, Statement, Emit, Store, Block, If, Switch}
-use Rattle.shader_runs.specs.Program.{Loop, Break, Continue, Return, Kill, Barrier, Act, Statements}
+use Rattle.shader_runs.specs.Program.{Label, Numbered, Statement, Block, If, Switch}
+use Rattle.shader_runs.specs.Program.{Loop, Statements}
 use Rattle.shader_runs.specs.Program.{end, then, Cases, no_case, case}
 use Rattle.shader_runs.specs.ProgramRun.{Call, KeptValues, used_value, leave, same_label, has_label}
 use Rattle.shader_runs.specs.ProgramRun.{label_if, run, run_all, run_cases, run_on}
@@ -159,11 +159,8 @@ module _ (c : Call) (n : ℕ) where
 
   -- a switch keeps an early end, but for a break
   switch_keeps : (o : Outcome KeptValues) → IsTrue (is_early (after_switch o)) → (after_switch o ≡ o) × IsTrue (is_early o)
-  switch_keeps (Done k t) early = (refl, early)
-  switch_keeps (Continued k t) early = (refl, early)
   switch_keeps (Broke k t) early = not_early early
-  switch_keeps (Returned v t) early = (refl, early)
-  switch_keeps (Stopped x t) early = (refl, early)
+  switch_keeps _ early = (refl, early)
 
   switch_ends : (h : ℕ) (cs : Cases) → EndsFor cs → EndsOne (Switch h cs)
   switch_ends h cs cases ss kept t = go (used_value c kept h) refl
@@ -187,11 +184,9 @@ module _ (c : Call) (n : ℕ) where
 
   -- what ends a loop early
   abbrev ends_loop : Outcome KeptValues → Bool
-  ends_loop (Done k t) = false
-  ends_loop (Continued k t) = false
-  ends_loop (Broke k t) = false
   ends_loop (Returned v t) = true
   ends_loop (Stopped x t) = stops_early x
+  ends_loop _ = false
 
   -- the turn that ends the loop
   abbrev LastTurn : Next KeptValues → ℕ → KeptValues → List Event → Outcome KeptValues → Type 0
@@ -274,14 +269,7 @@ module _ (c : Call) (n : ℕ) where
     one_ends (If h a b) = if_ends h a b (all_ends a) (all_ends b)
     one_ends (Switch h cs) = switch_ends h cs (cases_end cs).1
     one_ends (Loop b d e) = loop_ends b d e (all_ends b) (all_ends d)
-    one_ends (Emit first count) = simple_ends (Emit first count) refl
-    one_ends (Store q v) = simple_ends (Store q v) refl
-    one_ends Break = simple_ends Break refl
-    one_ends Continue = simple_ends Continue refl
-    one_ends (Return v) = simple_ends (Return v) refl
-    one_ends Kill = simple_ends Kill refl
-    one_ends (Barrier bits) = simple_ends (Barrier bits) refl
-    one_ends (Act a xs r) = simple_ends (Act a xs r) refl
+    one_ends st = simple_ends st refl
 
     all_ends : (ss : Statements) → EndsOf ss
     all_ends end = λ kept t early. not_early early

@@ -7,13 +7,13 @@ use Rattle.shader_runs.specs.Value.{Bytes, PartTypes, ValueType, Value, integer_
 use Rattle.shader_runs.specs.Value.{truth_in}
 use Rattle.shader_runs.specs.World.{Event, Entry, Ask, Read, entries, Meaning}
 use Rattle.shader_runs.specs.World.{Environment}
-use Rattle.shader_runs.specs.Program.{Expression, Constant, Argument, Local, Global, Load, Operator}
-use Rattle.shader_runs.specs.Program.{Access, AccessIndex, Logical, Swizzle, Request, Result}
+use Rattle.shader_runs.specs.Program.{Expression, Load}
+use Rattle.shader_runs.specs.Program.{Request}
 use Rattle.shader_runs.specs.Program.{Action, Asked, Called, Label, Numbered, Statement, Emit}
-use Rattle.shader_runs.specs.Program.{Store, Block, If, Switch, Loop, Break, Continue, Return, Kill}
+use Rattle.shader_runs.specs.Program.{Store, Block, If, Switch, Loop, Break, Continue, Return}
 use Rattle.shader_runs.specs.Program.{Barrier, Act, Statements, end, then, Cases, no_case, case}
 use Rattle.shader_runs.specs.Program.{Function, argument_count, expression_of, handle_type}
-use Rattle.shader_runs.specs.Program.{is_counted, from}
+use Rattle.shader_runs.specs.Program.{is_counted, from, Jumps}
 use Rattle.shader_runs.specs.ProgramRun.{Call, KeptValues, constant_values, used_value, used_values}
 use Rattle.shader_runs.specs.ProgramRun.{joined_values, barrier_words, same_label, has_label}
 use Rattle.shader_runs.specs.ProgramRun.{label_if, constants_kept, first_used_all}
@@ -40,19 +40,11 @@ opened c t = c
 
 pub opened_filled : (c : Course) (t : List Event) → filled (opened c t) t ≡ filled c t
 opened_filled (comes_to x) t = refl
-opened_filled (stops x sound) t = refl
-opened_filled (makes e c) t = refl
-opened_filled (asks parts k r next) t = refl
-opened_filled (counts next) t = refl
-opened_filled (joins c next) t = refl
+opened_filled _ t = refl
 
 pub opened_asks : (c : Course) {t u : List Event} {k : ValueType} → AsksAt (opened c t) t u k → AsksAt c t u k
-opened_asks (comes_to x) a = a
-opened_asks (stops x sound) a = a
-opened_asks (makes e c) a = a
-opened_asks (asks parts k r next) a = a
 opened_asks (counts next) a = counted_then a
-opened_asks (joins c next) a = a
+opened_asks _ a = a
 
 -- by the courses of the functions' calls
 module _ (calls : ℕ → List Value → Course) where
@@ -81,7 +73,7 @@ module _ (calls : ℕ → List Value → Course) where
       go rest (BrokeWith s) e = tt
       go rest (ReturnedWith v) e = tt
 
-  -- a process with at most n turns of each loop, behind any events
+  -- a process with at most n turns of each loop, after any events
   module _ (n : ℕ) where
     abbrev Enters : Process → Type 0
     Enters p = (t : List Event) → Entered (course n p) t
@@ -96,9 +88,7 @@ module _ (calls : ℕ → List Value → Course) where
 
     then_enters : (next : KeptValues → Process) → ((s : KeptValues) → Enters (next s)) → (x : Pause) → Enters (then_on next x)
     then_enters next h (DoneWith s) t = h s t
-    then_enters next h (ContinuedWith s) t = tt
-    then_enters next h (BrokeWith s) t = tt
-    then_enters next h (ReturnedWith v) t = tt
+    then_enters next h _ t = tt
 
     continue_enters : (next : KeptValues → Process) → ((s : KeptValues) → Enters (next s)) → (x : Pause) → Enters (continue_on next x)
     continue_enters next h (DoneWith s) t = h s t
@@ -108,21 +98,15 @@ module _ (calls : ℕ → List Value → Course) where
 
     inside_enters : (x : Pause) → Enters (inside x)
     inside_enters (DoneWith s) t = tt
-    inside_enters (ContinuedWith s) t = tt
-    inside_enters (BrokeWith s) t = tt
-    inside_enters (ReturnedWith v) t = tt
+    inside_enters _ t = tt
 
     switch_enters : (x : Pause) → Enters (behind_switch x)
     switch_enters (DoneWith s) t = tt
-    switch_enters (ContinuedWith s) t = tt
-    switch_enters (BrokeWith s) t = tt
-    switch_enters (ReturnedWith v) t = tt
+    switch_enters _ t = tt
 
     answers_enter : (x : Pause) → Enters (answers_call x)
     answers_enter (DoneWith s) t = tt
-    answers_enter (ContinuedWith s) t = tt
-    answers_enter (BrokeWith s) t = tt
-    answers_enter (ReturnedWith v) t = tt
+    answers_enter _ t = tt
 
     result_enters : (r : Option ℕ) (kept : KeptValues) (o : Option Value) → Enters (result_process r kept o)
     result_enters None kept o t = tt
@@ -157,17 +141,7 @@ module _ (calls : ℕ → List Value → Course) where
           let k = handle_type c.function h in
           let o = joined_values (used_values c kept xs) (constant_values c.environment c.meaning es) in
           chosen_enters (is_counted c.function h) (ask_process parts k h w kept o) (gives (DoneWith kept)) (ask_enters parts k h w kept o) (λ t. tt)
-      one_enters h (Some (Operator w xs)) kept = λ t. tt
-      one_enters h (Some (Access b i)) kept = λ t. tt
-      one_enters h (Some (AccessIndex x b)) kept = λ t. tt
-      one_enters h (Some (Logical j l r)) kept = λ t. tt
-      one_enters h (Some (Swizzle l r)) kept = λ t. tt
-      one_enters h (Some (Constant e)) kept = λ t. tt
-      one_enters h (Some (Argument i)) kept = λ t. tt
-      one_enters h (Some (Local i)) kept = λ t. tt
-      one_enters h (Some (Global held i)) kept = λ t. tt
-      one_enters h (Some Result) kept = λ t. tt
-      one_enters h None kept = λ t. tt
+      one_enters h _ kept = λ t. tt
 
       emit_enters : (hs : List ℕ) (kept : KeptValues) → Enters (emit_process c callees hs kept)
       emit_enters [] kept t = tt
@@ -220,10 +194,10 @@ module _ (calls : ℕ → List Value → Course) where
                     then_enters (leave_process c callees o) (leave_enters o),
                   )),
             )) n kept
-        statement_enters Break kept = λ t. tt
-        statement_enters Continue kept = λ t. tt
-        statement_enters (Return o) kept = return_enters o kept
-        statement_enters Kill kept = λ t. (tt, tt)
+        statement_enters (Jumps Break) kept = λ t. tt
+        statement_enters (Jumps Continue) kept = λ t. tt
+        statement_enters (Jumps (Return o)) kept = return_enters o kept
+        statement_enters (Jumps _) kept = λ t. (tt, tt)
         statement_enters (Barrier bits) kept = asks_enter (barrier_words bits) kept
         statement_enters (Act a xs r) kept = there_enters (used_values c kept xs) (act_process c callees a r kept) (act_enters a r kept)
 

@@ -192,7 +192,7 @@ module _ (p : Module) (c : Call) (s : Handles) (kept : KeptValues) (each : UsesT
       let v = typed.operators h q vs.0 vs.2 in
       (v.0, ap (gathered_value c.environment.parts c.meaning e) vs.1 ∙ v.1, v.2)
 
-  -- a request's operands, and the constants behind them
+  -- a request's operands, and the constants after them
   pub request_there : EnvironmentFits p c.environment → (xs : List ℕ) (es : ConstantTrees) →
       ConstantsInRange p es → ConstantsTyped c.environment.parts p c.meaning es →
       IsTrue (usable_all c.function s xs) → (vs : List Value) ×
@@ -261,7 +261,7 @@ module _ (p : Module) (c : Call) (n : Names) (d : Respond) (facts : Facts p c n 
   joined_also (Some v) (Some vs) None = refl
   joined_also (Some v) (Some vs) (Some us) = refl
 
-  -- a request's operands, and the constants behind them
+  -- a request's operands, and the constants after them
   pub request_forms_give : (operand : ℕ → Plain) (xs : List ℕ) (es : ConstantTrees) →
       ConstantsWords p (naming c n) es → ConstantsInRange p es → AllMean c d names kept operand xs →
       (t : List Event) →

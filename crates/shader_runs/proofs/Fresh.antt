@@ -4,10 +4,10 @@ use Rattle.std.proofs.Common.{◌∷◌, Option, Some, None, ◌&&◌, ◌||◌,
 use Rattle.std.specs.Prelude.{IsTrue}
 use Rattle.shader_runs.specs.Value.{Bytes}
 use Rattle.shader_runs.specs.Program.{Expression, Statement, Emit, Store, Block, If, Switch, Loop}
-use Rattle.shader_runs.specs.Program.{Break, Continue, Return, Kill, Barrier, Act, Statements, end}
+use Rattle.shader_runs.specs.Program.{Return, Barrier, Act, Statements, end}
 use Rattle.shader_runs.specs.Program.{then, Cases, no_case, case, expression_of, operands_of}
 use Rattle.shader_runs.specs.Program.{is_named, binds, from, Module}
-use Rattle.shader_runs.specs.Program.{is_emittable}
+use Rattle.shader_runs.specs.Program.{is_emittable, Jumps}
 use Rattle.shader_runs.specs.ProgramRun.{Call}
 use Rattle.shader_runs.specs.Scope.{Availability, Bound, Handles, Names, bound_name, usable}
 use Rattle.shader_runs.specs.Scope.{usable_all}
@@ -134,10 +134,8 @@ module _ (p : Module) (c : Call) (n : Names) (environment : EnvironmentFits p c.
         let more = list_more (naming c n) b2 k1 in
         let both = and_right fb (fd && u) m in
         (all_fresh b k s (omega (arith, le, more)) d w.0 o.0 (and_left fb (fd && u) m), all_fresh b2 k1 s1 le (sources_all (naming c n) k b s d) w.1 o.1 (and_left fd u both), and_right fd u both)
-    fits_fresh Break k s le d w o m = tt
-    fits_fresh Continue k s le d w o m = tt
-    fits_fresh (Return v) k s le d w o m = (m, w)
-    fits_fresh Kill k s le d w o m = tt
+    fits_fresh (Jumps (Return v)) k s le d w o m = (m, w)
+    fits_fresh (Jumps _) k s le d w o m = tt
     fits_fresh (Barrier bits) k s le d w o m = w
     fits_fresh (Act a xs r) k s le d w o m =
         let u = usable_all c.function s xs in

@@ -1,14 +1,14 @@
--- What a statement's lines leave behind them: whether there is a `continue`, how many `let`s, and
+-- What a statement's lines leave after them: whether there is a `continue`, how many `let`s, and
 -- the names in scope.
 use Rattle.std.proofs.Common.{◌≡◌, ℕ, suc, Bool, true, false, cond, ◌||◌, List, [], ◌∷◌, ◌++◌}
 use Rattle.std.proofs.Common.{Option, Some, None, refl, sym, ap, ◌∙◌}
 use Rattle.shader_runs.specs.Value.{Bytes}
 use Rattle.shader_runs.specs.World.{bind}
-use Rattle.shader_runs.specs.Program.{Statement, Emit, Store, Block, If, Switch, Loop, Break}
-use Rattle.shader_runs.specs.Program.{Continue, Return, Kill, Barrier, Act, Statements, end, then}
+use Rattle.shader_runs.specs.Program.{Statement, Emit, Block, If, Switch, Loop}
+use Rattle.shader_runs.specs.Program.{Continue, Barrier, Act, Statements, end, then}
 use Rattle.shader_runs.specs.Program.{Cases, no_case, case, Label, expression_of}
 use Rattle.shader_runs.specs.Program.{binds, from, holds_continue, any_continue}
-use Rattle.shader_runs.specs.Program.{some_case_continues}
+use Rattle.shader_runs.specs.Program.{some_case_continues, Jumps}
 use Rattle.shader_runs.specs.ProgramRun.{barrier_words}
 use Rattle.shader_runs.specs.Scope.{Handles, Naming, bound_name, named_after, named_by}
 use Rattle.shader_runs.specs.Scope.{named_by_all, after_one, after, after_all}
@@ -16,13 +16,13 @@ use Rattle.shader_runs.specs.Text.{Tree, Lines}
 use Rattle.shader_runs.specs.TextRun.{some_continue, some_group_continues}
 use Rattle.shader_runs.specs.Form.{value_form, own_form, written_form, let_if, lets, perform_each}
 use Rattle.shader_runs.specs.Form.{form}
-use Rattle.shader_runs.specs.Form.{form_all, form_cases}
+use Rattle.shader_runs.specs.Form.{form_all, form_cases, value_if}
 use Rattle.shader_runs.specs.Premises.{FallsEmpty, OnlyEmptyFalls, OnlyEmptyFallIn}
 use Rattle.shader_runs.specs.Premises.{OnlyEmptyCasesFall}
 use Rattle.shader_runs.specs.Resolution.{LetTarget, Lookup, lets_behind_all, lets_behind_groups}
 use Rattle.shader_runs.specs.Resolution.{names_left, lets_after, lets_after_all, lets_by}
 use Rattle.shader_runs.specs.Resolution.{lets_by_all, lets_by_cases}
-use Rattle.shader_runs.proofs.Scope.{lets_continue, performs_continue}
+use Rattle.shader_runs.proofs.Scope.{lets_continue, performs_continue, told_continues}
 
 -- ---- `continue`
 -- a case that falls through is empty
@@ -40,7 +40,7 @@ module _ (f : Naming) where
     line_continues k (Switch h cs) s tail only = ap (λ c. c || some_continue tail) (groups_continue k [] cs s only)
     line_continues k (Barrier bits) s tail only = performs_continue (barrier_words bits) tail
     line_continues k (Act a xs None) s tail only = refl
-    line_continues k (Act a xs (Some h)) s tail only = refl
+    line_continues k (Jumps j) s tail only = ap (λ c. c || some_continue tail) (told_continues (value_if f s) j)
     line_continues k _ s tail only = refl
 
     lines_continue : (k : ℕ) (ss : Statements) (s : Handles) → OnlyEmptyFallIn ss → some_continue (form_all f k ss s) ≡ any_continue ss
@@ -59,7 +59,7 @@ module _ (f : Naming) where
 
 module _ (f : Naming) where
   -- ---- names
-  -- behind an emitted handle, several, a result, a statement
+  -- after an emitted handle, several, a result, a statement
   abbrev pub names_after : (k l h : ℕ) → Lookup → Lookup
   names_after k l h names = cond (binds f.function h) (bind names (bound_name f k h) (Some (LetTarget l))) names
 
@@ -170,7 +170,6 @@ module _ (f : Naming) where
       names_left l (form f k st s tail) names ≡ cond (holds_continue st) names
       (names_left (lets_by f.function st l) tail (names_by k l st names))
   line_leaves k l (Emit first count) s tail names only = lets_leave k l (from first count) s tail names
-  line_leaves k l (Store q v) s tail names only = refl
   line_leaves k l (Block b) s tail names only =
       λ i. cond (lines_continue f k b s only i) names (names_left (lines_counted k l b s i) tail names)
   line_leaves k l (If c a b) s tail names only =
@@ -183,13 +182,10 @@ module _ (f : Naming) where
       let k1 = named_by_all f.function b k in
       let s1 = after_all f k b s in
       λ i. names_left ((ap (λ n. lets_behind_all n (form_all f k1 d s1)) (lines_counted k l b s) ∙ lines_counted k1 (lets_by_all f.function b l) d s1) i) tail names
-  line_leaves k l Break s tail names only = refl
-  line_leaves k l Continue s tail names only = refl
-  line_leaves k l (Return v) s tail names only = refl
-  line_leaves k l Kill s tail names only = refl
+  line_leaves k l (Jumps Continue) s tail names only = refl
   line_leaves k l (Barrier bits) s tail names only = performs_leave l (barrier_words bits) tail names
   line_leaves k l (Act a xs None) s tail names only = refl
-  line_leaves k l (Act a xs (Some h)) s tail names only = refl
+  line_leaves k l _ s tail names only = refl
 
   pub lines_leave : (k l : ℕ) (ss : Statements) (s : Handles) (names : Lookup) → OnlyEmptyFallIn ss → names_left l (form_all f k ss s) names ≡ list_names k l ss names
   lines_leave k l end s names only = refl

@@ -338,7 +338,7 @@ module _ (p : Module) (f : Naming) (distinct : AreDistinct p f) where
   scope_by k l (Loop b d e) s numbers names le scope = scope_more k _ s numbers names (named_by_more f (Loop b d e) k) scope
   scope_by k l _ s numbers names le scope = scope
 
-  -- nothing that was named in between is in scope behind a `continue`
+  -- nothing that was named in between is in scope after a `continue`
   scope_forgotten : (continues : Bool) (k next : ℕ) (s s1 : Handles) (numbers numbers1 : LetNumbers)
       (names names1 : Lookup) → k ≤ next → InScope k s numbers names →
       InScope next s1 numbers1 names1 →

@@ -1,6 +1,6 @@
 -- One world for all pasts, all starts and all bounds on loop turns: it goes through the history from
 -- the newest entry back, and answers as the first run would want it that asks here and began with
--- that entry, behind what stood before it.
+-- that entry, after what stood before it.
 use Rattle.std.proofs.Common.{◌≡◌, ℕ, suc, ◌+◌, ◌<◌, ◌≤◌, ◌⊎◌, inl, inr, List, [], ◌∷◌, length}
 use Rattle.std.proofs.Common.{Option, Some, None, refl, sym, ap, ◌∙◌, subst, arith}
 use Rattle.std.specs.Prelude.{IsTrue, false}
@@ -9,7 +9,7 @@ use Rattle.std.proofs.lemmas.Bool.{cases_lt}
 use Rattle.shader_runs.specs.Value.{ValueType, has_types, Value, Truth}
 use Rattle.shader_runs.specs.World.{Event, Entry, Ask, Read, Write, Discard, entries, World, Meaning}
 use Rattle.shader_runs.specs.World.{Environment, Settings}
-use Rattle.shader_runs.specs.Outcome.{Stuck, Unreturned, OutOfTurns, Discarded, Mistyped}
+use Rattle.shader_runs.specs.Outcome.{Mistyped}
 use Rattle.shader_runs.specs.Outcome.{ReachedOrHalted, Gives, Halts}
 use Rattle.shader_runs.specs.Program.{Function, function_numbered, Module}
 use Rattle.shader_runs.specs.Constants.{environment_of, module_scope, follow_module, run_module}
@@ -39,11 +39,11 @@ answer_of o = option_map_or default_value o (Truth false)
 
 -- under these values of the constants and this meaning
 module _ (env : Environment) (m : Meaning) (functions : List Function) where
-  -- a call with as many turns as it takes to come to the event behind the first i
+  -- a call with as many turns as it takes to come to the event after the first i
   abbrev call_to : ℕ → ℕ → List Value → Course
   call_to i g vs = call_course env m functions (suc i) g vs
 
-  -- the type that is wanted behind i events
+  -- the type that is wanted after i events
   abbrev wanted : ℕ → List Event → Option ValueType
   wanted i [] = None
   wanted i (Entry g vs firsts ∷ t) = or_else (asked (call_to i g vs) t i) (wanted i t)
@@ -54,10 +54,7 @@ module _ (env : Environment) (m : Meaning) (functions : List Function) where
 
   no_entry : (i : ℕ) (e : Event) (t : List Event) → IsNoEntry e → wanted i (e ∷ t) ≡ wanted i t
   no_entry i (Entry g vs firsts) t apart = absurd apart
-  no_entry i (Ask word vs) t apart = refl
-  no_entry i (Read place) t apart = refl
-  no_entry i (Write place v) t apart = refl
-  no_entry i Discard t apart = refl
+  no_entry i _ t apart = refl
 
   -- calls that have ended want nothing more
   abbrev LeavesWanted : ℕ → List Event → ReachedOrHalted Pause → Type 0
@@ -75,10 +72,7 @@ module _ (env : Environment) (m : Meaning) (functions : List Function) where
       let call = call_to i g vs in
       let same : filled call t ≡ filled c (Entry g vs firsts ∷ t) = sym (opened_filled call t) ∙ ap (λ c. filled c t) begins in
       ap (λ o. or_else o (wanted i t)) (none_asked call t i (omega (arith, le, ap (λ q. events_made q) same)))
-  event_leaves i (Ask word vs) c t begins le = refl
-  event_leaves i (Read place) c t begins le = refl
-  event_leaves i (Write place v) c t begins le = refl
-  event_leaves i Discard c t begins le = refl
+  event_leaves i _ c t begins le = refl
 
   leaves_wanted : (i : ℕ) (c : Course) (t : List Event) → Entered (call_to i) c t → LeavesWanted i t (filled c t)
   leaves_wanted i (comes_to x) t en = λ le. refl
@@ -112,10 +106,7 @@ module _ (env : Environment) (m : Meaning) (functions : List Function) where
       BeginsCall (call_to (length u)) e c t → AsksAt c (e ∷ t) u k → wanted (length u) t ≡ Some k →
       wanted (length u) (e ∷ t) ≡ Some k
   event_wanted (Entry g vs firsts) c t begins a h = entry_wanted g vs firsts c t begins a
-  event_wanted (Ask word vs) c t begins a h = h
-  event_wanted (Read place) c t begins a h = h
-  event_wanted (Write place v) c t begins a h = h
-  event_wanted Discard c t begins a h = h
+  event_wanted _ c t begins a h = h
 
   -- what is wanted where the course asks is told by the history there, if it was so before
   asks_wanted : {c : Course} {t u : List Event} {k : ValueType} → AsksAt c t u k → Entered (call_to (length u)) c t → wanted (length u) t ≡ Some k → wanted (length u) u ≡ Some k
@@ -151,14 +142,10 @@ call_events (Gives x e) = refl
 call_events (Halts x e) = refl
 
 right_keeps : (q : ReachedOrHalted Pause) → HasNoMistake q → KeepsTypes (call_outcome q)
-right_keeps (Gives x e) h = tt
-right_keeps (Halts Stuck e) h = tt
-right_keeps (Halts Unreturned e) h = tt
-right_keeps (Halts OutOfTurns e) h = tt
-right_keeps (Halts Discarded e) h = tt
 right_keeps (Halts Mistyped e) h = absurd h
+right_keeps _ h = tt
 
--- a function of a module, behind a past and with these arguments
+-- a function of a module, after a past and with these arguments
 module _ (p : Module) (n : ModuleNames) (fs : List Naming) (fits : ModuleFits p n fs)
     (settings : Settings) (fit : SettingsFit p settings) (m : Meaning) (typed : IsTyped p m) (g : ℕ)
     (f : Function) (there : function_numbered p.functions g ≡ Some f) (vs : List Value)
@@ -214,7 +201,7 @@ module _ (p : Module) (n : ModuleNames) (fs : List Naming) (fits : ModuleFits p 
       go (inl e) = inl (sym (as_many world j fewer) ∙ e ∙ as_many world k right)
       go (inr l) = inr (omega (arith, l, as_many world j fewer))
 
-  -- what is asked behind i events is asked with i + 1 turns
+  -- what is asked after i events is asked with i + 1 turns
   asked_in_time : (j : ℕ) {u : List Event} {k : ValueType} → AsksAt (call j) past u k → AsksAt (call (suc (length u))) past u k
   asked_in_time j {u} {k} a = go (cases_lt j (suc (length u)))
     where

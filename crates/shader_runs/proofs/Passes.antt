@@ -10,9 +10,9 @@ use Rattle.shader_runs.specs.Outcome.{ReachedOrHalted, Gives, Halts, Next, and_t
 use Rattle.shader_runs.specs.Outcome.{after_switch, branch_by, with_integer, closed_outcome}
 use Rattle.shader_runs.specs.Outcome.{closed_if, or_stuck, reach, unless}
 use Rattle.shader_runs.specs.Program.{expression_of, Label, Numbered, Statement, Emit}
-use Rattle.shader_runs.specs.Program.{Store, Block, If, Switch, Loop, Break, Continue, Return, Kill}
+use Rattle.shader_runs.specs.Program.{Store, Block, If, Switch, Loop, Break, Continue, Return}
 use Rattle.shader_runs.specs.Program.{Barrier, Act, Statements, end, then, Cases, no_case, case}
-use Rattle.shader_runs.specs.Program.{Module, binds, from, holds_continue, any_continue}
+use Rattle.shader_runs.specs.Program.{Module, binds, from, holds_continue, any_continue, Jumps}
 use Rattle.shader_runs.specs.ProgramRun.{Call, KeptValues, used_value, emit, emit_as, barrier_words}
 use Rattle.shader_runs.specs.ProgramRun.{ask_each, same_label, label_if, run, run_all}
 use Rattle.shader_runs.specs.Text.{Tree, Line, Let, Braces, IfElse, SwitchOn, LoopOf, Lines, last}
@@ -84,10 +84,7 @@ both_done (mistyped {e = e}) k t q = absurd (not_stopped _ k e t q)
 
 then_done : {S : Type 0} (o : Outcome S) → and_then o (λ s t. Done s t) ≡ o
 then_done (Done s t) = refl
-then_done (Continued s t) = refl
-then_done (Broke s t) = refl
-then_done (Returned v t) = refl
-then_done (Stopped x t) = refl
+then_done _ = refl
 
 -- what is done in two steps
 pub then_parts : {S : Type 0} (o : Outcome S) (g : Next S) (s : S) (t : List Event) → and_then o g ≡ Done s t → (s1 : S) × (t1 : List Event) × (o ≡ Done s1 t1) × (g s1 t1 ≡ Done s t)
@@ -120,7 +117,7 @@ closed_done s s1 t (Broke s2 e) q = absurd (not_broke s s1 e t q)
 closed_done s s1 t (Returned v e) q = absurd (not_returned v s1 e t q)
 closed_done s s1 t (Stopped x e) q = absurd (not_stopped x s1 e t q)
 
--- the same behind a value
+-- the same after a value
 closed_value_again : {S : Type 0} (b : Bool) (s : S) (r : ReachedOrHalted Value) (g : Value →
     List Event → Outcome S) →
     closed_if b s (and_then (with_value r (λ v t. closed_outcome s (g v t))) (λ s t. Done s t)) ≡
@@ -140,12 +137,12 @@ module _ (p : Module) (c : Call) (n : Names) (d : Respond) (facts : Facts p c n 
   abbrev Text : Lines → Point → Scope → List Event → Scope → List Event → Type 0
   Text ls q names t names1 t1 = TextPasses (words c d) bound ls q names t names1 t1
 
-  -- each point behind these lines is one of the longer list
+  -- each point after these lines is one of the longer list
   abbrev Leads : Lines → (Point → Point) → Scope → List Event → Lines → Scope → List Event → Type 0
   Leads ls way names t tail names1 t1 =
       (q : Point) (names2 : Scope) (t2 : List Event) → Text tail q names1 t1 names2 t2 → Text ls (way q) names t names2 t2
 
-  -- the text's run is behind a statement
+  -- the text's run is after a statement
   abbrev Behind : ℕ → Statement → Handles → Scope → List Event → KeptValues → List Event → Type 0
   Behind k st s names t kept1 t1 =
       (names1 : Scope) × Related c n (after (naming c n) k st s) names1 kept1 ×
@@ -286,7 +283,7 @@ module _ (p : Module) (c : Call) (n : Names) (d : Respond) (facts : Facts p c n 
       let asked = ap (λ o. unless o t (d.1 w [] t)) (free p c n d facts s names kept r w m.0.1.1) ∙ request_responds p c n d facts.responds w m.0 [] t in
       (rest.0, λ tail q names2 t2 h. goes_behind_line (ap (λ q. perform_outcome (d.0 w) names q) asked ∙ ap (λ b. perform_outcome b names (respond_by_use AsksForEvent c.world c.meaning w [] t)) (facts.responds.asking w m.0)) (rest.1 tail q names2 t2 h))
 
-  -- the text's run gets behind each statement that the module's run gets behind
+  -- the text's run gets after each statement that the module's run gets after
   goes_on : (st : Statement) (k : ℕ) (s : Handles) (names : Scope) (kept kept1 : KeptValues)
       (t t1 : List Event) → Related c n s names kept → Fits p c n k st s →
       run c bound st kept t ≡ Done kept1 t1 → Behind k st s names t kept1 t1
@@ -315,15 +312,15 @@ module _ (p : Module) (c : Call) (n : Names) (d : Respond) (facts : Facts p c n 
   goes_on (Switch h cs) k s names kept kept1 t t1 r m e =
       let w = own_lines (Switch h cs) k s names kept kept1 t t1 r m e in
       closing_line _ s names kept kept1 t t1 (switch_closes (value_at (naming c n) s h) (form_cases (naming c n) k [] cs s) names t) r (w.0, w.1, w.2.1)
-  goes_on Break k s names kept kept1 t t1 r m e = absurd (not_broke kept kept1 t t1 e)
-  goes_on Continue k s names kept kept1 t t1 r m e = absurd (not_continued kept kept1 t t1 e)
-  goes_on (Return None) k s names kept kept1 t t1 r m e = absurd (not_returned None kept1 t t1 e)
-  goes_on (Return (Some h)) k s names kept kept1 t t1 r m e = absurd (value_returned (used_value c kept h) e)
+  goes_on (Jumps Break) k s names kept kept1 t t1 r m e = absurd (not_broke kept kept1 t t1 e)
+  goes_on (Jumps Continue) k s names kept kept1 t t1 r m e = absurd (not_continued kept kept1 t t1 e)
+  goes_on (Jumps (Return None)) k s names kept kept1 t t1 r m e = absurd (not_returned None kept1 t t1 e)
+  goes_on (Jumps (Return (Some h))) k s names kept kept1 t t1 r m e = absurd (value_returned (used_value c kept h) e)
     where
       value_returned : (o : Option Value) → or_stuck o t (λ v. Returned (Some v) t) ≡ Done kept1 t1 → ⊥
       value_returned None e = not_stopped _ kept1 t t1 e
       value_returned (Some v) e = not_returned (Some v) kept1 t t1 e
-  goes_on Kill k s names kept kept1 t t1 r m e = absurd (not_stopped _ kept1 _ t1 e)
+  goes_on (Jumps _) k s names kept kept1 t t1 r m e = absurd (not_stopped _ kept1 _ t1 e)
 
   -- the list in front of a region, as `form` writes it
   abbrev Written_in : ℕ → Statement → Region → Handles → Lines
@@ -431,14 +428,14 @@ module _ (p : Module) (c : Call) (n : Names) (d : Respond) (facts : Facts p c n 
 
   -- a loop
   module _ (b b2 : Statements) (e : Option ℕ) (k : ℕ) (s : Handles) (m : Fits p c n k (Loop b b2 e) s) where
-    -- behind the body
+    -- after the body
     abbrev K1 : ℕ
     K1 = named_by_all c.function b k
 
     abbrev S1 : Handles
     S1 = after_all (naming c n) k b s
 
-    -- behind `continuing`
+    -- after `continuing`
     abbrev S2 : Handles
     S2 = after_all (naming c n) K1 b2 S1
 

@@ -11,13 +11,13 @@ use Rattle.shader_runs.specs.Outcome.{ReachedOrHalted}
 use Rattle.shader_runs.specs.Outcome.{Gives, Halts, answer, Next, and_then, and_continue, within}
 use Rattle.shader_runs.specs.Outcome.{turn, and_again, turns, after_switch, branch_by, with_integer}
 use Rattle.shader_runs.specs.Outcome.{or_stuck}
-use Rattle.shader_runs.specs.Program.{Expression, Constant, Load, Operator, Access, AccessIndex}
+use Rattle.shader_runs.specs.Program.{Expression, Load, Operator, Access, AccessIndex}
 use Rattle.shader_runs.specs.Program.{Logical, Swizzle, Request, Action, Asked, Called, Label}
 use Rattle.shader_runs.specs.Program.{Numbered, Statement, Emit, Store, Block, If, Switch, Loop}
-use Rattle.shader_runs.specs.Program.{Break, Continue, Return, Kill, Barrier, Act, Statements, end}
+use Rattle.shader_runs.specs.Program.{Return, Barrier, Act, Statements, end}
 use Rattle.shader_runs.specs.Program.{then, Cases, no_case, case, Function, argument_count}
 use Rattle.shader_runs.specs.Program.{expression_of, handle_type, operands_of, is_counted}
-use Rattle.shader_runs.specs.Program.{from}
+use Rattle.shader_runs.specs.Program.{from, Jumps}
 use Rattle.shader_runs.specs.ProgramRun.{Call, KeptValues, constant_values, used_value}
 use Rattle.shader_runs.specs.ProgramRun.{used_value_as}
 use Rattle.shader_runs.specs.ProgramRun.{also, used_values, gathered_value, computed_value}
@@ -186,8 +186,7 @@ module _ (w : World) (n : ℕ) where
 
     used_as_alone : (e : Option Expression) (o : Option Value) → used_value_as c e o ≡ used_value_as alone e o
     used_as_alone None o = refl
-    used_as_alone (Some (Constant e)) o = refl
-    used_as_alone (Some _) o = refl
+    used_as_alone _ o = refl
 
     used_alone : (kept : KeptValues) (h : ℕ) → used_value c kept h ≡ used_value alone kept h
     used_alone kept h = used_as_alone (expression_of f h) (kept h)
@@ -326,10 +325,8 @@ module _ (w : World) (n : ℕ) where
           (leave_process alone callees o)
           (within_performed (run_all c n d s1 t1) (list_process alone callees d s1) t1
           (list_performed d s1 t1)) (leave_performed o))) n kept t
-      statement_performed Break kept t = refl
-      statement_performed Continue kept t = refl
-      statement_performed (Return o) kept t = return_performed o kept t
-      statement_performed Kill kept t = refl
+      statement_performed (Jumps (Return o)) kept t = return_performed o kept t
+      statement_performed (Jumps _) kept t = refl
       statement_performed (Barrier bits) kept t = asks_performed (barrier_words bits) kept t
       statement_performed (Act a xs r) kept t =
           there_performed (used_values c kept xs) (used_values alone kept xs) t

@@ -1,4 +1,4 @@
--- What stands behind a point of the text is what is written for what stands behind the point of the
+-- What stands after a point of the text is what is written for what stands after the point of the
 -- module.
 use Rattle.std.proofs.Common.{◌≡◌, ℕ, zero, suc, ◌+◌, ◌-◌, ◌≤◌, Bool, true, false, cond, List, []}
 use Rattle.std.proofs.Common.{◌∷◌, ◌++◌, length, refl, ap, ap₂, ◌∙◌, arith, true≢false}
@@ -44,7 +44,7 @@ module _ (f : Naming) where
       (value_form (own_form f (written_form f s) (expression_of f.function h))) (lets f k1 hs s1 tail) (let_count f.function hs) q
       ∙ lets_behind hs k1 s1 tail q
 
-  -- behind some first handles of an Emit
+  -- after some first handles of an Emit
   some_behind : (xs ys : List ℕ) (k : ℕ) (s : Handles) (ss : Statements) →
       lines_behind
       (lets f k (xs ++ ys) s

@@ -13,9 +13,9 @@ use Rattle.shader_runs.specs.Outcome.{Halts}
 use Rattle.shader_runs.specs.Program.{Expression, Load, Operator, Access, AccessIndex, Logical}
 use Rattle.shader_runs.specs.Program.{Swizzle, Request, Action, Asked, Called, Label, Numbered}
 use Rattle.shader_runs.specs.Program.{Statement, Emit, Store, Block, If, Switch, Loop, Break}
-use Rattle.shader_runs.specs.Program.{Continue, Return, Kill, Barrier, Act, Statements, end, then}
+use Rattle.shader_runs.specs.Program.{Continue, Return, Barrier, Act, Statements, end, then}
 use Rattle.shader_runs.specs.Program.{Cases, no_case, case, Function, argument_count, expression_of}
-use Rattle.shader_runs.specs.Program.{handle_type, is_counted, from}
+use Rattle.shader_runs.specs.Program.{handle_type, is_counted, from, Jump, Jumps}
 use Rattle.shader_runs.specs.ProgramRun.{Call, KeptValues, constant_values, used_value, used_values}
 use Rattle.shader_runs.specs.ProgramRun.{computed_value, joined_values, barrier_words, same_label}
 use Rattle.shader_runs.specs.ProgramRun.{has_label, label_if, constants_kept, first_used_all}
@@ -189,6 +189,12 @@ module _ (c : Call) (calls : ℕ → List Value → Process) where
   return_process None kept = gives (ReturnedWith None)
   return_process (Some h) kept = on_there (used_value c kept h) (λ v. gives (ReturnedWith (Some v)))
 
+  abbrev pub jump_process : Jump ℕ → KeptValues → Process
+  jump_process Break kept = gives (BrokeWith kept)
+  jump_process Continue kept = gives (ContinuedWith kept)
+  jump_process (Return v) kept = return_process v kept
+  jump_process _ kept = discards
+
   abbrev mutual
     pub statement_process : Statement → KeptValues → Process
     statement_process (Emit first count) kept = emit_process (from first count) kept
@@ -201,10 +207,7 @@ module _ (c : Call) (calls : ℕ → List Value → Process) where
         on_there (used_value c kept h) (λ v. on_there (integer_in v) (λ z. sequence (cases_process ks (label_if (has_label (Numbered z) ks) z) kept) behind_switch))
     statement_process (Loop b d o) kept =
         repeats (λ s. sequence (list_process b s) (continue_on (λ s1. sequence (sequence (list_process d s1) inside) (then_on (leave_process o))))) kept
-    statement_process Break kept = gives (BrokeWith kept)
-    statement_process Continue kept = gives (ContinuedWith kept)
-    statement_process (Return v) kept = return_process v kept
-    statement_process Kill kept = discards
+    statement_process (Jumps j) kept = jump_process j kept
     statement_process (Barrier bits) kept = asks_process (barrier_words bits) kept
     statement_process (Act a xs r) kept = on_there (used_values c kept xs) (act_process a r kept)
 

@@ -17,13 +17,13 @@ use Rattle.shader_runs.specs.Outcome.{with_integer, or_stuck}
 use Rattle.shader_runs.specs.Program.{ConstantTrees, Expression, Local, Load, Operator}
 use Rattle.shader_runs.specs.Program.{Access, AccessIndex, Logical, Swizzle, Request, Action, Asked}
 use Rattle.shader_runs.specs.Program.{Called, Label, Numbered, Statement, Emit, Store, Block, If}
-use Rattle.shader_runs.specs.Program.{Switch, Loop, Break, Continue, Return, Kill, Barrier, Act}
+use Rattle.shader_runs.specs.Program.{Switch, Loop, Break, Continue, Return, Barrier, Act}
 use Rattle.shader_runs.specs.Program.{Statements, end, then, Cases, no_case, case, Function}
 use Rattle.shader_runs.specs.Program.{argument_count, local_count, function_numbered, expression_of}
 use Rattle.shader_runs.specs.Program.{handle_type, operands_of, is_counted, binds_as}
 use Rattle.shader_runs.specs.Program.{from, holds_continue, any_continue, some_case_continues}
 use Rattle.shader_runs.specs.Program.{Module}
-use Rattle.shader_runs.specs.Program.{is_pure, is_emittable}
+use Rattle.shader_runs.specs.Program.{is_pure, is_emittable, Jumps}
 use Rattle.shader_runs.specs.ProgramRun.{Call, KeptValues, constant_values, used_value, used_values}
 use Rattle.shader_runs.specs.ProgramRun.{joined_values, computed_value, if_typed, after_load}
 use Rattle.shader_runs.specs.ProgramRun.{after_request, if_counted, emit_as, emit, with_pointer}
@@ -226,11 +226,8 @@ typed_update c s kept h st o v y k = go (nat_eq k h) refl
     go false e p = y k p
 
 forgotten_present : (st now : Availability) → IsTrue (is_present (forgotten_one st now)) → IsTrue (is_present st)
-forgotten_present Absent now p = p
-forgotten_present Barred now p = p
-forgotten_present Inline now p = p
-forgotten_present (Bound x) now p = p
 forgotten_present Everywhere now p = refl
+forgotten_present _ now p = p
 
 typed_forgotten : (c : Call) (s now : Handles) (kept : KeptValues) → Typed c s kept → Typed c (forgotten_handles s now) kept
 typed_forgotten c s now kept y h p = y h (forgotten_present (s h) (now h) p)
@@ -532,7 +529,7 @@ module _ (p : Module) (c : Call) (n : Names) (sound : Sound p c) (bound : ℕ) w
       (λ place. used_proceeds c.environment.parts (handle_type c.function v)
       (used_value c kept v) t _ (uses p c n sound s kept y v z) (λ value i. done y))
 
-  -- what holds behind a block
+  -- what holds after a block
   block_proceeds : (s s1 : Handles) (breaks continues held : Bool) → Extends s s1 → (o : Outcome KeptValues) → Body s s1 breaks continues held o → Line s s breaks continues held o
   block_proceeds s s1 breaks continues held x o b =
       weaker (λ k y. typed_less c s s1 k x y) (λ k q. (typed_less c s s1 k x q.0, q.1, q.2)) (λ k b. b) b
@@ -615,10 +612,10 @@ module _ (p : Module) (c : Call) (n : Names) (sound : Sound p c) (bound : ℕ) w
         (λ kept t y. body_proceeds b k s true true r m.0 w.0 kept t y)
         (λ kept t y. body_proceeds d k1 s1 false false (rooted_all c n k b s r) m.1 w.1 kept t
         y) kept t y
-    line_proceeds Break k s breaks continues r m w kept t y = broke (y, w)
-    line_proceeds Continue k s breaks continues r m w kept t y = continued (y, refl, w)
-    line_proceeds (Return e) k s breaks continues r m w kept t y = return_proceeds s breaks continues e m.0 m.1 kept t y
-    line_proceeds Kill k s breaks continues r m w kept t y = stops tt
+    line_proceeds (Jumps Break) k s breaks continues r m w kept t y = broke (y, w)
+    line_proceeds (Jumps Continue) k s breaks continues r m w kept t y = continued (y, refl, w)
+    line_proceeds (Jumps (Return e)) k s breaks continues r m w kept t y = return_proceeds s breaks continues e m.0 m.1 kept t y
+    line_proceeds (Jumps _) k s breaks continues r m w kept t y = stops tt
     line_proceeds (Barrier bits) k s breaks continues r m w kept t y = asks_proceed s breaks continues (barrier_words bits) kept t y
     line_proceeds (Act a xs result) k s breaks continues r m w kept t y = act_proceeds s breaks continues a xs result m.0 m.1 kept t y
 

@@ -163,11 +163,8 @@ stands_on c s s' names names' kept kept' x a y e o o' (Bound z) w n d =
     ((d.0.0, same ∙ d.0.1, d.0.2), n ∙ d.1 ∙ ap as_denoted (sym same))
 
 pub keeps_all : (names : Scope) (st : Availability) → KeepsName names names st
-keeps_all names Absent = tt
-keeps_all names Barred = tt
-keeps_all names Everywhere = tt
-keeps_all names Inline = tt
 keeps_all names (Bound x) = refl
+keeps_all names _ = tt
 
 -- other values for handles out of scope
 pub related_agree : (c : Call) (n : Names) (s : Handles) (names : Scope) (kept kept' : KeptValues) → Agree s kept kept' → Related c n s names kept → Related c n s names kept'
@@ -181,15 +178,12 @@ related_agree c n s names kept kept' a r =
     }
 
 pub present_forgotten : (st now : Availability) → is_present (forgotten_one st now) ≡ is_present st
-present_forgotten Absent now = refl
-present_forgotten Barred now = refl
-present_forgotten Inline now = refl
-present_forgotten (Bound x) now = refl
 present_forgotten Everywhere now = go (is_new now)
   where
     go : (b : Bool) → is_present (cond b Everywhere Inline) ≡ true
     go true = refl
     go false = refl
+present_forgotten _ now = refl
 
 pub extends_forgotten : (s now : Handles) → Extends s (forgotten_handles s now)
 extends_forgotten s now h p = present_forgotten (s h) (now h) ∙ p
@@ -197,15 +191,12 @@ extends_forgotten s now h p = present_forgotten (s h) (now h) ∙ p
 stands_forgotten : (c : Call) (s : Handles) (names : Scope) (kept : KeptValues) (y : ValueType)
     (e : Option Expression) (o : Option Value) (st now : Availability) →
     Stands c s names kept y e o st → Stands c s names kept y e o (forgotten_one st now)
-stands_forgotten c s names kept y e o Absent now d = d
-stands_forgotten c s names kept y e o Barred now d = d
-stands_forgotten c s names kept y e o Inline now d = d
-stands_forgotten c s names kept y e o (Bound x) now d = d
 stands_forgotten c s names kept y e o Everywhere now d = go (is_new now)
   where
     go : (b : Bool) → Stands c s names kept y e o (cond b Everywhere Inline)
     go true = d
     go false = d
+stands_forgotten c s names kept y e o _ now d = d
 
 -- a constant tree that was emitted meanwhile
 pub related_forgotten : (c : Call) (n : Names) (s now : Handles) (names : Scope) (kept : KeptValues) → Related c n s names kept → Related c n (forgotten_handles s now) names kept

@@ -8,11 +8,11 @@ use Rattle.shader_runs.specs.Value.{Bytes, ValueType}
 use Rattle.shader_runs.specs.World.{update, bind}
 use Rattle.shader_runs.specs.Program.{ConstantTree, Expression, Constant, Argument, Local, Global}
 use Rattle.shader_runs.specs.Program.{Operator, Request, Action, Asked, Called, Statement, Emit}
-use Rattle.shader_runs.specs.Program.{Store, Block, If, Switch, Loop, Break, Continue, Return, Kill}
+use Rattle.shader_runs.specs.Program.{Store, Block, If, Switch, Loop, Return}
 use Rattle.shader_runs.specs.Program.{Barrier, Act, Statements, end, then, Cases, no_case, case}
 use Rattle.shader_runs.specs.Program.{Label, Function, argument_count, local_count, expression_of}
 use Rattle.shader_runs.specs.Program.{handle_type, binds, from, Module, constant_count}
-use Rattle.shader_runs.specs.Program.{VariableShape, override_types}
+use Rattle.shader_runs.specs.Program.{VariableShape, override_types, Jumps}
 use Rattle.shader_runs.specs.ProgramRun.{barrier_words}
 use Rattle.shader_runs.specs.Scope.{Handles, ModuleNames, Naming, at_start, bound_name, usable_if}
 use Rattle.shader_runs.specs.Scope.{named_after, named_after_all, named_by, named_by_all}
@@ -34,7 +34,7 @@ use Rattle.shader_runs.specs.Premises.{InitialiserFits, OperatesOutside, ModuleN
 use Rattle.shader_runs.specs.Premises.{ConstantInRange, EachWord}
 use Rattle.shader_runs.specs.Correct.{AreNamed, ItemsFit}
 use Rattle.shader_runs.specs.Resolution.{Target, ConstantTarget, GlobalTarget, FunctionTarget}
-use Rattle.shader_runs.specs.Resolution.{ArgumentTarget, LocalTarget, LetTarget, WordTarget, Lookup}
+use Rattle.shader_runs.specs.Resolution.{ArgumentTarget, LocalTarget, LetTarget, Lookup}
 use Rattle.shader_runs.specs.Resolution.{word_target, tree_targets, trees_targets, tree_targets_if}
 use Rattle.shader_runs.specs.Resolution.{lets_behind_all, names_left, lines_targets, groups_targets}
 use Rattle.shader_runs.specs.Resolution.{with_items, with_functions, text_names, variables_targets}
@@ -207,11 +207,9 @@ module _ (p : Module) (f : Naming) (distinct : AreDistinct p f) where
             (numbers_left f.function l1 d numbers1) e) rest break_if) in
             let counted = ap (λ n. lets_behind_all n (form_all f k1 d s1)) (lines_counted f k l b s) ∙ lines_counted f k1 l1 d s1 in
             λ i. one i ++ lines_targets (counted i) names tail
-        line_resolves k l Break s numbers names tail le regular only scope = refl
-        line_resolves k l Continue s numbers names tail le regular only scope = refl
-        line_resolves k l (Return v) s numbers names tail le regular only scope =
+        line_resolves k l (Jumps (Return v)) s numbers names tail le regular only scope =
             ap (λ ts. ts ++ lines_targets l names tail) (value_if_resolves f names s numbers scope.lets (all_named names scope.items) v)
-        line_resolves k l Kill s numbers names tail le regular only scope = refl
+        line_resolves k l (Jumps _) s numbers names tail le regular only scope = refl
         line_resolves k l (Barrier bits) s numbers names tail le regular only scope = performs_resolve l names scope.items (barrier_words bits) regular tail
         line_resolves k l (Act a xs r) s numbers names tail le regular only scope =
             by r (both (action_targets a) (operands_targets (value_targets f.function s numbers) xs)
@@ -297,9 +295,7 @@ module _ (p : Module) (f : Naming) (distinct : AreDistinct p f) where
 
           declared_before : (y : FixedName) → IsDeclared p f distinct (suc i) y → (FixedKey y ≡ FixedKey (LocalName i) → ⊥) → IsDeclared p f distinct i y
           declared_before (LocalName j) stands other = let apart : j ≢ i = λ e. other (ap (λ k. FixedKey (LocalName k)) e) in omega (arith, stands, apart)
-          declared_before (ArgumentName j) stands other = tt
-          declared_before (ConstantName j) stands other = tt
-          declared_before (GlobalName j) stands other = tt
+          declared_before _ stands other = tt
 
       -- ---- a function, in the scope of the module's items
       module _ (items : Lookup) (knows_items : KnowsItems p f distinct items) where

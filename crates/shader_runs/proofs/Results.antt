@@ -12,10 +12,10 @@ use Rattle.shader_runs.specs.Outcome.{Gives, Halts, answer, Next, and_then, and_
 use Rattle.shader_runs.specs.Outcome.{and_again, turn, turns, after_switch, branch_by, or_stuck}
 use Rattle.shader_runs.specs.Program.{Expression, Load, Request, Action, Asked, Called, Label}
 use Rattle.shader_runs.specs.Program.{Numbered, Default, Statement, Emit, Store, Block, If, Switch}
-use Rattle.shader_runs.specs.Program.{Loop, Break, Continue, Return, Kill, Barrier, Act, Statements}
+use Rattle.shader_runs.specs.Program.{Loop, Break, Return, Barrier, Act, Statements}
 use Rattle.shader_runs.specs.Program.{end, then, Cases, no_case, case, Function, argument_count}
 use Rattle.shader_runs.specs.Program.{function_numbered, expression_of, handle_type, is_counted}
-use Rattle.shader_runs.specs.Program.{from, Module}
+use Rattle.shader_runs.specs.Program.{from, Module, Jumps}
 use Rattle.shader_runs.specs.ProgramRun.{Call, KeptValues, constant_values, used_value, used_values}
 use Rattle.shader_runs.specs.ProgramRun.{joined_values, if_typed, after_load, after_request}
 use Rattle.shader_runs.specs.ProgramRun.{if_counted, emit_as, emit, leave, action_answer}
@@ -100,18 +100,14 @@ module _ (k : Option ValueType) where
       go false = l2
 
   switch_leads : {S : Type 0} (e b : Bool) (o : Outcome S) → (IsTrue b → IsTrue e) → Leads k e b o → Leads k e false (after_switch o)
-  switch_leads e b (Done s t) f l = l
   switch_leads e b (Continued s t) f l = tt
   switch_leads e b (Broke s t) f l = f l
-  switch_leads e b (Returned v t) f l = l
-  switch_leads e b (Stopped x t) f l = l
+  switch_leads e b _ f l = l
 
   again_leads : {S : Type 0} (e b : Bool) (o : Outcome S) (f : Next S) → Leads k true e o → ((s : S) (t : List Event) → Leads k e b (f s t)) → Leads k e b (and_again o f)
   again_leads e b (Done s t) f l next = next s t
   again_leads e b (Continued s t) f l next = tt
-  again_leads e b (Broke s t) f l next = l
-  again_leads e b (Returned v t) f l next = l
-  again_leads e b (Stopped x t) f l next = l
+  again_leads e b _ f l next = l
 
   turns_lead : {S : Type 0} (e b : Bool) (once : Next S) → ((s : S) (t : List Event) → Leads k true e (once s t)) → (n : ℕ) (s : S) (t : List Event) → Leads k e b (turns n once s t)
   turns_lead e b once each zero s t = tt
@@ -318,11 +314,10 @@ module _ (p : Module) (c : Call) (f : Naming) (complete : (g : ℕ) (callee : Fu
         (leave c e) (within_leads k (may_end_all d) (any_break d) (run_all c bound d kept1 t1)
         (body_leads d m.1 (where_right k (all_have_values b) (all_have_values d) w) kept1 t1))
         (leave_leads k c (any_break b) e))) bound kept t
-    line_leads Break m w kept t = refl
-    line_leads Continue m w kept t = tt
-    line_leads (Return None) m w kept t = named_none k w
-    line_leads (Return (Some h)) m w kept t = there_leads k false false (used_value c kept h) t _ (λ v. returned_some k v)
-    line_leads Kill m w kept t = tt
+    line_leads (Jumps Break) m w kept t = refl
+    line_leads (Jumps (Return None)) m w kept t = named_none k w
+    line_leads (Jumps (Return (Some h))) m w kept t = there_leads k false false (used_value c kept h) t _ (λ v. returned_some k v)
+    line_leads (Jumps _) m w kept t = tt
     line_leads (Barrier bits) m w kept t = asks_lead k (barrier_words bits) kept t
     line_leads (Act a xs r) m w kept t = act_leads a xs r m.0 kept t (used_values c kept xs)
 

@@ -1,12 +1,12 @@
 -- The scope only grows, and the text holds a `continue` and a label where the module does.
-use Rattle.std.proofs.Common.{◌≡◌, ℕ, Bool, true, false, List, [], ◌∷◌, ◌++◌, Some, None, ◌||◌}
+use Rattle.std.proofs.Common.{Option, ◌≡◌, ℕ, Bool, true, false, List, [], ◌∷◌, ◌++◌, Some, None, ◌||◌}
 use Rattle.std.proofs.Common.{refl, sym, ap, ap₂, ◌∙◌}
 use Rattle.std.proofs.Math.Bool.{or-false}
 use Rattle.shader_runs.specs.Value.{Bytes}
-use Rattle.shader_runs.specs.Program.{Label, Statement, Emit, Store, Block, If, Switch, Loop, Break}
-use Rattle.shader_runs.specs.Program.{Continue, Return, Kill, Barrier, Act, Statements, end, then}
+use Rattle.shader_runs.specs.Program.{Label, Statement, Emit, Block, If, Switch}
+use Rattle.shader_runs.specs.Program.{Continue, Barrier, Act, Statements, end, then}
 use Rattle.shader_runs.specs.Program.{Cases, no_case, case, Module, from, binds, holds_continue}
-use Rattle.shader_runs.specs.Program.{any_continue, some_case_continues, expression_of}
+use Rattle.shader_runs.specs.Program.{any_continue, some_case_continues, expression_of, Jump, Jumps, is_continue, jump_told}
 use Rattle.shader_runs.specs.Text.{Tree, Lines}
 use Rattle.shader_runs.specs.TextRun.{some_continue, some_group_continues, among, group_has}
 use Rattle.shader_runs.specs.ProgramRun.{Call, barrier_words, same_label, has_label}
@@ -15,7 +15,7 @@ use Rattle.shader_runs.specs.Scope.{named_after, named_by, named_by_all, after, 
 use Rattle.shader_runs.specs.Scope.{forgotten_if}
 use Rattle.shader_runs.specs.Form.{value_form, own_form, written_form, let_if, lets, perform_each}
 use Rattle.shader_runs.specs.Form.{form}
-use Rattle.shader_runs.specs.Form.{form_all, form_cases}
+use Rattle.shader_runs.specs.Form.{form_all, form_cases, value_if}
 use Rattle.shader_runs.proofs.Relation.{Extends, extends_refl, extends_trans, extends_forgotten}
 use Rattle.shader_runs.proofs.Evaluation.{naming}
 use Rattle.shader_runs.proofs.Emission.{extends_update, extends_emit}
@@ -46,26 +46,26 @@ pub falls_followed : (labels : List Label) (cs : Cases) → JoinsNext true end c
 falls_followed labels no_case m = absurd m
 falls_followed labels (case l b falls cs) m = tt
 
+-- a jump goes on with the next turn, however what it returns is told
+pub told_continues : {A B : Type 0} (tell : Option A → Option B) (j : Jump A) → is_continue (jump_told tell j) ≡ is_continue j
+told_continues tell Continue = refl
+told_continues tell _ = refl
+
 mutual
   continue_one : (p : Module) (c : Call) (n : Names) (k : ℕ) (st : Statement) (s : Handles)
       (tail : Lines) → Fits p c n k st s → some_continue (form (naming c n) k st s tail) ≡
       (holds_continue st || some_continue tail)
   continue_one p c n k (Emit first count) s tail m = lets_continue (naming c n) k (from first count) s tail
-  continue_one p c n k (Store q v) s tail m = refl
   continue_one p c n k (Block b) s tail m = ap (λ b. b || some_continue tail) (continue_all p c n k b s m)
   continue_one p c n k (If x a b) s tail m =
       let k1 = named_by_all c.function a k in
       ap (λ x. (x || some_continue (form_all (naming c n) k1 b s)) || some_continue tail) (continue_all p c n k a s m.1)
       ∙ ap (λ x. (any_continue a || x) || some_continue tail) (continue_all p c n k1 b s m.2)
   continue_one p c n k (Switch h cases) s tail m = ap (λ b. b || some_continue tail) (continue_cases p c n k [] cases s m.1)
-  continue_one p c n k (Loop b d e) s tail m = refl
-  continue_one p c n k Break s tail m = refl
-  continue_one p c n k Continue s tail m = refl
-  continue_one p c n k (Return v) s tail m = refl
-  continue_one p c n k Kill s tail m = refl
+  continue_one p c n k (Jumps j) s tail m = ap (λ b. b || some_continue tail) (told_continues (value_if (naming c n) s) j)
   continue_one p c n k (Barrier bits) s tail m = performs_continue (barrier_words bits) tail
   continue_one p c n k (Act a xs None) s tail m = refl
-  continue_one p c n k (Act a xs (Some h)) s tail m = refl
+  continue_one p c n k _ s tail m = refl
 
   pub continue_all : (p : Module) (c : Call) (n : Names) (k : ℕ) (ss : Statements) (s : Handles) → FitsAll p c n k ss s → some_continue (form_all (naming c n) k ss s) ≡ any_continue ss
   continue_all p c n k end s m = refl

@@ -7,7 +7,7 @@ use Rattle.std.specs.Prelude.{IsTrue, IsFalse, slice_get}
 use Rattle.shader_runs.specs.Program.{Statement, Emit, Store, Block, If, Switch, Loop, Return, Act}
 use Rattle.shader_runs.specs.Program.{Statements, end, then, Cases, no_case, case, Function}
 use Rattle.shader_runs.specs.Program.{expression_of, operands_of, binds, from}
-use Rattle.shader_runs.specs.Program.{is_emittable}
+use Rattle.shader_runs.specs.Program.{is_emittable, Jumps}
 use Rattle.shader_runs.specs.Scope.{Handles, Naming, before_local, bound_name, at_start, is_new}
 use Rattle.shader_runs.specs.Scope.{usable, usable_all, usable_if, after_one, after}
 use Rattle.shader_runs.specs.Scope.{after_all, named_after, named_by, named_by_all, may_emit}
@@ -279,9 +279,9 @@ mutual
       (find_break f.function at b d s2 (tracks_turn f k1 d behind_body s1 t1 q.0) o q.1))
       (first_false continuing ended p.1))
       (first_false body (continuing && ended) e)
-  find_in f k (Return None) at s t e ss = absurd (true≢false e)
-  find_in f k (Return (Some h)) at s t e ss =
-      uses_itself f.function at (Return (Some h)) ss s t h returned e
+  find_in f k (Jumps (Return None)) at s t e ss = absurd (true≢false e)
+  find_in f k (Jumps (Return (Some h))) at s t e ss =
+      uses_itself f.function at (Jumps (Return (Some h))) ss s t h returned e
   find_in f k (Act a xs r) at s t e ss =
       ⊎_elim (λ e. let x = unusable_operand f.function at s t xs e in
       itself f.function at (Act a xs r) ss (out_of_scope at x.1 (operand x.0 x.2) x.3))

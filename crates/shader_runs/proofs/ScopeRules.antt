@@ -14,7 +14,7 @@ use Rattle.shader_runs.specs.Program.{Return, Act, Statements, end, then, Cases,
 use Rattle.shader_runs.specs.Program.{Function, argument_count, local_count, expression_of}
 use Rattle.shader_runs.specs.Program.{operands_of, is_counted, binds_as, binds, from}
 use Rattle.shader_runs.specs.Program.{holds_continue}
-use Rattle.shader_runs.specs.Program.{is_pure, is_emittable}
+use Rattle.shader_runs.specs.Program.{is_pure, is_emittable, Jumps}
 use Rattle.shader_runs.specs.Scope.{Availability, Absent, Barred, Everywhere, Inline, Bound}
 use Rattle.shader_runs.specs.Scope.{Handles}
 use Rattle.shader_runs.specs.Scope.{Naming, before_local, bound_name, is_present, is_new, usable_as}
@@ -113,11 +113,7 @@ emittable_introduced None h = h
 usable_by : (f : Function) (e : Option Expression) (st : Availability) →
     usable_as f e st ≡ cond (can_be_introduced e) (is_present st) (usable_as f e Absent)
 usable_by f (Some (Constant c)) st = refl
-usable_by f (Some (Argument i)) st = refl
-usable_by f (Some (Local i)) st = refl
-usable_by f (Some (Global held i)) st = refl
-usable_by f (Some _) st = refl
-usable_by f None st = refl
+usable_by f _ st = refl
 
 usable_introduced : (f : Function) (e : Option Expression) (st : Availability) →
     IsTrue (can_be_introduced e) → usable_as f e st ≡ is_present st
@@ -349,7 +345,7 @@ module _ (f : Function) (h : ℕ) (at : Point) (s : Handles) (t : Tracks f at s)
   abbrev Usable : Bool
   Usable = usable_all f s (operands_at f h)
 
-  -- behind an Emit that gives nothing, or the handle
+  -- after an Emit that gives nothing, or the handle
   abbrev WithOne : Bool → Point
   WithOne c =
       record { visible = cond c at.visible (Emitted h ∷ at.visible); passed = cond c at.passed (Emitted h ∷ at.passed) }
@@ -427,7 +423,7 @@ result_rule : (f : Function) (at : Point) (s : Handles) (r : Option ℕ) → Tra
 result_rule f at s None t = (λ i. tt, λ d. refl)
 result_rule f at s (Some h) t = new_rule f at s h t
 
--- behind an Emit
+-- after an Emit
 abbrev behind_each : Function → List ℕ → Point → Point
 behind_each f hs at = record { visible = with_emitted f hs at.visible; passed = with_emitted f hs at.passed }
 
@@ -444,7 +440,7 @@ tracks_emit f k (h ∷ hs) at s t i =
     let t1 = tracks_emitted f.function h at s t kind (bound_name f k h) in
     tracks_emit f k1 hs (behind_one f.function h at) s1 t1 (and_right first rest i)
 
--- behind a statement
+-- after a statement
 pub tracks_after : (f : Naming) (k : ℕ) (st : Statement) (at : Point) (s : Handles) → Tracks f.function at s →
     IsTrue (fits f k st s) → Tracks f.function (behind f.function st at) (after f k st s)
 tracks_after f k (Emit first count) at s t i = tracks_emit f k (from first count) at s t i
@@ -534,11 +530,7 @@ module _ (f : Function) (at later : Point) (s now : Handles) (t : Tracks f at s)
   introduced_forgotten h Absent q =
       subst (IntroducedSkipped h) q
       (other_introduced h (λ p. absurd (true≢false (sym p ∙ ap is_present q))))
-  introduced_forgotten h Barred q =
-      subst (IntroducedSkipped h) q (other_introduced h (λ p. ap is_new q))
-  introduced_forgotten h Inline q =
-      subst (IntroducedSkipped h) q (other_introduced h (λ p. ap is_new q))
-  introduced_forgotten h (Bound x) q =
+  introduced_forgotten h _ q =
       subst (IntroducedSkipped h) q (other_introduced h (λ p. ap is_new q))
 
   used_forgotten : (h : ℕ) → (IsTrue (usable f (forgotten_handles s now) h) ↔ InScope f at.visible h)
@@ -609,7 +601,7 @@ mutual
       (statements_rule f k b at s t)
       (λ i. statements_rule f k1 d continuing s1 (tracks_turn f k b at s t i))
       (λ i j. if_used f.function break_if s2 (tracks_turn f k1 d continuing s1 (tracks_turn f k b at s t i) j) e)
-  statement_rule f k (Return v) at s t = if_used f.function at s t v
+  statement_rule f k (Jumps (Return v)) at s t = if_used f.function at s t v
   statement_rule f k (Act a xs r) at s t =
       both (usable_all f.function s xs) (may_give r s) (each_used f.function at s t xs)
       (λ i. result_rule f.function at s r t)

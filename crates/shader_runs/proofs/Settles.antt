@@ -1,4 +1,4 @@
--- A text's run with more turns is the run with fewer turns, or that one ran out of turns behind as
+-- A text's run with more turns is the run with fewer turns, or that one ran out of turns after as
 -- many events.
 use Rattle.std.proofs.Common.{◌≡◌, ℕ, zero, suc, ◌+◌, ◌<◌, ◌≤◌, ◌⊎◌, inl, inr, Bool, true, false}
 use Rattle.std.proofs.Common.{cond, nat_eq, List, [], ◌∷◌, length, Option, Some, None, refl, sym}
@@ -15,13 +15,13 @@ use Rattle.shader_runs.specs.Outcome.{and_then}
 use Rattle.shader_runs.specs.Outcome.{and_continue, within, turn, and_again, turns, after_switch}
 use Rattle.shader_runs.specs.Outcome.{closed_outcome, closed_if, branch_by, with_integer, or_stuck}
 use Rattle.shader_runs.specs.Outcome.{reach, unless}
-use Rattle.shader_runs.specs.Program.{Label, Numbered}
+use Rattle.shader_runs.specs.Program.{Label, Numbered, Break, Continue, Return}
 use Rattle.shader_runs.specs.ProgramRun.{run_if_arguments_fit, decides, label_if}
 use Rattle.shader_runs.specs.Text.{Tree, Name, LiteralOf, Apply, Deref, AddressOf, Index, PartOf}
 use Rattle.shader_runs.specs.Text.{LogicalOf, Trees, no_more, more, Line, Let, Assign, Braces}
-use Rattle.shader_runs.specs.Text.{IfElse, SwitchOn, LoopOf, BreakLine, ContinueLine, ReturnLine}
-use Rattle.shader_runs.specs.Text.{DiscardLine, Perform, Lines, last, before, Groups, no_group}
-use Rattle.shader_runs.specs.Text.{group, Variable, TextFunction}
+use Rattle.shader_runs.specs.Text.{IfElse, SwitchOn, LoopOf}
+use Rattle.shader_runs.specs.Text.{Perform, Lines, last, before, Groups, no_group}
+use Rattle.shader_runs.specs.Text.{group, Variable, TextFunction, JumpLine}
 use Rattle.shader_runs.specs.TextRun.{Denotation, IsValue, IsPlace, Scope, Words, read_value}
 use Rattle.shader_runs.specs.TextRun.{put_before, followed_by, word_answer, word_reached, as_value}
 use Rattle.shader_runs.specs.TextRun.{dereference, address_reached, part_reached, index_reached}
@@ -64,7 +64,7 @@ reached_ends = record { events = reached_events; out = λ e. Halts OutOfTurns e 
 abbrev pub outcome_ends : {S : Type 0} → Ends (Outcome S)
 outcome_ends = record { events = events_of; out = λ e. Stopped OutOfTurns e }
 
--- both runs from t end alike, or the first is out of turns behind k more events
+-- both runs from t end alike, or the first is out of turns after k more events
 pub data Settles {X : Type 0} (m : Ends X) (k : ℕ) (t : List Event) : X → X → Type 0 where
   same : {q : X} → Later t (m.events q) → Settles m k t q q
   out_of_turns : {e : List Event} {q : X} → k + length t ≤ length e → Settles m k t (m.out e) q
@@ -129,24 +129,15 @@ module _ (k : ℕ) where
 
   within_events : {S : Type 0} (o : Outcome S) → events_of (within o) ≡ events_of o
   within_events (Done s e) = refl
-  within_events (Continued s e) = refl
-  within_events (Broke s e) = refl
-  within_events (Returned v e) = refl
-  within_events (Stopped x e) = refl
+  within_events _ = refl
 
   switch_events : {S : Type 0} (o : Outcome S) → events_of (after_switch o) ≡ events_of o
   switch_events (Done s e) = refl
-  switch_events (Continued s e) = refl
-  switch_events (Broke s e) = refl
-  switch_events (Returned v e) = refl
-  switch_events (Stopped x e) = refl
+  switch_events _ = refl
 
   closed_events : {S : Type 0} (s : S) (o : Outcome S) → events_of (closed_outcome s o) ≡ events_of o
   closed_events s (Done s1 e) = refl
-  closed_events s (Continued s1 e) = refl
-  closed_events s (Broke s1 e) = refl
-  closed_events s (Returned v e) = refl
-  closed_events s (Stopped x e) = refl
+  closed_events s _ = refl
 
   within_settles : {S : Type 0} {t : List Event} {o o' : Outcome S} → SettlesOutcome t o o' → SettlesOutcome t (within o) (within o')
   within_settles h = changed_settles within (λ e. refl) within_events h
@@ -347,8 +338,7 @@ module _ (k : ℕ) where
 
     as_value_next : (q : ReachedOrHalted (Option Value)) → SettlesReached (reached_events q) (as_value q) (as_value q)
     as_value_next (Gives None e) = same here
-    as_value_next (Gives (Some v) e) = same here
-    as_value_next (Halts x e) = same here
+    as_value_next _ = same here
 
     dereferenced_next : (q : ReachedOrHalted Value) → SettlesReached (reached_events q) (dereference q) (dereference q)
     dereferenced_next (Gives v e) = reach_settles (option_map IsPlace (place_in v)) e
@@ -356,8 +346,7 @@ module _ (k : ℕ) where
 
     addressed_next : (q : ReachedOrHalted Denotation) → SettlesReached (reached_events q) (address_reached q) (address_reached q)
     addressed_next (Gives (IsPlace p) e) = same here
-    addressed_next (Gives (IsValue v) e) = same here
-    addressed_next (Halts x e) = same here
+    addressed_next _ = same here
 
     picked_next : (x : Selector) (q : ReachedOrHalted Denotation) → SettlesReached (reached_events q) (part_picked parts w m x q) (part_picked parts w m x q)
     picked_next x (Gives (IsPlace p) e) = by (place_to parts p x)
@@ -470,10 +459,10 @@ module _ (k : ℕ) where
             (λ s1 t1. and_then_settles (break_line l o) (break_line l' o) (break_settles o)
             (within_settles (looped_settle d s1 t1))) (looped_settle b names e)) k n less
             (omega arith) names t
-        line_settles BreakLine names t = same here
-        line_settles ContinueLine names t = same here
-        line_settles (ReturnLine o) names t = return_settles o names t
-        line_settles DiscardLine names t = same (later here)
+        line_settles (JumpLine Break) names t = same here
+        line_settles (JumpLine Continue) names t = same here
+        line_settles (JumpLine (Return o)) names t = return_settles o names t
+        line_settles (JumpLine _) names t = same (later here)
         line_settles (Perform word es) names t =
             onward (perform_outcome (operates word) names) (perform_outcome (operates word) names) (λ e. refl) (performed_next (operates word) names) (word_settles word names (trees_settle es names t))
 

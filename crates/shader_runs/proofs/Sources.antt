@@ -22,7 +22,7 @@ use Rattle.shader_runs.proofs.Update.{update_cases}
 pub same_name : (x y : Bytes) → Bound x ≡ Bound y → x ≡ y
 same_name x y e = cc
 
--- a standing behind a `continue` has no other name than before
+-- a standing after a `continue` has no other name than before
 pub forgotten_bound : (st now : Availability) (x : Bytes) → forgotten_one st now ≡ Bound x → st ≡ Bound x
 forgotten_bound Everywhere now x e = by (is_new now) e
   where
@@ -84,7 +84,7 @@ module _ (f : Naming) where
       by true = inr (k, omega arith, refl)
       by false = inl refl
 
-  -- ---- names are given one behind another
+  -- ---- names are given one after another
   pub named_after_more : (h k : ℕ) → k ≤ named_after f.function h k
   named_after_more h k = by (is_named f.function h)
     where

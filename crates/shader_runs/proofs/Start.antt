@@ -6,8 +6,8 @@ use Rattle.std.specs.Prelude.{IsTrue}
 use Rattle.std.proofs.lemmas.Option.{slice_get_within}
 use Rattle.shader_runs.specs.Value.{ValueType, Value, has_type, has_types}
 use Rattle.shader_runs.specs.World.{Environment, Meaning}
-use Rattle.shader_runs.specs.Program.{Expression, Constant, Operator, Access, AccessIndex, Logical}
-use Rattle.shader_runs.specs.Program.{Swizzle, Function, expression_of, handle_type, operands_of}
+use Rattle.shader_runs.specs.Program.{Swizzle, Logical, AccessIndex, Access, Operator, Expression, Constant}
+use Rattle.shader_runs.specs.Program.{Function, expression_of, handle_type, operands_of}
 use Rattle.shader_runs.specs.Program.{Module}
 use Rattle.shader_runs.specs.Program.{is_pure}
 use Rattle.shader_runs.specs.ProgramRun.{Call, used_value_as, used_value, also, used_values}

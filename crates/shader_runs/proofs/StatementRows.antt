@@ -48,7 +48,7 @@ word_is_taken =
       refused = λ fits. ((fits.all.1.0.words 2).2).0 1 (omega arith) refl;
     }
 
--- the letter behind the comma in the spelling of a pointer to the place that is read last
+-- the letter after the comma in the spelling of a pointer to the place that is read last
 abbrev letter : CallEnd → ℕ
 letter (Gives v (Read (Rooted (LocalRoot pointer k i)) ∷ t)) = get_or pointer 14 0
 letter _ = 0

@@ -4,17 +4,17 @@ use Rattle.std.proofs.Common.{None, ◌||◌, refl, sym, ap, ap₂, ◌∙◌, s
 use Rattle.std.specs.Prelude.{IsTrue, ℤ}
 use Rattle.shader_runs.specs.Value.{Bytes, PartTypes, has_type, has_types, Value, integer_in}
 use Rattle.shader_runs.specs.World.{Event, Ask, update, bind}
-use Rattle.shader_runs.specs.Outcome.{Outcome, Next, Done, Continued, Returned, ReachedOrHalted}
+use Rattle.shader_runs.specs.Outcome.{Outcome, Next, Done, Returned, ReachedOrHalted}
 use Rattle.shader_runs.specs.Outcome.{Gives}
 use Rattle.shader_runs.specs.Outcome.{Halts, and_then, within, turn, turns, after_switch, branch_by}
 use Rattle.shader_runs.specs.Outcome.{with_integer, closed_outcome, closed_if, or_stuck, reach}
-use Rattle.shader_runs.specs.Outcome.{unless}
+use Rattle.shader_runs.specs.Outcome.{unless, jump_outcome}
 use Rattle.shader_runs.specs.Program.{Expression, Result, Action, Asked, Called, Label, Numbered}
 use Rattle.shader_runs.specs.Program.{Statement, Emit, Store, Block, If, Switch, Loop, Break}
-use Rattle.shader_runs.specs.Program.{Continue, Return, Kill, Barrier, Act, Statements, end, then}
+use Rattle.shader_runs.specs.Program.{Continue, Return, Barrier, Act, Statements, end, then}
 use Rattle.shader_runs.specs.Program.{Cases, no_case, case, from, holds_continue, any_continue}
 use Rattle.shader_runs.specs.Program.{some_case_continues, expression_of, handle_type, BarrierBits}
-use Rattle.shader_runs.specs.Program.{Function, function_numbered, Module}
+use Rattle.shader_runs.specs.Program.{Function, function_numbered, Module, Jump, Jumps, is_continue, jump_told}
 use Rattle.shader_runs.specs.ProgramRun.{Call, KeptValues, combined_value, used_value}
 use Rattle.shader_runs.specs.ProgramRun.{used_value_as}
 use Rattle.shader_runs.specs.ProgramRun.{used_values, action_answer, with_result, leave}
@@ -50,7 +50,7 @@ use Rattle.shader_runs.proofs.Emission.{new_event, agree_update, bind_related, e
 use Rattle.shader_runs.proofs.Checked.{Fits, FitsAll, FitsCases, MayResult}
 use Rattle.shader_runs.proofs.Scope.{IsFollowed, falls_followed, continue_all, continue_cases}
 use Rattle.shader_runs.proofs.Scope.{among_append, first_followed_by, has_all_cases, extends_after}
-use Rattle.shader_runs.proofs.Scope.{extends_all}
+use Rattle.shader_runs.proofs.Scope.{extends_all, told_continues}
 
 -- both runs of a list from the scope s end alike, in the scope s2; held: it holds a `continue`
 abbrev pub Same : Call → Names → Handles → KeptValues → Handles → Bool → Outcome KeptValues → Outcome Scope → Type 0
@@ -306,20 +306,23 @@ module _ (p : Module) (c : Call) (n : Names) (d : Respond) (facts : Facts p c n 
       (extends_all c n k b s) m.2 (λ kept names t r. same_b names kept t r m.0)
       (λ kept names t r. same_d names kept t r m.1) names kept t r) next
 
-  break_row : (k : ℕ) (s : Handles) → Row k Break s
-  break_row k s names kept t held2 s2 f tail r m next =
-      row c n s names kept r false held2 s2 _ _ f (Follow tail) (broke (agree_refl s kept)) next
+  jump_alike : (k : ℕ) (j : Jump ℕ) (s : Handles) (names : Scope) (kept : KeptValues) (t : List Event) →
+      Related c n s names kept → Fits p c n k (Jumps j) s →
+      SameLine c n s kept (is_continue j) (jump_outcome (return_outcome c) j kept t)
+      (jump_outcome (return_line (words c d)) (jump_told (value_if (naming c n) s) j) names t)
+  jump_alike k Break s names kept t r m = broke (agree_refl s kept)
+  jump_alike k Continue s names kept t r m = continued (agree_refl s kept, refl)
+  jump_alike k (Return e) s names kept t r m = return_alike p c n d facts bound s names kept t e m.0 m.1 r
+  jump_alike k _ s names kept t r m = stopped
 
-  continue_row : (k : ℕ) (s : Handles) → Row k Continue s
-  continue_row k s names kept t held2 s2 f tail r m next =
-      row c n s names kept r true held2 s2 (Continued kept t) (Continued names t) f (Follow tail) (continued (agree_refl s kept, refl)) next
-
-  return_row : (k : ℕ) (e : Option ℕ) (s : Handles) → Row k (Return e) s
-  return_row k e s names kept t held2 s2 f tail r m next =
-      row c n s names kept r false held2 s2 _ _ f (Follow tail) (return_alike p c n d facts bound s names kept t e m.0 m.1 r) next
-
-  kill_row : (k : ℕ) (s : Handles) → Row k Kill s
-  kill_row k s names kept t held2 s2 f tail r m next = row c n s names kept r false held2 s2 _ _ f (Follow tail) stopped next
+  jump_row : (k : ℕ) (j : Jump ℕ) (s : Handles) → Row k (Jumps j) s
+  jump_row k j s names kept t held2 s2 f tail r m next =
+      let o' = jump_outcome (return_line (words c d)) (jump_told (value_if (naming c n) s) j) names t in
+      subst (λ held. Same c n s kept (forgotten_if (is_continue j) s s2) (is_continue j || held2)
+      (and_then (jump_outcome (return_outcome c) j kept t) f)
+      (closed_if held names (and_then o' (Follow tail))))
+      (sym (told_continues (value_if (naming c n) s) j))
+      (row c n s names kept r (is_continue j) held2 s2 _ o' f (Follow tail) (jump_alike k j s names kept t r m) next)
 
   -- a barrier, a line for each set bit
   asks_alike : (s s2 : Handles) (names : Scope) (kept : KeptValues) → Related c n s names kept →
@@ -478,7 +481,7 @@ module _ (p : Module) (c : Call) (n : Names) (d : Respond) (facts : Facts p c n 
       (action_answer c a v.0 t) q'
       (responded_written s names kept r a xs (Some h) m.1 m.0 v.0 v.1 v.2 t))
 
-  -- what is to be shown of the cases of a switch, behind waiting labels: entered, or on the way to
+  -- what is to be shown of the cases of a switch, after waiting labels: entered, or on the way to
   -- the label x
   pub record Cases_row (k : ℕ) (cs : Cases) (s : Handles) : Type 0 where
     pub entered : (labels : List Label) → IsFollowed labels cs →
@@ -685,10 +688,7 @@ module _ (p : Module) (c : Call) (n : Names) (d : Respond) (facts : Facts p c n 
     same_one (Switch h cs) k s = switch_row k h cs s (same_cases cs k s)
     same_one (Loop b b2 e) k s =
         loop_row k b b2 e s (same_all b k s) (same_all b2 (named_by_all c.function b k) (after_all (naming c n) k b s))
-    same_one Break k s = break_row k s
-    same_one Continue k s = continue_row k s
-    same_one (Return e) k s = return_row k e s
-    same_one Kill k s = kill_row k s
+    same_one (Jumps j) k s = jump_row k j s
     same_one (Barrier bits) k s = barrier_row k bits s
     same_one (Act a xs None) k s = perform_row k a xs s
     same_one (Act a xs (Some h)) k s = result_row k a xs h s

@@ -43,7 +43,7 @@ place_targets_of names (AsPlace e) = refl
 pub both : {us vs : List (Option Target)} (xs ys : List Target) → us ≡ map Some xs → vs ≡ map Some ys → us ++ vs ≡ map Some (xs ++ ys)
 both xs ys a b = (λ i. a i ++ b i) ∙ sym (map-append Some xs ys)
 
--- what stands behind a word
+-- what stands after a word
 behind : {us vs : List (Option Target)} (t : Target) → us ≡ vs → Some t ∷ us ≡ Some t ∷ vs
 behind t e = ap (λ ts. Some t ∷ ts) e
 
@@ -59,7 +59,7 @@ global_targets : (names : Lookup) (held : Bool) (e : Tree) → plain_targets nam
 global_targets names true e = refl
 global_targets names false e = refl
 
--- a word that is no name, and what stands behind it
+-- a word that is no name, and what stands after it
 pub word_resolves : (names : Lookup) (word : Bytes) → names word ≡ None →
     {us vs : List (Option Target)} → us ≡ vs →
     Some (word_target word (names word)) ∷ us ≡ Some (WordTarget word) ∷ vs

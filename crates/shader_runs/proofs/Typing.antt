@@ -293,7 +293,7 @@ module _ (p : Module) (consistent : IsConsistent p) where
   pair_typed : (a b : ValueType) (x y : Value) → IsTrue (has_type p.parts a x) → IsTrue (has_type p.parts b y) → IsTrue (has_types p.parts (a ∷ b ∷ []) (x ∷ y ∷ []))
   pair_typed a b x y h k = and_both (has_type p.parts a x) (has_types p.parts (b ∷ []) (y ∷ [])) h (and_both (has_type p.parts b y) true k refl)
 
-  -- what `&&` or `||` gives behind a truth value
+  -- what `&&` or `||` gives after a truth value
   truths_typed : (j : ShortCircuit) (t k : ValueType) → k ≡ BooleanType →
       ((vs : List Value) → IsTrue (has_types p.parts (BooleanType ∷ t ∷ []) vs) →
       IsTrue (has_type p.parts k (m (Spelled (short_circuit_word j)) vs))) →

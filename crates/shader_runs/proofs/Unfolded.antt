@@ -11,7 +11,7 @@ use Rattle.std.proofs.Common.{option_map}
 use Rattle.std.specs.Prelude.{IsTrue, unwrap_or}
 use Rattle.shader_runs.specs.Value.{Value, PartTypes, has_type, has_types}
 use Rattle.shader_runs.specs.World.{Event, World, Meaning, Settings, Environment, entries}
-use Rattle.shader_runs.specs.Outcome.{Outcome, Done, Continued, Broke, Returned, Stopped}
+use Rattle.shader_runs.specs.Outcome.{Outcome, Done}
 use Rattle.shader_runs.specs.Outcome.{ReachedOrHalted, and_then, after_switch, branch_by, or_stuck}
 use Rattle.shader_runs.specs.Outcome.{turn, turns, with_integer}
 use Rattle.shader_runs.specs.Program.{ConstantTree, Fixed, NamedConstant, Constructed, Indexing}
@@ -33,7 +33,7 @@ use Rattle.shader_runs.specs.ProgramRun.{tree_value}
 use Rattle.shader_runs.proofs.Callees.{body_runs}
 
 -- ---- cases without a fall
--- the statements of a case, and those of the next one behind them where it falls through
+-- the statements of a case, and those of the next one after them where it falls through
 abbrev pub followed : (falls : Bool) → (own next : Statements) → Statements
 followed true own next = then (Block own) (then (Block next) end)
 followed false own next = own
@@ -74,10 +74,7 @@ unfolded_module p = record p { functions = unfolded_functions p.functions }
 -- where nothing goes on
 ended : {S : Type 0} (o : Outcome S) → and_then o (λ s t. Done s t) ≡ o
 ended (Done s t) = refl
-ended (Continued s t) = refl
-ended (Broke s t) = refl
-ended (Returned v t) = refl
-ended (Stopped x t) = refl
+ended _ = refl
 
 labels_stay : (x : Label) (cs : Cases) → has_label x (unfolded_cases cs) ≡ has_label x cs
 labels_stay x no_case = refl
@@ -232,11 +229,7 @@ module _ (p : Module) where
   -- ---- typed meanings
   pub same_type_of : (e : ConstantTree) → constant_type q e ≡ constant_type p e
   same_type_of (Fixed v) = refl
-  same_type_of (NamedConstant i) = refl
-  same_type_of (Constructed w ty es) = refl
-  same_type_of (Indexing ty b i) = refl
-  same_type_of (Picking x ty b) = refl
-  same_type_of (Joining j ty l r) = refl
+  same_type_of _ = refl
 
   same_types_of : (es : ConstantTrees) → constant_types_of q es ≡ constant_types_of p es
   same_types_of no_constant = refl

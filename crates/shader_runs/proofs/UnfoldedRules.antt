@@ -8,15 +8,15 @@ use Rattle.std.proofs.Common.{◌≡◌, ℕ, suc, ◌<◌, Bool, true, false, c
 use Rattle.std.proofs.Common.{Option, Some, None, refl, sym, ap, ◌∙◌, subst}
 use Rattle.std.specs.Prelude.{IsTrue, IsFalse}
 use Rattle.shader_runs.specs.Value.{Bytes, ValueType}
-use Rattle.shader_runs.specs.Program.{ConstantTree, Fixed, NamedConstant, Constructed, Indexing}
+use Rattle.shader_runs.specs.Program.{Swizzle, Request, Global, Local, Argument, ConstantTree, Fixed, NamedConstant, Constructed, Indexing}
 use Rattle.shader_runs.specs.Program.{Picking, Joining, ConstantTrees, no_constant, constant}
-use Rattle.shader_runs.specs.Program.{Expression, Constant, Argument, Local, Global, Load, Request}
-use Rattle.shader_runs.specs.Program.{Swizzle, Statement, Emit, Store}
-use Rattle.shader_runs.specs.Program.{Block, If, Switch, Loop, Break, Continue, Return, Kill}
-use Rattle.shader_runs.specs.Program.{Barrier, Act, Statements, end, then}
+use Rattle.shader_runs.specs.Program.{Expression, Constant, Load}
+use Rattle.shader_runs.specs.Program.{Statement, Emit, Store}
+use Rattle.shader_runs.specs.Program.{Block, If, Switch, Loop, Return}
+use Rattle.shader_runs.specs.Program.{Act, Statements, end, then}
 use Rattle.shader_runs.specs.Program.{Cases, no_case, case, Function, Module, expression_of}
 use Rattle.shader_runs.specs.Program.{binds_as, from, holds_continue}
-use Rattle.shader_runs.specs.Program.{any_continue, some_case_continues}
+use Rattle.shader_runs.specs.Program.{any_continue, some_case_continues, Jumps}
 use Rattle.shader_runs.specs.Scope.{ModuleNames, Naming, before_local}
 use Rattle.shader_runs.specs.ScopeRules.{IntroducedHandle, Emitted, IsConstantTree}
 use Rattle.shader_runs.specs.ScopeRules.{one_constant, over_constants, AreConstantTrees, no_tree}
@@ -71,7 +71,7 @@ mutual
       ∙ counted_once (any_continue b) (any_continue (unfolded_on cs)) (some_case_continues cs)
       (next_continues cs)
 
-  -- what a case falls to is among the cases behind it
+  -- what a case falls to is among the cases after it
   next_continues : (cs : Cases) →
       (any_continue (unfolded_on cs) || some_case_continues cs) ≡ some_case_continues cs
   next_continues no_case = refl
@@ -138,7 +138,7 @@ module _ (f : Function) (body : Statements) where
   emitted_alike (h ∷ hs) gs =
       ap (with_emitted other hs) (one_alike h gs) ∙ emitted_alike hs (with_one f h gs)
 
-  -- behind a statement, unfolded or not
+  -- after a statement, unfolded or not
   statement_gives : (st : Statement) (gs : List IntroducedHandle) →
       with_statement other (unfolded st) gs ≡ with_statement f st gs
   statement_gives (Emit first count) gs = emitted_alike (from first count) gs
@@ -243,7 +243,7 @@ module _ (f : Function) (body : Statements) where
           subst (λ at. InScopeIf (other f body) at.visible e) (sym last)
               (scope_alike_if f body (behind_turn f d continuing).visible e holds.2),
         )
-    statement_holds at (Return v) holds = scope_alike_if f body at.visible v holds
+    statement_holds at (Jumps (Return v)) holds = scope_alike_if f body at.visible v holds
     statement_holds at (Act a xs r) holds = (each_alike f body holds.0, result_holds at r holds.1)
     statement_holds at _ holds = tt
 
@@ -295,14 +295,7 @@ module _ (p : Module) (callees : List Function) (f : Naming) where
     statement_regular (If c a b) is = (regular_unfolded a is.0, regular_unfolded b is.1)
     statement_regular (Switch h cs) is = cases_regular cs is
     statement_regular (Loop b d e) is = (regular_unfolded b is.0, regular_unfolded d is.1)
-    statement_regular (Emit first count) is = is
-    statement_regular (Store q v) is = is
-    statement_regular Break is = is
-    statement_regular Continue is = is
-    statement_regular (Return v) is = is
-    statement_regular Kill is = is
-    statement_regular (Barrier bits) is = is
-    statement_regular (Act a xs r) is = is
+    statement_regular _ is = is
 
     pub regular_unfolded : (ss : Statements) → AreRegular p callees f ss →
         AreRegular p callees f (unfolded_all ss)
@@ -360,16 +353,13 @@ module _ (f : Function) (body : Statements) where
     statement_well : (breaks continues : Bool) (st : Statement) →
         IsWellFormed f breaks continues st →
         IsWellFormed (other f body) breaks continues (unfolded st)
-    statement_well breaks continues (Store q v) is = is
     statement_well breaks continues (Block b) is = statements_well breaks continues b is
     statement_well breaks continues (If c a b) is =
         (is.0, statements_well breaks continues a is.1, statements_well breaks continues b is.2)
     statement_well breaks continues (Switch h cs) is = (is.0, cases_well continues cs is.1)
     statement_well breaks continues (Loop b d e) is =
         (statements_well true true b is.0, statements_well false false d is.1, break_fits e is.2)
-    statement_well breaks continues Break is = is
-    statement_well breaks continues Continue is = is
-    statement_well breaks continues _ is = tt
+    statement_well breaks continues _ is = is
 
     statements_well : (breaks continues : Bool) (ss : Statements) →
         AreWellFormed f breaks continues ss →

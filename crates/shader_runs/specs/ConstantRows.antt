@@ -11,9 +11,9 @@ use Rattle.shader_runs.specs.World.{Entry, Meaning, Settings, Vocabulary}
 use Rattle.shader_runs.specs.Outcome.{ReachedOrHalted, Gives, Halts, Stuck}
 use Rattle.shader_runs.specs.Program.{ConstantTree, Fixed, NamedConstant, Constructed, no_constant}
 use Rattle.shader_runs.specs.Program.{constant, Constant, Return, end, then, Function, Module}
-use Rattle.shader_runs.specs.Program.{AtPlace, Indexing, Picking, Joining}
-use Rattle.shader_runs.specs.Text.{Tree, Name, LiteralOf, Apply, no_more, more, ReturnLine, last}
-use Rattle.shader_runs.specs.Text.{before, Index, PartOf, LogicalOf, TextModule}
+use Rattle.shader_runs.specs.Program.{AtPlace, Indexing, Picking, Joining, Jumps}
+use Rattle.shader_runs.specs.Text.{Tree, Name, LiteralOf, Apply, no_more, more, last}
+use Rattle.shader_runs.specs.Text.{before, Index, PartOf, LogicalOf, TextModule, JumpLine}
 use Rattle.shader_runs.specs.Constants.{run_module, follow_module}
 use Rattle.shader_runs.specs.Scope.{ModuleNames, Naming}
 use Rattle.shader_runs.specs.Form.{form_module}
@@ -58,7 +58,7 @@ pair_function =
       types = OtherType pair_word ∷ [];
       bound_by_uses = [];
       named_expressions = [];
-      body = then (Return (Some 0)) end;
+      body = then (Jumps (Return (Some 0))) end;
     }
 
 -- what P is: a pair of the constant 1 and the override, which is 2
@@ -68,7 +68,7 @@ pair_initialiser =
     (constant (NamedConstant 1) (constant (NamedConstant 2) no_constant))
 
 -- the constant P; the constant N, which P names and which
--- is declared behind it; the override m; a variable v
+-- is declared after it; the override m; a variable v
 abbrev pub module_of : ConstantTree → Module
 module_of i =
     record {
@@ -127,7 +127,7 @@ pair_text initialiser =
       overrides = codes "m" ∷ [];
       globals = record { name = codes "v"; pointer = Some private_pair } ∷ [];
       functions =
-          text_of (codes "f") [] [] (before (ReturnLine (Some (Name (codes "P")))) last) ∷ [];
+          text_of (codes "f") [] [] (before (JumpLine (Return (Some (Name (codes "P"))))) last) ∷ [];
     }
 
 -- a value of the override

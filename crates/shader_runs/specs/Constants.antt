@@ -23,7 +23,7 @@ use Rattle.shader_runs.specs.TextRun.{with_globals, no_names, names_function, wo
 abbrev pub known_value : List (Option Value) → ℕ → Option Value
 known_value found i = get_or found i None
 
--- the values of the initialisers, where they have one, and behind them those of the overrides
+-- the values of the initialisers, where they have one, and after them those of the overrides
 abbrev pub found_with : (ConstantTree → Option Value) → Module → Settings → List (Option Value)
 found_with value p s = map value p.initialisers ++ map Some s.overrides
 

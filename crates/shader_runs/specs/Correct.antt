@@ -81,7 +81,7 @@ RunsAlike =
     follow_module text p.parts settings w m n.vocabulary turns (n.function g) vs t
     ≡ run_module p settings w m turns g vs t
 
--- The same of one function that fits behind its callees, whatever stands after it, and between it
+-- The same of one function that fits after its callees, whatever stands after it, and between it
 -- and them, in the module and in the text.
 abbrev pub OneRunsAlike : Type 0
 OneRunsAlike =
@@ -99,7 +99,7 @@ OneRunsAlike =
     follow_module text p.parts settings w m n.vocabulary turns (n.function g) vs t
     ≡ run_module p settings w m turns g vs t
 
--- each named constant has the value of its initialiser over the values of all; the overrides behind
+-- each named constant has the value of its initialiser over the values of all; the overrides after
 -- them and the variables are as the caller chose
 pub record IsSolution (p : Module) (s : Settings) (m : Meaning) (env : Environment) : Type 0 where
   pub initialisers : (i : ℕ) (e : ConstantTree) → slice_get p.initialisers i ≡ Some e →
@@ -141,7 +141,7 @@ abbrev pub HasTypedMeaning : Type 0
 HasTypedMeaning = (p : Module) → IsConsistent p → (m : Meaning) × IsTyped p m
 
 -- with each bound on loop turns, from each function and entry point with arguments of its types
--- and behind each past, each answer of this world that the run asks for has its type
+-- and after each past, each answer of this world that the run asks for has its type
 abbrev pub AlwaysKeepsTypes : Module → Settings → Meaning → World → Type 0
 AlwaysKeepsTypes p settings m w =
     (turns : ℕ) (g : ℕ) (f : Function) → function_numbered p.functions g ≡ Some f →
@@ -150,9 +150,9 @@ AlwaysKeepsTypes p settings m w =
     KeepsTypes (run_module p settings w m turns g vs past)
 
 -- Nor is its premise on the world: one world keeps the types in all these runs. The same events may
--- be a past and a run behind it in several ways, since a run may have begun at each entry among
+-- be a past and a run after it in several ways, since a run may have begun at each entry among
 -- them. No two of these runs want answers of different types. Where the later one began, the
--- earlier one called the same function with the same arguments behind the same events. So until
+-- earlier one called the same function with the same arguments after the same events. So until
 -- that call ends both do the same, and then the later run asks for nothing more.
 abbrev pub HasTypedWorld : Type 0
 HasTypedWorld =

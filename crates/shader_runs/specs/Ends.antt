@@ -10,7 +10,7 @@ use Rattle.shader_runs.specs.Program.{Statement, Block, If, Switch, Loop, Statem
 use Rattle.shader_runs.specs.ProgramRun.{Call, KeptValues, run, run_all}
 use Rattle.shader_runs.specs.Passes.{Point, here, behind, statements_at, Passes}
 
--- the point behind the last statement
+-- the point after the last statement
 abbrev pub end_of : Statements → Point
 end_of end = here
 end_of (then st ss) = behind (end_of ss)
@@ -52,7 +52,7 @@ pub record EndsAt (c : Call) (n : ℕ) (ss : Statements) (kept : KeptValues) (t 
   pub simple : IsTrue (is_simple statement)
   pub ends : run c n statement kept_there events_there ≡ o
 
--- a list that is done passes the point behind it, and one that ends early passes the point in front
+-- a list that is done passes the point after it, and one that ends early passes the point in front
 -- of the statement where it does
 abbrev pub EndsArePassed : Type 0
 EndsArePassed =

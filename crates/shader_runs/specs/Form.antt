@@ -1,6 +1,6 @@
 -- The abstract text that is written for a module.
 --
--- Throughout, f is a function with its names, n are names, s the handles in scope (s1 those behind
+-- Throughout, f is a function with its names, n are names, s the handles in scope (s1 those after
 -- a part), k is how many names have been given, h a handle, e an expression or a
 -- constant tree, st a statement, b a body, i an index, j a short circuit, w a word, x a name, a
 -- selector, a variable or a handle, and l a label or a local.
@@ -13,19 +13,19 @@ use Rattle.shader_runs.specs.Program.{Picking, Joining}
 use Rattle.shader_runs.specs.Program.{ConstantTrees, no_constant, constant, Expression, Constant}
 use Rattle.shader_runs.specs.Program.{Argument, Local, Global, Load, Operator, Access, AccessIndex}
 use Rattle.shader_runs.specs.Program.{Logical, Swizzle, Request, Result, Action, Asked, Called}
-use Rattle.shader_runs.specs.Program.{Label, Statement, Emit, Store, Block, If, Switch, Loop, Break}
-use Rattle.shader_runs.specs.Program.{Continue, Return, Kill, Barrier, Act, Statements, end, then}
+use Rattle.shader_runs.specs.Program.{Label, Statement, Emit, Store, Block, If, Switch, Loop}
+use Rattle.shader_runs.specs.Program.{Barrier, Act, Statements, end, then}
 use Rattle.shader_runs.specs.Program.{Cases, no_case, case, Function, argument_count, local_pointer}
 use Rattle.shader_runs.specs.Program.{expression_of, handle_type, binds, from, VariableShape}
 use Rattle.shader_runs.specs.Program.{pointer_to, Module}
-use Rattle.shader_runs.specs.Program.{constant_count, override_types}
+use Rattle.shader_runs.specs.Program.{constant_count, override_types, Jumps, jump_told}
 use Rattle.shader_runs.specs.ProgramRun.{barrier_words}
 use Rattle.shader_runs.specs.Text.{Tree, Name, LiteralOf, Apply, Deref, AddressOf, Index, PartOf}
 use Rattle.shader_runs.specs.Text.{LogicalOf, Trees, no_more, more, Line, Let, Assign, Braces}
-use Rattle.shader_runs.specs.Text.{IfElse, SwitchOn, LoopOf, BreakLine, ContinueLine, ReturnLine}
-use Rattle.shader_runs.specs.Text.{DiscardLine, Perform, Lines, last, before, Groups, no_group}
+use Rattle.shader_runs.specs.Text.{IfElse, SwitchOn, LoopOf}
+use Rattle.shader_runs.specs.Text.{Perform, Lines, last, before, Groups, no_group}
 use Rattle.shader_runs.specs.Text.{group, Variable, ModuleVariable, TextFunction, TextModule}
-use Rattle.shader_runs.specs.Text.{TextConstant}
+use Rattle.shader_runs.specs.Text.{TextConstant, JumpLine}
 use Rattle.shader_runs.specs.Scope.{Availability, Bound, Handles, ModuleNames, Names, Naming}
 use Rattle.shader_runs.specs.Scope.{bound_name, after_one, named_after, named_by, named_by_all}
 use Rattle.shader_runs.specs.Scope.{after, after_all, at_start}
@@ -50,7 +50,7 @@ abbrev pub value_forms : (ℕ → Plain) → List ℕ → Trees
 value_forms operand [] = no_more
 value_forms operand (x ∷ xs) = more (value_form (operand x)) (value_forms operand xs)
 
--- operands in their value forms, and what stands behind them
+-- operands in their value forms, and what stands after them
 abbrev pub value_forms_then : (ℕ → Plain) → List ℕ → Trees → Trees
 value_forms_then operand [] tail = tail
 value_forms_then operand (x ∷ xs) tail =
@@ -176,10 +176,7 @@ abbrev mutual
       let k1 = named_by_all f.function b k in
       before
       (LoopOf (form_all f k b s) (form_all f k1 d s1) (value_if f (after_all f k1 d s1) e)) tail
-  form f k Break s tail = before BreakLine tail
-  form f k Continue s tail = before ContinueLine tail
-  form f k (Return v) s tail = before (ReturnLine (value_if f s v)) tail
-  form f k Kill s tail = before DiscardLine tail
+  form f k (Jumps j) s tail = before (JumpLine (jump_told (value_if f s) j)) tail
   form f k (Barrier bits) s tail = perform_each (barrier_words bits) tail
   form f k (Act a xs r) s tail =
       before (act_line f.names r (word_of f.names a) (value_forms (written_form f s) xs)) tail

@@ -3,9 +3,11 @@
 -- Throughout, s is the state of a run and t the events so far (s1 and t1
 -- are later ones), v a value, x why a run stops, o an outcome, q what is
 -- reached, b a truth value, z an integer and n a bound on turns.
-use Rattle.std.specs.Prelude.{ℕ, zero, suc, ℤ, Bool, true, false, List, Option, None, cond, Some}
+use Rattle.std.specs.Prelude.{ℕ, zero, suc, ℤ, Bool, true, false, List, ◌∷◌, Option, None, cond}
+use Rattle.std.specs.Prelude.{Some}
 use Rattle.shader_runs.specs.Value.{Value, truth_in, integer_in}
-use Rattle.shader_runs.specs.World.{Event}
+use Rattle.shader_runs.specs.World.{Event, Discard}
+use Rattle.shader_runs.specs.Program.{Jump, Break, Continue, Return, Kill}
 
 -- why a run ends before its end: a wanted value is missing, a callee ended without the result that
 -- its caller wants, a loop had its turns, a discard, or an answer of a wrong type
@@ -27,6 +29,13 @@ pub data Outcome (S : Type 0) : Type 0 where
 -- what goes on from a state and the events so far
 abbrev pub Next : Type 0 → Type 0
 Next S = S → List Event → Outcome S
+
+-- how a jump ends a stretch; what is returned is found out by returning
+abbrev pub jump_outcome : {A S : Type 0} → (returning : Option A → Next S) → Jump A → Next S
+jump_outcome returning Break s t = Broke s t
+jump_outcome returning Continue s t = Continued s t
+jump_outcome returning (Return v) s t = returning v s t
+jump_outcome returning Kill s t = Stopped Discarded (Discard ∷ t)
 
 -- the next statement
 abbrev pub and_then : {S : Type 0} → Outcome S → Next S → Outcome S

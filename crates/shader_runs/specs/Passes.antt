@@ -32,8 +32,8 @@ pub data Region : Type 0 where
   Continuing : (number : ℕ) → Region
   BreakIf : (number : ℕ) → Region
 
--- the way to a point from the beginning of a list of statements or lines: it is there; behind the
--- first one, in the rest; in a region of the first one; or inside an Emit, behind so many handles
+-- the way to a point from the beginning of a list of statements or lines: it is there; after the
+-- first one, in the rest; in a region of the first one; or inside an Emit, after so many handles
 pub data Point : Type 0 where
   here : Point
   behind : Point → Point
@@ -48,16 +48,16 @@ after_turns once (suc j) s t = and_then (once s t) (after_turns once j)
 -- a loop of at most n turns, begun with this state and these events, comes to a region with those
 pub data InTurn {S : Type 0} (n : ℕ) (body continuing once : Next S) :
     Region → S → List Event → S → List Event → Type 0 where
-  -- behind the turns before this one
+  -- after the turns before this one
   to_body : {j : ℕ} {s s1 : S} {t t1 : List Event} →
       j < n → after_turns once j s t ≡ Done s1 t1 →
       InTurn n body continuing once (LoopBody j) s t s1 t1
-  -- behind the end of the body, or a `continue` in it
+  -- after the end of the body, or a `continue` in it
   to_continuing : {j : ℕ} {s s1 s2 : S} {t t1 t2 : List Event} →
       InTurn n body continuing once (LoopBody j) s t s1 t1 →
       and_continue (body s1 t1) Done ≡ Done s2 t2 →
       InTurn n body continuing once (Continuing j) s t s2 t2
-  -- behind the end of `continuing`
+  -- after the end of `continuing`
   to_break_if : {j : ℕ} {s s1 s2 : S} {t t1 t2 : List Event} →
       InTurn n body continuing once (Continuing j) s t s1 t1 →
       continuing s1 t1 ≡ Done s2 t2 →
@@ -79,7 +79,7 @@ statements_in (Loop b d e) (LoopBody j) = b
 statements_in (Loop b d e) (Continuing j) = d
 statements_in _ _ = end
 
--- the statements behind a point of a list
+-- the statements after a point of a list
 abbrev pub statements_at : Statements → Point → Statements
 statements_at ss here = ss
 statements_at end q = end
@@ -174,7 +174,7 @@ lines_in (LoopOf b d e) (LoopBody j) = b
 lines_in (LoopOf b d e) (Continuing j) = d
 lines_in _ _ = last
 
--- the lines behind a point of a list
+-- the lines after a point of a list
 abbrev pub lines_behind : Lines → Point → Lines
 lines_behind ls here = ls
 lines_behind last q = last
@@ -246,7 +246,7 @@ line_count f (Emit first count) = let_count f (from first count)
 line_count f (Barrier bits) = length (barrier_words bits)
 line_count f _ = 1
 
--- behind so many lines
+-- after so many lines
 abbrev pub behind_lines : ℕ → Point → Point
 behind_lines zero q = q
 behind_lines (suc m) q = behind (behind_lines m q)

@@ -11,7 +11,7 @@ use Rattle.shader_runs.specs.World.{Read, Write, Settings}
 use Rattle.shader_runs.specs.Outcome.{ReachedOrHalted, Gives}
 use Rattle.shader_runs.specs.Program.{Fixed, NamedConstant, AtPlace, Module, Constant, Argument}
 use Rattle.shader_runs.specs.Program.{Global, Load, Access, AccessIndex, Emit, Store, Return}
-use Rattle.shader_runs.specs.Program.{Function}
+use Rattle.shader_runs.specs.Program.{Function, Jumps}
 use Rattle.shader_runs.specs.ProgramRun.{combined_value}
 use Rattle.shader_runs.specs.Text.{Tree, Name, Index, PartOf, Assign, TextFunction, TextModule}
 use Rattle.shader_runs.specs.Constants.{run_module}
@@ -190,7 +190,7 @@ places_function =
     Emit 3 1
     ∷ Store 3 2
     ∷ Emit 4 2
-    ∷ Return (Some 5) ∷ [])
+    ∷ Jumps (Return (Some 5)) ∷ [])
 
 -- its names
 abbrev pub places_naming : Naming

@@ -37,7 +37,7 @@ pub record FactsHold (c : Call) (l : Words) (f : Naming) (s : Handles) (kept : K
       × (used_value c kept h ≡ Some v)
       × ((t : List Event) → value_of l (value_at f s h) names t ≡ Gives v t)
 
--- a call of f, which stands behind these functions
+-- a call of f, which stands after these functions
 abbrev pub call_of :
     Environment → World → Meaning → ℕ → Naming → List Naming → List Value → List Event → Call
 call_of env w m turns f fs vs t =
@@ -113,8 +113,8 @@ named_at f k (then st ss) (inside g q) = named_at f (named_in f st g k) (stateme
 named_at f k (then (Emit first count) ss) (emitting i) = named_after_all f (from first i) k
 named_at f k (then _ ss) (emitting i) = k
 
--- the lines behind the point of the text are those that are written, with these handles in scope,
--- for the statements behind the point of the list. A case that falls through is empty, and has the
+-- the lines after the point of the text are those that are written, with these handles in scope,
+-- for the statements after the point of the list. A case that falls through is empty, and has the
 -- lines of the next one
 abbrev pub LinesAreTheForm : Naming → Statements → Point → Type 0
 LinesAreTheForm f body q =
@@ -125,7 +125,7 @@ LinesAreTheForm f body q =
 
 -- of a function of a module, after those before it, called with arguments of its types at any
 -- history: where the module's run of its body passes a point, the text's run of its lines passes
--- the point there, in the same turns and after the same events; what stands behind it is written as
+-- the point there, in the same turns and after the same events; what stands after it is written as
 -- the form says, and the two facts hold. The first point is the start. The points in a callee are
 -- those of the callee's own call
 abbrev pub PointsAgreeIn :

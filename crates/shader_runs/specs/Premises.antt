@@ -22,7 +22,7 @@ use Rattle.shader_runs.specs.Program.{case, Function, argument_count, local_coun
 use Rattle.shader_runs.specs.Program.{function_numbered, expression_of, handle_type, operands_of}
 use Rattle.shader_runs.specs.Program.{VariableShape, Held, AtPlace, is_held, variable_type}
 use Rattle.shader_runs.specs.Program.{variable_shape_at, Module, constant_count, override_types}
-use Rattle.shader_runs.specs.Program.{is_pure}
+use Rattle.shader_runs.specs.Program.{is_pure, Jumps}
 use Rattle.shader_runs.specs.ProgramRun.{combined_value, barrier_words, constant_index}
 use Rattle.shader_runs.specs.ProgramRun.{constant_part, constant_logic}
 use Rattle.shader_runs.specs.Scope.{ModuleNames, Names, Naming, named_by_all}
@@ -178,7 +178,7 @@ abbrev mutual
   IsRegular p callees f (If c a b) = AreRegular p callees f a × AreRegular p callees f b
   IsRegular p callees f (Switch h cases) = CasesAreRegular p callees f cases
   IsRegular p callees f (Loop b d e) = AreRegular p callees f b × AreRegular p callees f d
-  IsRegular p callees f (Return v) = ReturnFits f.function v
+  IsRegular p callees f (Jumps (Return v)) = ReturnFits f.function v
   IsRegular p callees f (Barrier bits) = EachAsks p f (barrier_words bits)
   IsRegular p callees f (Act a xs r) = ActionFits p callees f a xs r × ResultFits f.function r
   IsRegular p callees f _ = Unit {0}
@@ -345,7 +345,7 @@ AreDistinct p f =
     (a b : NameKey) → IsName p f.function a → IsName p f.function b →
     name_at f.names a ≡ name_at f.names b → a ≡ b
 
--- one function of a module, behind these
+-- one function of a module, after these
 pub record FunctionFits (p : Module) (n : ModuleNames) (callees : List Function)
     (f : Naming) : Type 0 where
   pub outer : f.names.outer ≡ n
@@ -359,7 +359,7 @@ pub record FunctionFits (p : Module) (n : ModuleNames) (callees : List Function)
   pub distinct : AreDistinct p f
   pub scope : IsTrue (fits_function f)
 
--- each function behind those before it
+-- each function after those before it
 abbrev pub AllFit : Module → ModuleNames → List Naming → Type 0
 AllFit p n [] = Unit {0}
 AllFit p n (f ∷ fs) = FunctionFits p n (functions_of fs) f × AllFit p n fs

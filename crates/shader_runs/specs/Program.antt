@@ -60,6 +60,26 @@ pub data Label : Type 0 where
   Numbered : ℤ → Label
   Default : Label
 
+-- what goes on elsewhere than after the statement: after the loop or the switch, with the next turn
+-- of the loop, in the caller, which may be given an A, or nowhere
+pub data Jump (A : Type 0) : Type 0 where
+  Break : Jump A
+  Continue : Jump A
+  Return : Option A → Jump A
+  Kill : Jump A
+
+-- it goes on with the next turn
+abbrev pub is_continue : {A : Type 0} → Jump A → Bool
+is_continue Continue = true
+is_continue _ = false
+
+-- the same jump, with what it returns told in another way
+abbrev pub jump_told : {A B : Type 0} → (Option A → Option B) → Jump A → Jump B
+jump_told tell Break = Break
+jump_told tell Continue = Continue
+jump_told tell (Return v) = Return (tell v)
+jump_told tell Kill = Kill
+
 mutual
   -- an Emit names count handles from the first on
   pub data Statement : Type 0 where
@@ -69,10 +89,7 @@ mutual
     If : (condition : ℕ) → (accept reject : Statements) → Statement
     Switch : (selector : ℕ) → Cases → Statement
     Loop : (body continuing : Statements) → (break_if : Option ℕ) → Statement
-    Break : Statement
-    Continue : Statement
-    Return : Option ℕ → Statement
-    Kill : Statement
+    Jumps : Jump ℕ → Statement
     Barrier : BarrierBits → Statement
     Act : Action → (operands : List ℕ) → (result : Option ℕ) → Statement
 
@@ -110,7 +127,7 @@ local_count f = length f.first_values
 abbrev pub local_pointer : Function → ℕ → Bytes
 local_pointer f i = get_or f.local_pointers i []
 
--- the function of this number, that of the functions behind it
+-- the function of this number, that of the functions after it
 abbrev pub function_numbered : List Function → ℕ → Option Function
 function_numbered [] g = None
 function_numbered (f ∷ fs) g = cond (nat_eq g (length fs)) (Some f) (function_numbered fs g)
@@ -179,10 +196,7 @@ abbrev mutual
   holds_continue (If c a b) = any_continue a || any_continue b
   holds_continue (Switch h cases) = some_case_continues cases
   holds_continue (Loop b d e) = false
-  holds_continue Break = false
-  holds_continue Continue = true
-  holds_continue (Return v) = false
-  holds_continue Kill = false
+  holds_continue (Jumps j) = is_continue j
   holds_continue (Barrier bits) = false
   holds_continue (Act a xs r) = false
 
@@ -220,7 +234,7 @@ variable_type (AtPlace pointer) = PointerType pointer
 abbrev pub variable_shape_at : List VariableShape → ℕ → VariableShape
 variable_shape_at vs i = get_or vs i (Held BooleanType)
 
--- a module: the types of its named constants and, behind them, of its
+-- a module: the types of its named constants and, after them, of its
 -- overrides; the initialisers of the named constants; its variables;
 -- what its types are made of; and its functions, then its entry
 -- points, in their order, the last one first

@@ -13,24 +13,24 @@ use Rattle.shader_runs.specs.Value.{truth_in, integer_in, place_in, place_at, pl
 use Rattle.shader_runs.specs.Value.{ValueType, has_type, Selector, MemberNamed, Value, Truth}
 use Rattle.shader_runs.specs.Value.{Pointer, Word, Spelled, PartWord, IndexWord, ShortCircuit}
 use Rattle.shader_runs.specs.Value.{short_circuit_word, is_decided}
-use Rattle.shader_runs.specs.World.{Event, Entry, Ask, Read, Write, Discard, entries, World}
+use Rattle.shader_runs.specs.World.{Event, Entry, Ask, Read, Write, entries, World}
 use Rattle.shader_runs.specs.World.{Meaning, GlobalValue, Stored, InHandleSpace, Environment}
 use Rattle.shader_runs.specs.World.{update}
-use Rattle.shader_runs.specs.Outcome.{Stuck, Discarded, Mistyped, Outcome, Done, Continued, Broke}
+use Rattle.shader_runs.specs.Outcome.{Stuck, Mistyped, Outcome, Done, Broke}
 use Rattle.shader_runs.specs.Outcome.{or_stuck, Returned, Stopped, ReachedOrHalted, Gives, Halts}
 use Rattle.shader_runs.specs.Outcome.{answer}
 use Rattle.shader_runs.specs.Outcome.{Next, and_then, turn, turns, after_switch, branch_by}
-use Rattle.shader_runs.specs.Outcome.{with_integer, Unreturned}
+use Rattle.shader_runs.specs.Outcome.{with_integer, Unreturned, jump_outcome}
 use Rattle.shader_runs.specs.Program.{ConstantTree, Fixed, NamedConstant, Constructed, Indexing}
 use Rattle.shader_runs.specs.Program.{Picking, Joining}
 use Rattle.shader_runs.specs.Program.{ConstantTrees, no_constant, constant, Expression, Constant}
 use Rattle.shader_runs.specs.Program.{Argument, Local, Global, Load, Operator, Access, AccessIndex}
 use Rattle.shader_runs.specs.Program.{Logical, Swizzle, Request, Action, Asked, Called, BarrierBits}
 use Rattle.shader_runs.specs.Program.{Label, Numbered, Default, Statement, Emit, Store, Block, If}
-use Rattle.shader_runs.specs.Program.{Switch, Loop, Break, Continue, Return, Kill, Barrier, Act}
+use Rattle.shader_runs.specs.Program.{Switch, Loop, Barrier, Act}
 use Rattle.shader_runs.specs.Program.{Statements, end, then, Cases, no_case, case, Function}
 use Rattle.shader_runs.specs.Program.{argument_count, local_pointer, expression_of, handle_type}
-use Rattle.shader_runs.specs.Program.{operands_of, is_counted, from}
+use Rattle.shader_runs.specs.Program.{operands_of, is_counted, from, Jumps}
 use Rattle.std.specs.Option.{option_map_or}
 
 -- one call of a function: callees are the functions before it and calls what they do, frame is the
@@ -211,7 +211,7 @@ after_load parts k w h None kept t = Done (update kept h None) t
 after_load parts k w h (Some v) kept t =
     or_stuck (place_in v) t (λ p. keep_typed parts k h (w t (Read p)) kept (Read p ∷ t))
 
--- the operands' values, and those of the constants behind them
+-- the operands' values, and those of the constants after them
 abbrev pub joined_values : Option (List Value) → Option (List Value) → Option (List Value)
 joined_values None us = None
 joined_values (Some vs) None = None
@@ -339,10 +339,7 @@ abbrev mutual
       or_stuck (used_value c kept h) t (λ v. with_integer v t (λ z.
       after_switch (run_cases c n cases (label_if (has_label (Numbered z) cases) z) kept t)))
   run c n (Loop b d e) kept t = turns n (turn (run_all c n b) (run_all c n d) (leave c e)) kept t
-  run c n Break kept t = Broke kept t
-  run c n Continue kept t = Continued kept t
-  run c n (Return v) kept t = return_outcome c v kept t
-  run c n Kill kept t = Stopped Discarded (Discard ∷ t)
+  run c n (Jumps j) kept t = jump_outcome (return_outcome c) j kept t
   run c n (Barrier bits) kept t = ask_each (barrier_words bits) kept t
   run c n (Act a xs r) kept t =
       or_stuck (used_values c kept xs) t
@@ -410,7 +407,7 @@ abbrev pub first_used_all : Call → KeptValues → List (Option ℕ) → Option
 first_used_all c kept [] = Some []
 first_used_all c kept (o ∷ os) = with_first (first_used c kept o) (first_used_all c kept os)
 
--- a body's run behind the entry, with the first values of the locals
+-- a body's run after the entry, with the first values of the locals
 abbrev pub run_from_entry : ℕ → List Value → Option (List (Option Value)) → List Event →
     (List Event → ReachedOrHalted (Option Value)) → ReachedOrHalted (Option Value)
 run_from_entry g vs None t body = Halts Stuck t
@@ -430,7 +427,7 @@ run_if_arguments_fit true a t = a
 run_if_arguments_fit false a t = Halts Stuck t
 
 -- a call of one of these functions, the last one
--- first: its number is that of the functions behind it
+-- first: its number is that of the functions after it
 abbrev pub run_call : Environment → World → Meaning → ℕ → List Function → ℕ → List Value →
     List Event → ReachedOrHalted (Option Value)
 run_call env w m n [] g vs t = Halts Stuck t

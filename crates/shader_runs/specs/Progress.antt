@@ -11,7 +11,7 @@ use Rattle.shader_runs.specs.Outcome.{Stop, Stuck, ReachedOrHalted, Gives, Halts
 use Rattle.shader_runs.specs.Program.{Expression, Load, Statement, Store, Block, If, Switch, Loop}
 use Rattle.shader_runs.specs.Program.{Break, Continue, Statements, end, then, Cases, no_case, case}
 use Rattle.shader_runs.specs.Program.{Function, function_numbered, expression_of, handle_type}
-use Rattle.shader_runs.specs.Program.{Module}
+use Rattle.shader_runs.specs.Program.{Module, Jumps, Jump}
 use Rattle.shader_runs.specs.Constants.{run_module, follow_module}
 use Rattle.shader_runs.specs.Scope.{ModuleNames, Naming}
 use Rattle.shader_runs.specs.Form.{form_module}
@@ -43,6 +43,12 @@ abbrev pub BreakIfFits : Function → Option ℕ → Type 0
 BreakIfFits f None = Unit {0}
 BreakIfFits f (Some h) = IsBoolean (handle_type f h)
 
+-- a `break` stands where it may, and so does a `continue`
+abbrev pub JumpStands : (breaks continues : Bool) → Jump ℕ → Type 0
+JumpStands breaks continues Break = IsTrue breaks
+JumpStands breaks continues Continue = IsTrue continues
+JumpStands breaks continues _ = Unit {0}
+
 abbrev mutual
   -- a condition is a truth value, a selector is an integer, and a store goes to a pointer. `break`
   -- stands in a loop's body or in a case, `continue` in a loop's body, and neither leaves a
@@ -57,8 +63,7 @@ abbrev mutual
       IsInteger (handle_type f h) × CasesAreWellFormed f continues cases
   IsWellFormed f breaks continues (Loop b d e) =
       AreWellFormed f true true b × AreWellFormed f false false d × BreakIfFits f e
-  IsWellFormed f breaks continues Break = IsTrue breaks
-  IsWellFormed f breaks continues Continue = IsTrue continues
+  IsWellFormed f breaks continues (Jumps j) = JumpStands breaks continues j
   IsWellFormed f breaks continues _ = Unit {0}
 
   pub AreWellFormed : Function → (breaks continues : Bool) → Statements → Type 0

@@ -8,7 +8,7 @@ use Rattle.shader_runs.specs.Outcome.{Gives}
 use Rattle.shader_runs.specs.Program.{Fixed, NamedConstant, no_constant, constant}
 use Rattle.shader_runs.specs.Program.{Argument, Global, Operator, Access, Request, Result}
 use Rattle.shader_runs.specs.Program.{Asked, Emit, Store, Return, Barrier, BarrierBits, Act}
-use Rattle.shader_runs.specs.Program.{Function}
+use Rattle.shader_runs.specs.Program.{Function, Jumps}
 use Rattle.shader_runs.specs.Text.{Tree, Name, LiteralOf, Index, Assign, TextFunction}
 use Rattle.shader_runs.specs.WorkedModules.{texel, ballot, pair_type, pair, in_memory, resource}
 use Rattle.shader_runs.specs.WorkedModules.{named_function, Example, IsWorked, start_events}
@@ -39,7 +39,7 @@ count_function =
     Act (Asked (codes "atomicStore")) (0 ∷ 1 ∷ []) None
     ∷ Act (Asked (codes "atomicAdd")) (0 ∷ 1 ∷ []) (Some 2)
     ∷ Emit 3 2
-    ∷ Return (Some 4) ∷ [])
+    ∷ Jumps (Return (Some 4)) ∷ [])
 
 -- its module
 abbrev pub atomic_example : Example
@@ -109,7 +109,7 @@ sample_function =
     ∷ row (Argument 1) i32
     ∷ bound_row sample texel_type ∷ []) (
     Emit 4 1
-    ∷ Return (Some 4) ∷ [])
+    ∷ Jumps (Return (Some 4)) ∷ [])
 
 -- its arguments' names
 abbrev pub sample_arguments : List Bytes
@@ -126,7 +126,7 @@ sample_example =
       functions = named_function (codes "shade") sample_arguments [] sample_function ∷ [];
     }
 
--- its text, with these operands behind the layer
+-- its text, with these operands after the layer
 abbrev pub sample_text : List Tree → List TextFunction
 sample_text behind =
     let image = Name (codes "image") in
@@ -140,7 +140,7 @@ sample_text behind =
 abbrev pub sample_values : List Value
 sample_values = coordinate ∷ number 1 ∷ []
 
--- its events, with these operands behind the layer
+-- its events, with these operands after the layer
 abbrev pub sampling_events : List Value → List Event
 sampling_events behind =
     let image = Opaque layers_type 400 in
@@ -175,7 +175,7 @@ texel_function =
     ∷ row (Access 0 5) (OtherType image_type)
     ∷ bound_row load texel_type ∷ []) (
     Emit 5 3
-    ∷ Return (Some 7) ∷ [])
+    ∷ Jumps (Return (Some 7)) ∷ [])
 
 -- its arguments' names
 abbrev pub texel_arguments : List Bytes
@@ -311,7 +311,7 @@ ray_type = codes "RayDesc"
 abbrev pub ballot_type : ValueType
 ballot_type = OtherType (codes "vec4<u32>")
 
--- an argument is stored for the work group, read by all behind all barriers, and is the payload of
+-- an argument is stored for the work group, read by all after all barriers, and is the payload of
 -- a ray; then the subgroup votes
 abbrev pub together_function : Function
 together_function =
@@ -331,7 +331,7 @@ together_function =
     ∷ Store 2 5
     ∷ Act (Asked (codes "traceRay")) (1 ∷ 4 ∷ 2 ∷ []) None
     ∷ Act (Asked (codes "subgroupBallot")) [] (Some 6)
-    ∷ Return (Some 6) ∷ [])
+    ∷ Jumps (Return (Some 6)) ∷ [])
 
 -- its arguments' names
 abbrev pub together_arguments : List Bytes
@@ -365,7 +365,7 @@ together_text =
     ∷ let_own 6 (call_of (codes "subgroupBallot") [])
     ∷ return_of (named_by 6) ∷ [])) ∷ []
 
--- each barrier is an event, and what is read behind them is what was stored
+-- each barrier is an event, and what is read after them is what was stored
 abbrev pub TogetherRow : Type 0
 TogetherRow =
     let cell = Rooted (GlobalRoot cell_type 0) in

@@ -18,15 +18,15 @@ use Rattle.shader_runs.specs.Program.{Argument, Local, Global, Load, Operator, A
 use Rattle.shader_runs.specs.Program.{Logical, Swizzle, Request, Action, Asked, Called, Statement}
 use Rattle.shader_runs.specs.Program.{Emit, Store, Block, If, Switch, Loop, Return, Barrier, Act}
 use Rattle.shader_runs.specs.Program.{Statements, end, then, Cases, no_case, case, Function}
-use Rattle.shader_runs.specs.Program.{expression_of, binds, from, holds_continue, Module}
+use Rattle.shader_runs.specs.Program.{expression_of, binds, from, holds_continue, Module, Jumps}
 use Rattle.shader_runs.specs.ProgramRun.{barrier_words}
 use Rattle.shader_runs.specs.Scope.{Availability, Bound, Handles, Naming, at_start, named_after}
 use Rattle.shader_runs.specs.Scope.{named_by, named_by_all, after_one, after, after_all}
 use Rattle.shader_runs.specs.Text.{Tree, Name, LiteralOf, Apply, Deref, AddressOf, Index, PartOf}
 use Rattle.shader_runs.specs.Text.{LogicalOf, Trees, no_more, more, Line, Let, Assign, Braces}
-use Rattle.shader_runs.specs.Text.{IfElse, SwitchOn, LoopOf, ReturnLine, Perform, Lines, last}
+use Rattle.shader_runs.specs.Text.{IfElse, SwitchOn, LoopOf, Perform, Lines, last}
 use Rattle.shader_runs.specs.Text.{before, Groups, no_group, group, Variable, TextFunction}
-use Rattle.shader_runs.specs.Text.{TextModule}
+use Rattle.shader_runs.specs.Text.{TextModule, JumpLine}
 use Rattle.shader_runs.specs.TextRun.{has_continue}
 
 -- what a name or a word stands for: an item of the module, or an argument, a variable or a `let` of
@@ -111,7 +111,7 @@ abbrev mutual
   lets_behind_groups l no_group = l
   lets_behind_groups l (group labels b gs) = lets_behind_groups (lets_behind_all l b) gs
 
--- what is in scope behind a line: the name of a `let`, from there on
+-- what is in scope after a line: the name of a `let`, from there on
 abbrev pub names_behind : ℕ → Line → Lookup → Lookup
 names_behind l (Let x e) names = bind names x (Some (LetTarget l))
 names_behind l _ names = names
@@ -137,7 +137,7 @@ abbrev mutual
       let inside = names_left l b names in
       lines_targets l names b
       ++ (lines_targets l1 inside d ++ tree_targets_if (names_left l1 d inside) e)
-  line_targets l names (ReturnLine e) = tree_targets_if names e
+  line_targets l names (JumpLine (Return e)) = tree_targets_if names e
   line_targets l names (Perform word es) =
       Some (word_target word (names word)) ∷ trees_targets names es
   line_targets l names _ = []
@@ -168,8 +168,8 @@ text_names t =
     with_items ConstantTarget 0 (map (λ c. c.name) t.constants ++ t.overrides)
     (with_items GlobalTarget 0 (map (λ g. g.name) t.globals) (with_functions t.functions))
 
--- those of variables from the number i on, each of which is in scope behind its first value, and of
--- the lines behind them
+-- those of variables from the number i on, each of which is in scope after its first value, and of
+-- the lines after them
 abbrev pub variables_targets : ℕ → Lookup → List Variable → Lines → List (Option Target)
 variables_targets i names [] ls = lines_targets 0 names ls
 variables_targets i names (v ∷ vs) ls =
@@ -262,14 +262,14 @@ abbrev pub value_targets_if : Function → Handles → LetNumbers → Option ℕ
 value_targets_if f s numbers None = []
 value_targets_if f s numbers (Some h) = value_targets f s numbers h
 
--- behind an emitted handle: how many `let`s there are, and their numbers
+-- after an emitted handle: how many `let`s there are, and their numbers
 abbrev pub lets_after : Function → ℕ → ℕ → ℕ
 lets_after f h l = cond (binds f h) (suc l) l
 
 abbrev pub numbers_after : Function → ℕ → ℕ → LetNumbers → LetNumbers
 numbers_after f l h numbers = cond (binds f h) (update numbers h l) numbers
 
--- behind several
+-- after several
 abbrev pub lets_after_all : Function → List ℕ → ℕ → ℕ
 lets_after_all f [] l = l
 lets_after_all f (h ∷ hs) l = lets_after_all f hs (lets_after f h l)
@@ -279,7 +279,7 @@ numbers_after_all f l [] numbers = numbers
 numbers_after_all f l (h ∷ hs) numbers =
     numbers_after_all f (lets_after f h l) hs (numbers_after f l h numbers)
 
--- behind a result
+-- after a result
 abbrev pub lets_after_result : Option ℕ → ℕ → ℕ
 lets_after_result None l = l
 lets_after_result (Some h) l = suc l
@@ -309,7 +309,7 @@ abbrev mutual
   lets_by_cases f (case label b true cs) l = lets_by_cases f cs l
   lets_by_cases f (case label b false cs) l = lets_by_cases f cs (lets_by_all f b l)
 
--- the numbers of the names in scope behind a statement
+-- the numbers of the names in scope after a statement
 abbrev pub numbers_by : Function → ℕ → Statement → LetNumbers → LetNumbers
 numbers_by f l (Emit first count) numbers = numbers_after_all f l (from first count) numbers
 numbers_by f l (Act a xs r) numbers = numbers_after_result l r numbers
@@ -366,7 +366,7 @@ abbrev mutual
       statements_targets f k l b s numbers
       ++ (statements_targets f k1 l1 d s1 numbers1
       ++ value_targets_if f.function (after_all f k1 d s1) numbers2 e)
-  statement_targets f k l (Return v) s numbers = value_targets_if f.function s numbers v
+  statement_targets f k l (Jumps (Return v)) s numbers = value_targets_if f.function s numbers v
   statement_targets f k l (Barrier bits) s numbers = words_targets (barrier_words bits)
   statement_targets f k l (Act a xs r) s numbers =
       result_targets l r

@@ -8,9 +8,9 @@ use Rattle.std.specs.Prelude.{None, ◌&&◌, ◌||◌, IsTrue}
 use Rattle.shader_runs.specs.Value.{ValueType, Value}
 use Rattle.shader_runs.specs.World.{World, Meaning, Event, Settings}
 use Rattle.shader_runs.specs.Outcome.{Stop, Unreturned, ReachedOrHalted, Gives, Halts}
-use Rattle.shader_runs.specs.Program.{Default, Statement, Block, If, Switch, Loop, Break, Continue}
-use Rattle.shader_runs.specs.Program.{Return, Kill, Statements, end, then, Cases, no_case, case}
-use Rattle.shader_runs.specs.Program.{Function, function_numbered, Module}
+use Rattle.shader_runs.specs.Program.{Default, Statement, Block, If, Switch, Loop, Break}
+use Rattle.shader_runs.specs.Program.{Return, Statements, end, then, Cases, no_case, case}
+use Rattle.shader_runs.specs.Program.{Function, function_numbered, Module, Jumps}
 use Rattle.shader_runs.specs.ProgramRun.{has_label}
 use Rattle.shader_runs.specs.Constants.{run_module}
 use Rattle.shader_runs.specs.Scope.{Naming}
@@ -22,7 +22,7 @@ abbrev mutual
   pub holds_break : Statement → Bool
   holds_break (Block b) = any_break b
   holds_break (If c a b) = any_break a || any_break b
-  holds_break Break = true
+  holds_break (Jumps Break) = true
   holds_break _ = false
 
   pub any_break : Statements → Bool
@@ -30,16 +30,13 @@ abbrev mutual
   any_break (then s ss) = holds_break s || any_break ss
 
 abbrev mutual
-  -- a run may come to what stands behind the statement
+  -- a run may come to what stands after the statement
   pub may_end : Statement → Bool
   may_end (Block b) = may_end_all b
   may_end (If c a b) = may_end_all a || may_end_all b
   may_end (Switch h cases) = not (has_label Default cases) || some_case_ends cases
   may_end (Loop b d e) = any_break b || is_some e
-  may_end Break = false
-  may_end Continue = false
-  may_end (Return v) = false
-  may_end Kill = false
+  may_end (Jumps j) = false
   may_end _ = true
 
   pub may_end_all : Statements → Bool
@@ -59,7 +56,7 @@ abbrev mutual
   has_values (If c a b) = all_have_values a && all_have_values b
   has_values (Switch h cases) = cases_have_values cases
   has_values (Loop b d e) = all_have_values b && all_have_values d
-  has_values (Return None) = false
+  has_values (Jumps (Return None)) = false
   has_values _ = true
 
   pub all_have_values : Statements → Bool

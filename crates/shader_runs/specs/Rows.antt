@@ -12,10 +12,10 @@ use Rattle.shader_runs.specs.Program.{BarrierBits, Fixed, Module, Expression, Co
 use Rattle.shader_runs.specs.Program.{Local, Load, Operator, Result, Called, Numbered, Default}
 use Rattle.shader_runs.specs.Program.{Statements, Emit, Store, If, Switch, Loop, Break, Continue}
 use Rattle.shader_runs.specs.Program.{Return, Act, Barrier, end, then, no_case, case, Function}
-use Rattle.shader_runs.specs.Program.{Statement}
+use Rattle.shader_runs.specs.Program.{Statement, Jumps}
 use Rattle.shader_runs.specs.Text.{Tree, Name, LiteralOf, Deref, Index, Let, Assign, IfElse}
-use Rattle.shader_runs.specs.Text.{Braces, SwitchOn, LoopOf, ContinueLine, Lines, last, before}
-use Rattle.shader_runs.specs.Text.{no_group, group, Variable, TextFunction, Line}
+use Rattle.shader_runs.specs.Text.{Braces, SwitchOn, LoopOf, Lines, last, before}
+use Rattle.shader_runs.specs.Text.{no_group, group, Variable, TextFunction, Line, JumpLine}
 use Rattle.shader_runs.specs.Constants.{run_module}
 use Rattle.shader_runs.specs.Scope.{Naming, fits_function}
 use Rattle.shader_runs.specs.Premises.{SettingsFit}
@@ -66,7 +66,7 @@ store_function =
     ∷ row (literal 2) i32 ∷ []) (
     Emit 2 1
     ∷ Store 1 3
-    ∷ Return (Some 2) ∷ [])
+    ∷ Jumps (Return (Some 2)) ∷ [])
 
 abbrev pub store_text : TextFunction
 store_text =
@@ -95,7 +95,7 @@ unused_function =
     ∷ row (literal 2) i32 ∷ []) (
     Emit 2 1
     ∷ Store 1 3
-    ∷ Return (Some 3) ∷ [])
+    ∷ Jumps (Return (Some 3)) ∷ [])
 
 abbrev pub unused_text : TextFunction
 unused_text =
@@ -121,7 +121,7 @@ late_function =
     ∷ row (literal 2) i32 ∷ []) (
     Emit 2 2
     ∷ Store 1 4
-    ∷ Return (Some 3) ∷ [])
+    ∷ Jumps (Return (Some 3)) ∷ [])
 
 abbrev pub late_text : TextFunction
 late_text =
@@ -130,7 +130,7 @@ late_text =
     ∷ Assign (Name a_name) (digits 2)
     ∷ return_of (sum_of (named_by 2) (digits 1)) ∷ []))
 
--- [late]: the sum is written behind the store
+-- [late]: the sum is written after the store
 abbrev pub LateRow : Type 0
 LateRow =
     let events = Write a_place (number 2) ∷ Read a_place ∷ entered_with_one in
@@ -159,7 +159,7 @@ inline_function =
     Emit 2 1
     ∷ Store 1 2
     ∷ Emit 3 1
-    ∷ Return (Some 3) ∷ [])
+    ∷ Jumps (Return (Some 3)) ∷ [])
 
 abbrev pub inline_text : TextFunction
 inline_text =
@@ -168,7 +168,7 @@ inline_text =
     ∷ let_own 3 (Name a_name)
     ∷ return_of (named_by 3) ∷ []))
 
--- what the sum's store and the read are behind the entry
+-- what the sum's store and the read are after the entry
 abbrev pub sum_events : List Event
 sum_events = Read a_place ∷ Write a_place (number 8) ∷ entered_with (number 4 ∷ []) (None ∷ [])
 
@@ -190,7 +190,7 @@ twofold_function =
     Emit 2 1
     ∷ Store 1 2
     ∷ Emit 3 2
-    ∷ Return (Some 4) ∷ [])
+    ∷ Jumps (Return (Some 4)) ∷ [])
 
 abbrev pub twofold_text : TextFunction
 twofold_text =
@@ -211,7 +211,7 @@ TwofoldRow =
 -- the same sum in both branches
 abbrev pub sibling_function : Function
 sibling_function =
-    let branch = statements (Emit 2 1 ∷ Return (Some 2) ∷ []) in
+    let branch = statements (Emit 2 1 ∷ Jumps (Return (Some 2)) ∷ []) in
     function_with (BooleanType ∷ i32 ∷ []) (Some i32) [] (
     row (Argument 0) BooleanType
     ∷ row (Argument 1) i32
@@ -282,7 +282,7 @@ TailRow =
 -- a sum of constants in a loop
 abbrev pub folded_function : Function
 folded_function =
-    let body = statements (If 0 (then Continue end) end ∷ Emit 3 1 ∷ Store 1 3 ∷ []) in
+    let body = statements (If 0 (then (Jumps Continue) end) end ∷ Emit 3 1 ∷ Store 1 3 ∷ []) in
     let continuing = statements (Store 1 3 ∷ []) in
     function_with (BooleanType ∷ []) None ((local_i32, None) ∷ []) (
     row (Argument 0) BooleanType
@@ -298,7 +298,7 @@ one_plus_one = sum_of (digits 1) (digits 1)
 -- its text, with this in `continuing`
 abbrev pub folded_text : Tree → TextFunction
 folded_text e =
-    let leaving = IfElse (Name c_name) (before ContinueLine last) last in
+    let leaving = IfElse (Name c_name) (before (JumpLine Continue) last) last in
     let body =
     lines (leaving ∷ let_own 3 one_plus_one ∷ Assign (Name a_name) (named_by 3) ∷ []) in
     let continuing = lines (Assign (Name a_name) e ∷ []) in
@@ -334,7 +334,7 @@ run_function =
     ∷ bound_row (Load 0) i32 ∷ []) (
     Act (Called 0) (0 ∷ []) None
     ∷ Emit 1 1
-    ∷ Return (Some 1) ∷ [])
+    ∷ Jumps (Return (Some 1)) ∷ [])
 
 -- their texts, with this for the argument
 abbrev pub call_texts : Tree → List TextFunction
@@ -372,7 +372,7 @@ abbrev pub UnreturnedRow : Type 0
 UnreturnedRow =
     let functions = codes "idle" ∷ codes "run" ∷ [] in
     let idle = body_of (literal 1) (Some i32) end in
-    let calls = statements (Act (Called 0) [] (Some 0) ∷ Return (Some 0) ∷ []) in
+    let calls = statements (Act (Called 0) [] (Some 0) ∷ Jumps (Return (Some 0)) ∷ []) in
     let caller = body_of Result (Some i32) calls in
     let called = lines (let_own 0 (call_of (codes "idle") []) ∷ return_of (named_by 0) ∷ []) in
     let texts = text_of (codes "run") [] [] called ∷ text_of (codes "idle") [] [] last ∷ [] in
@@ -390,20 +390,20 @@ IsStuck body =
 
 -- bodies that aren't well-formed
 pub record AreStuck : Type 0 where
-  pub break_outside : IsStuck (then Break end)
-  pub continue_outside : IsStuck (then Continue end)
-  pub break_in_continuing : IsStuck (then (Loop end (then Break end) None) end)
-  pub continue_in_continuing : IsStuck (then (Loop end (then Continue end) None) end)
+  pub break_outside : IsStuck (then (Jumps Break) end)
+  pub continue_outside : IsStuck (then (Jumps Continue) end)
+  pub break_in_continuing : IsStuck (then (Loop end (then (Jumps Break) end) None) end)
+  pub continue_in_continuing : IsStuck (then (Loop end (then (Jumps Continue) end) None) end)
   pub number_as_condition : IsStuck (then (If 0 end end) end)
   pub number_as_break_if : IsStuck (then (Loop end end (Some 0)) end)
   pub number_as_pointer : IsStuck (then (Store 0 0) end)
 
 -- a body that returns, and one that breaks
 abbrev pub returning_body : Statements
-returning_body = then (Return (Some 0)) end
+returning_body = then (Jumps (Return (Some 0))) end
 
 abbrev pub breaking_body : Statements
-breaking_body = then (If 0 (then Break end) end) end
+breaking_body = then (If 0 (then (Jumps Break) end) end) end
 
 -- whether a run may come to the end of a body of one statement
 abbrev pub ends_behind : Statement → Bool
@@ -453,7 +453,7 @@ SwitchRow =
 -- the joined case runs for each of its labels
 abbrev pub JoinedRow : Type 0
 JoinedRow =
-    let function = switch_function (Some i32) (Return (Some 0) ∷ []) in
+    let function = switch_function (Some i32) (Jumps (Return (Some 0)) ∷ []) in
     let text = switch_text (return_of (Name x_name) ∷ []) in
     IsShownAlone (only (codes "s") (x_name ∷ []) [] function) text (number 1 ∷ []) (
     Gives (Some (number 1)) (entered_with (number 1 ∷ []) []))
@@ -551,7 +551,7 @@ select_function =
     ∷ row (Argument 2) i32
     ∷ row (Operator (codes "select") (2 ∷ 1 ∷ 0 ∷ [])) i32 ∷ []) (
     Emit 3 1
-    ∷ Return (Some 3) ∷ [])
+    ∷ Jumps (Return (Some 3)) ∷ [])
 
 -- a call of `select` with these operands in front
 abbrev pub select_text : (reject accept : Bytes) → TextFunction
@@ -563,7 +563,7 @@ select_text reject accept =
 abbrev pub select_values : List Value
 select_values = Truth true ∷ number 1 ∷ number 2 ∷ []
 
--- [select]: the operand that is taken where the condition holds stands behind the other
+-- [select]: the operand that is taken where the condition holds stands after the other
 abbrev pub SelectRow : Type 0
 SelectRow =
     let naming = only (codes "sel") (c_name ∷ codes "a" ∷ codes "b" ∷ []) [] select_function in
@@ -575,7 +575,7 @@ SelectRow =
 -- [continue]: `continuing` uses a sum that a `continue` may skip
 abbrev pub continue_function : Function
 continue_function =
-    let body = statements (If 0 (then Continue end) end ∷ Emit 3 1 ∷ []) in
+    let body = statements (If 0 (then (Jumps Continue) end) end ∷ Emit 3 1 ∷ []) in
     let continuing = statements (Store 2 3 ∷ []) in
     function_with (BooleanType ∷ i32 ∷ []) None ((local_i32, None) ∷ []) (
     row (Argument 0) BooleanType
@@ -584,19 +584,19 @@ continue_function =
     ∷ row (Operator (codes "+") (1 ∷ 1 ∷ [])) i32 ∷ []) (
     Loop body continuing (Some 0) ∷ [])
 
--- a sum of a loop's body is used behind the loop
+-- a sum of a loop's body is used after the loop
 abbrev pub after_loop_function : Function
 after_loop_function =
     let body = statements (Emit 3 1 ∷ Store 2 3 ∷ []) in
     record continue_function {
       result = Some i32;
-      body = statements (Loop body end (Some 0) ∷ Return (Some 3) ∷ []);
+      body = statements (Loop body end (Some 0) ∷ Jumps (Return (Some 3)) ∷ []);
     }
 
 -- a sum of constants is emitted in a loop's body and again in its `continuing`
 abbrev pub again_function : Function
 again_function =
-    let body = statements (If 0 (then Continue end) end ∷ Emit 3 1 ∷ []) in
+    let body = statements (If 0 (then (Jumps Continue) end) end ∷ Emit 3 1 ∷ []) in
     let continuing = statements (Emit 3 1 ∷ []) in
     record folded_function { body = statements (Loop body continuing (Some 0) ∷ []) }
 
@@ -612,11 +612,11 @@ pub record AreRefused : Type 0 where
 
 -- ---- what other writers would give for these functions, and what it does
 
--- stuck behind the entry
+-- stuck after the entry
 abbrev pub stuck_behind_entry : List Value → ReachedOrHalted (Option Value)
 stuck_behind_entry vs = Halts Stuck (entered_with vs [])
 
--- what [store] reads is written out behind the store
+-- what [store] reads is written out after the store
 abbrev pub load_inlined_text : TextFunction
 load_inlined_text =
     text_of (codes "g") [] (a_first ∷ []) (lines (
@@ -643,7 +643,7 @@ copied_in_sibling_text =
     let_own 2 (named_by 2)
     ∷ return_of (named_by 2) ∷ []))
 
--- a name of a loop's body is used behind the loop
+-- a name of a loop's body is used after the loop
 abbrev pub after_loop_text : TextFunction
 after_loop_text =
     let body = lines (let_own 3 x_plus_x ∷ []) in
@@ -694,7 +694,7 @@ pub record AreDistinguished : Type 0 where
 
 -- returns 1
 abbrev pub one_function : Function
-one_function = function_with [] (Some i32) [] (row (literal 1) i32 ∷ []) (Return (Some 0) ∷ [])
+one_function = function_with [] (Some i32) [] (row (literal 1) i32 ∷ []) (Jumps (Return (Some 0)) ∷ [])
 
 -- a text of it, with these lines in front
 abbrev pub one_text : List Line → TextFunction
@@ -711,8 +711,8 @@ unknown_line = perform (codes "frobnicate") []
 abbrev pub operator_line : Line
 operator_line = perform (codes "select") (digits 1 ∷ digits 2 ∷ [])
 
--- the module and its own text return 1. Behind a line that calls an unknown word, or one that wants
--- a value of it, a text is stuck. So it is behind a line that performs an operator
+-- the module and its own text return 1. After a line that calls an unknown word, or one that wants
+-- a value of it, a text is stuck. So it is after a line that performs an operator
 pub record UnknownWordsAreStuck : Type 0 where
   pub written :
       IsShownAlone (only (codes "f") [] [] one_function) (one_text []) []

@@ -1,7 +1,7 @@
 -- What is bound and what is in scope at each point of a function, and the check of both.
 --
 -- Throughout, f is a function with its names, h a handle, s are the handles in scope (s1 those
--- behind a part), k is how many names have been given, e an expression, st a statement, b a body, i
+-- after a part), k is how many names have been given, e an expression, st a statement, b a body, i
 -- an index, x a name or a handle, u tells whether operands are usable.
 use Rattle.std.specs.Prelude.{ℕ, zero, suc, Bool, true, false, cond, not, nat_lt, List, [], ◌∷◌}
 use Rattle.std.specs.Prelude.{take, length, Option, Some, None, ◌&&◌, ◌||◌}
@@ -12,7 +12,7 @@ use Rattle.shader_runs.specs.Program.{is_emittable, Statement}
 use Rattle.shader_runs.specs.Program.{Emit, Store, Block, If, Switch, Loop, Return, Act, Statements}
 use Rattle.shader_runs.specs.Program.{end, then, Cases, no_case, case, Function, argument_count}
 use Rattle.shader_runs.specs.Program.{local_count, expression_of, operands_of, is_named, binds}
-use Rattle.shader_runs.specs.Program.{from, holds_continue}
+use Rattle.shader_runs.specs.Program.{from, holds_continue, Jumps}
 
 -- a handle at a point: not emitted here; emitted where an operand was out of scope; a constant tree
 -- that wasn't emitted here; written where it is used; or bound under a name
@@ -49,7 +49,7 @@ pub record Naming : Type 0 where
   pub function : Function
   pub names : Names
 
--- an emitted handle's name, behind k given ones
+-- an emitted handle's name, after k given ones
 abbrev pub bound_name : Naming → ℕ → ℕ → Bytes
 bound_name f k h = cond (is_named f.function h) (f.names.named k) (f.names.numbered h)
 
@@ -199,7 +199,7 @@ forgotten_one (Bound x) now = Bound x
 abbrev pub forgotten_handles : Handles → Handles → Handles
 forgotten_handles s now h = forgotten_one (s h) (now h)
 
--- names are forgotten behind a statement that holds a `continue`
+-- names are forgotten after a statement that holds a `continue`
 abbrev pub forgotten_if : Bool → Handles → Handles → Handles
 forgotten_if true s now = forgotten_handles s now
 forgotten_if false s now = now
@@ -241,7 +241,7 @@ abbrev mutual
       let s1 = after_all f k b s in
       let k1 = named_by_all f.function b k in
       fits_all f k b s && (fits_all f k1 d s1 && usable_if f.function (after_all f k1 d s1) e)
-  fits f k (Return v) s = usable_if f.function s v
+  fits f k (Jumps (Return v)) s = usable_if f.function s v
   fits f k (Act a xs r) s = usable_all f.function s xs && may_give r s
   fits f k _ s = true
 

@@ -9,7 +9,7 @@ use Rattle.std.specs.Prelude.{IsTrue, IsFalse}
 use Rattle.shader_runs.specs.Program.{Statement, Emit, Store, Block, If, Switch, Loop, Return, Act}
 use Rattle.shader_runs.specs.Program.{Action, Statements, then, Cases, case, Label, Function}
 use Rattle.shader_runs.specs.Program.{expression_of, operands_of, binds}
-use Rattle.shader_runs.specs.Program.{is_emittable}
+use Rattle.shader_runs.specs.Program.{is_emittable, Jumps}
 use Rattle.shader_runs.specs.Scope.{before_local}
 use Rattle.shader_runs.specs.ScopeRules.{IntroducedHandle, Emitted, AsResult, handle_of, InScope}
 use Rattle.shader_runs.specs.ScopeRules.{Point, entry_point, behind, behind_turn, WasIntroduced}
@@ -37,7 +37,7 @@ pub data UsesAt (f : Function) (at : Point) : Statement → Point → ℕ → Ty
   selector : {h : ℕ} {cs : Cases} → UsesAt f at (Switch h cs) at h
   break_if : {b d : Statements} {h : ℕ} →
       UsesAt f at (Loop b d (Some h)) (behind_turn f d (behind_turn f b at)) h
-  returned : {h : ℕ} → UsesAt f at (Return (Some h)) at h
+  returned : {h : ℕ} → UsesAt f at (Jumps (Return (Some h))) at h
   operand : {act : Action} {xs : List ℕ} {result : Option ℕ} {h : ℕ} (k : ℕ) →
       slice_get xs k ≡ Some h → UsesAt f at (Act act xs result) at h
 

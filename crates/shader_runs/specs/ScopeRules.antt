@@ -11,7 +11,7 @@ use Rattle.shader_runs.specs.Program.{Switch, Loop, Return, Act, Statements, end
 use Rattle.shader_runs.specs.Program.{no_case, case, Function, argument_count, local_count}
 use Rattle.shader_runs.specs.Program.{expression_of, operands_of, is_counted, binds, from}
 use Rattle.shader_runs.specs.Program.{holds_continue}
-use Rattle.shader_runs.specs.Program.{is_pure, is_emittable}
+use Rattle.shader_runs.specs.Program.{is_pure, is_emittable, Jumps}
 use Rattle.shader_runs.specs.Scope.{Naming, before_local, fits_function}
 use Rattle.shader_runs.specs.Premises.{AllBelow}
 
@@ -61,16 +61,16 @@ mutual
         expression_of f h ≡ Some (Local i) → i < local_count f → InScope f introduced h
     global : {introduced : List IntroducedHandle} {h : ℕ} (held : Bool) (i : ℕ) →
         expression_of f h ≡ Some (Global held i) → InScope f introduced h
-    -- behind its Emit, if a `let` binds it
+    -- after its Emit, if a `let` binds it
     bound : {introduced : List IntroducedHandle} {h : ℕ} → IsTrue (binds f h) →
         InScope f (Emitted h ∷ introduced) h
-    -- behind its Emit, if it is an operator that no `let` binds and its operands were in scope
+    -- after its Emit, if it is an operator that no `let` binds and its operands were in scope
     -- there: it is written out where it is used
     written_out : {introduced : List IntroducedHandle} {h : ℕ} →
         IsFalse (binds f h) → IsTrue (is_pure (expression_of f h)) →
         EachInScope f introduced (operands_of (expression_of f h)) →
         InScope f (Emitted h ∷ introduced) h
-    -- behind the statement whose result it is
+    -- after the statement whose result it is
     result : {introduced : List IntroducedHandle} {h : ℕ} →
         IsTrue (can_be_introduced (expression_of f h)) → InScope f (AsResult h ∷ introduced) h
     -- and it stays in scope as more is given
@@ -135,16 +135,16 @@ pub record Point : Type 0 where
 abbrev pub entry_point : Point
 entry_point = record { visible = []; passed = [] }
 
--- behind an emitted handle
+-- after an emitted handle
 abbrev pub behind_one : Function → ℕ → Point → Point
 behind_one f h at = record { visible = with_one f h at.visible; passed = with_one f h at.passed }
 
--- behind a statement
+-- after a statement
 abbrev pub behind : Function → Statement → Point → Point
 behind f st at =
     record { visible = with_statement f st at.visible; passed = with_statement f st at.passed }
 
--- where `continuing` stands behind a loop's body, and `break if` behind both
+-- where `continuing` stands after a loop's body, and `break if` after both
 abbrev pub behind_turn : Function → Statements → Point → Point
 behind_turn f ss at =
     record {
@@ -190,7 +190,7 @@ abbrev mutual
       let continuing = behind_turn f b at in
       let break_if = behind_turn f d continuing in
       StatementsHold f at b × StatementsHold f continuing d × InScopeIf f break_if.visible e
-  StatementHolds f at (Return v) = InScopeIf f at.visible v
+  StatementHolds f at (Jumps (Return v)) = InScopeIf f at.visible v
   StatementHolds f at (Act a xs r) = EachInScope f at.visible xs × MayResult f at r
   StatementHolds f at _ = Unit {0}
 

@@ -13,10 +13,10 @@ use Rattle.shader_runs.specs.Outcome.{Gives, Halts, Stuck, OutOfTurns, Discarded
 use Rattle.shader_runs.specs.Program.{Fixed, no_constant, Constructed, Block, Constant, Argument}
 use Rattle.shader_runs.specs.Program.{Local, Load, Operator, Logical, Swizzle, Result, Called}
 use Rattle.shader_runs.specs.Program.{Numbered, Default, Emit, Store, If, Switch, Loop, Break}
-use Rattle.shader_runs.specs.Program.{Continue, Return, Kill, Act, end, Function}
+use Rattle.shader_runs.specs.Program.{Continue, Return, Kill, Act, end, Function, Jumps}
 use Rattle.shader_runs.specs.Text.{Tree, Name, LiteralOf, Deref, PartOf, LogicalOf, Assign, Braces}
-use Rattle.shader_runs.specs.Text.{IfElse, SwitchOn, LoopOf, BreakLine, ContinueLine, DiscardLine}
-use Rattle.shader_runs.specs.Text.{last, no_group, group, Line, TextFunction}
+use Rattle.shader_runs.specs.Text.{IfElse, SwitchOn, LoopOf}
+use Rattle.shader_runs.specs.Text.{last, no_group, group, Line, TextFunction, JumpLine}
 use Rattle.shader_runs.specs.Correct.{ModuleFits}
 use Rattle.shader_runs.specs.Rows.{x_plus_x}
 use Rattle.shader_runs.specs.WorkedModules.{texel, pair_type, pair, named_function, Example}
@@ -53,7 +53,7 @@ logical_function j b =
     ∷ bound_row (Load 2) BooleanType
     ∷ row (Logical j 0 3) BooleanType ∷ []) (
     Emit 3 2
-    ∷ Return (Some 4) ∷ [])
+    ∷ Jumps (Return (Some 4)) ∷ [])
 
 -- its module
 abbrev pub logical_example : ShortCircuit → Bool → Example
@@ -76,7 +76,7 @@ abbrev pub truth_of : ShortCircuit → Bool → Bool → Bool
 truth_of ShortCircuitAnd c b = c && b
 truth_of ShortCircuitOr c b = c || b
 
--- what is returned behind these events
+-- what is returned after these events
 abbrev pub logical_end : ShortCircuit → Bool → Bool → List Event → CallEnd
 logical_end j c b events =
     Gives (Some (Truth (truth_of j c b)))
@@ -111,9 +111,9 @@ n_place = Rooted (LocalRoot local_i32 0 1)
 -- the switch, and one returns
 abbrev pub jumps_function : Function
 jumps_function =
-    let zero : LabelledBody = (Numbered (pos 0), Store 0 3 ∷ Continue ∷ []) in
-    let others : LabelledBody = (Default, Break ∷ []) in
-    let one : LabelledBody = (Numbered (pos 1), Emit 6 1 ∷ Return (Some 6) ∷ []) in
+    let zero : LabelledBody = (Numbered (pos 0), Store 0 3 ∷ Jumps Continue ∷ []) in
+    let others : LabelledBody = (Default, Jumps Break ∷ []) in
+    let one : LabelledBody = (Numbered (pos 1), Emit 6 1 ∷ Jumps (Return (Some 6)) ∷ []) in
     let body = Emit 5 1 ∷ Switch 5 (cases (zero ∷ others ∷ one ∷ [])) ∷ Store 0 4 ∷ [] in
     let continuing = Emit 7 2 ∷ Store 1 8 ∷ [] in
     function_with [] (Some i32) ((local_i32, Some 2) ∷ (local_i32, Some 2) ∷ []) (
@@ -139,8 +139,8 @@ abbrev pub jumps_text : List TextFunction
 jumps_text =
     let a = Name (codes "a") in
     let n = Name (codes "n") in
-    let zero = Assign a (digits 5) ∷ ContinueLine ∷ [] in
-    let others = BreakLine ∷ [] in
+    let zero = Assign a (digits 5) ∷ JumpLine Continue ∷ [] in
+    let others = JumpLine Break ∷ [] in
     let one = let_own 6 n ∷ return_of (named_by 6) ∷ [] in
     let groups =
     group (Numbered (pos 0) ∷ []) (lines zero)
@@ -162,7 +162,7 @@ JumpsRow =
 
 -- ---- a block
 
--- a sum has its name in a block, and another one behind it; the local starts with its type's zero
+-- a sum has its name in a block, and another one after it; the local starts with its type's zero
 abbrev pub block_function : Function
 block_function =
     let inner = Emit 3 1 ∷ Store 2 3 ∷ [] in
@@ -175,7 +175,7 @@ block_function =
     ∷ row (Operator (codes "*") (3 ∷ 4 ∷ [])) i32 ∷ []) (
     Block (statements inner)
     ∷ Emit 3 3
-    ∷ Return (Some 5) ∷ [])
+    ∷ Jumps (Return (Some 5)) ∷ [])
 
 -- its module
 abbrev pub block_example : Example
@@ -183,7 +183,7 @@ block_example =
     functions_alone (
     named_function (codes "nest") (codes "x" ∷ []) (codes "a" ∷ []) block_function ∷ [])
 
--- its text, with these lines behind the block
+-- its text, with these lines after the block
 abbrev pub block_text : List Line → List TextFunction
 block_text behind =
     let a = Name (codes "a") in
@@ -194,7 +194,7 @@ block_text behind =
     text_of (codes "nest") (codes "x" ∷ []) variables (lines (
     Braces (lines inner) ∷ (behind ++ let_own 4 a ∷ product ∷ []))) ∷ []
 
--- its events behind the block
+-- its events after the block
 abbrev pub block_events : List Event
 block_events =
     Read a_place ∷ Write a_place (number 6) ∷ start_events 0 (number 3 ∷ []) (Some (number 0) ∷ [])
@@ -217,7 +217,7 @@ take_function =
     ∷ row (Operator (codes "+") (2 ∷ 1 ∷ [])) i32 ∷ []) (
     Emit 2 2
     ∷ Store 0 3
-    ∷ Return (Some 2) ∷ [])
+    ∷ Jumps (Return (Some 2)) ∷ [])
 
 -- passes its argument on, and adds what it reads then
 abbrev pub forward_function : Function
@@ -229,7 +229,7 @@ forward_function =
     ∷ row (Operator (codes "+") (1 ∷ 2 ∷ [])) i32 ∷ []) (
     Act (Called 0) (0 ∷ []) (Some 1)
     ∷ Emit 2 2
-    ∷ Return (Some 3) ∷ [])
+    ∷ Jumps (Return (Some 3)) ∷ [])
 
 -- passes a pointer to its local, and multiplies by what it reads then
 abbrev pub own_function : Function
@@ -242,7 +242,7 @@ own_function =
     ∷ row (Operator (codes "*") (2 ∷ 3 ∷ [])) i32 ∷ []) (
     Act (Called 1) (0 ∷ []) (Some 2)
     ∷ Emit 3 2
-    ∷ Return (Some 4) ∷ [])
+    ∷ Jumps (Return (Some 4)) ∷ [])
 
 -- adds to what it is given
 abbrev pub start_function : Function
@@ -253,7 +253,7 @@ start_function =
     ∷ row (Operator (codes "+") (0 ∷ 1 ∷ [])) i32 ∷ []) (
     Act (Called 2) [] (Some 0)
     ∷ Emit 2 1
-    ∷ Return (Some 2) ∷ [])
+    ∷ Jumps (Return (Some 2)) ∷ [])
 
 -- their module
 abbrev pub calls_example : Example
@@ -313,7 +313,7 @@ CallsRow =
 -- discards where its argument is true
 abbrev pub check_function : Function
 check_function =
-    let kill = statements (Kill ∷ []) in
+    let kill = statements (Jumps Kill ∷ []) in
     function_with (BooleanType ∷ []) None [] (row (Argument 0) BooleanType ∷ []) (
     If 0 kill end ∷ [])
 
@@ -344,7 +344,7 @@ discard_text =
     let flag = variable (codes "a") local_bool (Some (LiteralOf (Truth false))) in
     text_of (codes "repeat") [] (flag ∷ []) (lines (LoopOf (lines body) last None ∷ []))
     ∷ text_of (codes "check") (codes "c" ∷ []) [] (lines (
-    IfElse (Name (codes "c")) (lines (DiscardLine ∷ [])) last ∷ [])) ∷ []
+    IfElse (Name (codes "c")) (lines (JumpLine Kill ∷ [])) last ∷ [])) ∷ []
 
 -- the discard ends the caller too
 abbrev pub DiscardRow : Type 0
@@ -360,7 +360,7 @@ DiscardRow =
 -- continues, or comes to the end of its turn, without an event
 abbrev pub silent_function : Function
 silent_function =
-    let skip = If 0 (statements (Continue ∷ [])) end in
+    let skip = If 0 (statements (Jumps Continue ∷ [])) end in
     function_with (BooleanType ∷ []) None [] (row (Argument 0) BooleanType ∷ []) (
     Loop (statements (skip ∷ [])) end None ∷ [])
 
@@ -372,11 +372,11 @@ silent_example =
 -- its text
 abbrev pub silent_text : List TextFunction
 silent_text =
-    let skip = IfElse (Name (codes "c")) (lines (ContinueLine ∷ [])) last in
+    let skip = IfElse (Name (codes "c")) (lines (JumpLine Continue ∷ [])) last in
     let loop = LoopOf (lines (skip ∷ [])) last None in
     text_of (codes "wait") (codes "c" ∷ []) [] (lines (loop ∷ [])) ∷ []
 
--- whatever the bound is, it is out of turns, behind the entry alone
+-- whatever the bound is, it is out of turns, after the entry alone
 abbrev pub SilentRow : Type 0
 SilentRow =
     (c : Bool) (n : ℕ) →
@@ -393,7 +393,7 @@ swizzle_function =
     ∷ bound_row (Swizzle (codes "yx") 0) pair_type
     ∷ row (Operator (codes "+") (1 ∷ 1 ∷ [])) pair_type ∷ []) (
     Emit 1 2
-    ∷ Return (Some 2) ∷ [])
+    ∷ Jumps (Return (Some 2)) ∷ [])
 
 -- its module
 abbrev pub swizzle_example : Example
@@ -421,7 +421,7 @@ greater_function =
     ∷ row (Argument 1) i32
     ∷ row (Operator (codes "max") (0 ∷ 1 ∷ [])) i32 ∷ []) (
     Emit 2 1
-    ∷ Return (Some 2) ∷ [])
+    ∷ Jumps (Return (Some 2)) ∷ [])
 
 -- with a later function of this name, which does nothing
 abbrev pub greater_example : Bytes → Example
@@ -478,7 +478,7 @@ pub record StatementsAreDistinguished : Type 0 where
       follow_example sample_example (sample_text (LiteralOf level_zero ∷ [])) 0 3 sample_values
       ≡ Gives (Some (texel 400)) (sampling_events (level_zero ∷ []))
   pub read_on_the_right : ReadOnTheRight
-  -- a name of a block is used behind it
+  -- a name of a block is used after it
   pub name_behind_block :
       follow_example block_example (block_text []) 0 3 (number 3 ∷ []) ≡ Halts Stuck block_events
   -- a pointer that is passed on by its address

@@ -15,21 +15,21 @@ use Rattle.shader_runs.specs.Value.{LocalRoot, integer_in, place_in, place_at, p
 use Rattle.shader_runs.specs.Value.{Selector, takes_several}
 use Rattle.shader_runs.specs.Value.{Value, Pointer}
 use Rattle.shader_runs.specs.Value.{Spelled, PartWord, IndexWord, ShortCircuit}
-use Rattle.shader_runs.specs.World.{Event, Entry, Ask, Read, Write, Discard, entries, World}
+use Rattle.shader_runs.specs.World.{Event, Entry, Ask, Read, Write, entries, World}
 use Rattle.shader_runs.specs.World.{Meaning, Vocabulary, bind}
-use Rattle.shader_runs.specs.Outcome.{Stuck, Unreturned, Discarded, Outcome, Done, Continued, Broke}
+use Rattle.shader_runs.specs.Outcome.{Stuck, Unreturned, Outcome, Done, Broke}
 use Rattle.shader_runs.specs.Outcome.{reach, unless, Returned, Stopped, ReachedOrHalted, Gives}
 use Rattle.shader_runs.specs.Outcome.{Halts}
 use Rattle.shader_runs.specs.Outcome.{answer, Next, and_then, turn, turns, after_switch, branch_by}
-use Rattle.shader_runs.specs.Outcome.{with_integer, closed_outcome, closed_if}
-use Rattle.shader_runs.specs.Program.{Label, Numbered}
+use Rattle.shader_runs.specs.Outcome.{with_integer, closed_outcome, closed_if, jump_outcome}
+use Rattle.shader_runs.specs.Program.{Label, Numbered, is_continue}
 use Rattle.shader_runs.specs.ProgramRun.{run_if_arguments_fit, decides, undecided_value, same_label}
 use Rattle.shader_runs.specs.ProgramRun.{label_if}
 use Rattle.shader_runs.specs.Text.{Tree, Name, LiteralOf, Apply, Deref, AddressOf, Index, PartOf}
 use Rattle.shader_runs.specs.Text.{LogicalOf, Trees, no_more, more, Line, Let, Assign, Braces}
-use Rattle.shader_runs.specs.Text.{IfElse, SwitchOn, LoopOf, BreakLine, ContinueLine, ReturnLine}
-use Rattle.shader_runs.specs.Text.{DiscardLine, Perform, Lines, last, before, Groups, no_group}
-use Rattle.shader_runs.specs.Text.{group, Variable, ModuleVariable, TextFunction}
+use Rattle.shader_runs.specs.Text.{IfElse, SwitchOn, LoopOf}
+use Rattle.shader_runs.specs.Text.{Perform, Lines, last, before, Groups, no_group}
+use Rattle.shader_runs.specs.Text.{group, Variable, ModuleVariable, TextFunction, JumpLine}
 
 -- what an expression stands for: a value, or a
 -- reference, the place of a variable or of a part of one
@@ -209,10 +209,7 @@ abbrev mutual
   has_continue (IfElse e a b) = some_continue a || some_continue b
   has_continue (SwitchOn e groups) = some_group_continues groups
   has_continue (LoopOf b d e) = false
-  has_continue BreakLine = false
-  has_continue ContinueLine = true
-  has_continue (ReturnLine e) = false
-  has_continue DiscardLine = false
+  has_continue (JumpLine j) = is_continue j
   has_continue (Perform w es) = false
 
   pub some_continue : Lines → Bool
@@ -263,10 +260,7 @@ abbrev mutual
       turns n (λ names1 t1.
       closed_outcome names1
       (turn (follow_in_loop l n b) (follow_in_loop l n d) (break_line l e) names1 t1)) names t
-  follow l n BreakLine names t = Broke names t
-  follow l n ContinueLine names t = Continued names t
-  follow l n (ReturnLine e) names t = return_line l e names t
-  follow l n DiscardLine names t = Stopped Discarded (Discard ∷ t)
+  follow l n (JumpLine j) names t = jump_outcome (return_line l) j names t
   follow l n (Perform w es) names t =
       perform_outcome (l.operates w) names (word_reached l w names t (evaluate_all l es names t))
 
@@ -294,11 +288,11 @@ with_parameters [] vs names = names
 with_parameters (x ∷ xs) [] names = names
 with_parameters (x ∷ xs) (v ∷ vs) names = bind (with_parameters xs vs names) x (Some (IsValue v))
 
--- behind the declaration of a function's variable its name stands for its place
+-- after the declaration of a function's variable its name stands for its place
 abbrev pub with_variable : Variable → (entries index : ℕ) → Scope → Scope
 with_variable x k i names = bind names x.name (Some (IsPlace (Rooted (LocalRoot x.pointer k i))))
 
--- behind the declarations of a function's variables
+-- after the declarations of a function's variables
 abbrev pub with_variables : List Variable → (entries index : ℕ) → Scope → Scope
 with_variables [] k i names = names
 with_variables (x ∷ xs) k i names = with_variables xs k (suc i) (with_variable x k i names)
@@ -334,7 +328,7 @@ is_operation Operates = true
 is_operation _ = false
 
 -- what a word does that is the name of no function which stands before.
--- A function behind can't be called, nor a word that means nothing
+-- A function after can't be called, nor a word that means nothing
 abbrev pub respond_by_use :
     WordUse → World → Meaning → Bytes → List Value → List Event → ReachedOrHalted (Option Value)
 respond_by_use NamesFunction w m word vs t = Halts Stuck t
@@ -367,7 +361,7 @@ abbrev pub first_followed :
 first_followed (Halts x t) rest = Halts x t
 first_followed (Gives v t) rest = put_first (Some v) (rest t)
 
--- a variable's first value, if it has one, and those of the variables behind it
+-- a variable's first value, if it has one, and those of the variables after it
 abbrev pub first_then : Words → Option Tree → Scope → List Event →
     (List Event → ReachedOrHalted (List (Option Value))) → ReachedOrHalted (List (Option Value))
 first_then l None names t rest = put_first None (rest t)

@@ -26,7 +26,7 @@ same_integer (pos m) (negsuc n) = false
 same_integer (negsuc m) (pos n) = false
 same_integer (negsuc m) (negsuc n) = nat_eq m n
 
--- what stands behind a base: a component or member by its word, or an element by a constant index
+-- what stands after a base: a component or member by its word, or an element by a constant index
 pub data Selector : Type 0 where
   MemberNamed : (word : Bytes) → Selector
   ElementAt : (index : ℕ) → Selector

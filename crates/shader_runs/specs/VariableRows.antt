@@ -7,7 +7,7 @@ use Rattle.shader_runs.specs.Value.{Pointer}
 use Rattle.shader_runs.specs.World.{Read, Write}
 use Rattle.shader_runs.specs.Outcome.{Stuck, Gives, Halts}
 use Rattle.shader_runs.specs.Program.{Global, Load, Emit, Store, Return, Function}
-use Rattle.shader_runs.specs.Program.{expression_of, handle_type}
+use Rattle.shader_runs.specs.Program.{expression_of, handle_type, Jumps}
 use Rattle.shader_runs.specs.Text.{Name, Deref, Assign, ModuleVariable, TextFunction}
 use Rattle.shader_runs.specs.Text.{TextModule}
 use Rattle.shader_runs.specs.Constants.{follow_module}
@@ -40,7 +40,7 @@ pointed_function =
     ∷ bound_row (Load 1) i32 ∷ []) (
     Emit 2 1
     ∷ Store 0 2
-    ∷ Return (Some 2) ∷ [])
+    ∷ Jumps (Return (Some 2)) ∷ [])
 
 -- its module: `p` holds a pointer to `n`
 abbrev pub pointed_example : Example

@@ -13,10 +13,10 @@ use Rattle.shader_runs.specs.World.{Event, Entry, Ask, Read, Write, Discard, Wor
 use Rattle.shader_runs.specs.World.{Settings, Vocabulary}
 use Rattle.shader_runs.specs.Outcome.{ReachedOrHalted}
 use Rattle.shader_runs.specs.Program.{Fixed, Module, Expression, Constant, Statements, end, then}
-use Rattle.shader_runs.specs.Program.{no_case, case, Function, Label, Statement, Cases}
+use Rattle.shader_runs.specs.Program.{no_case, case, Function, Label, Statement, Cases, Return}
 use Rattle.shader_runs.specs.Text.{Tree, Name, LiteralOf, Apply, AddressOf, no_more, more, Let}
-use Rattle.shader_runs.specs.Text.{ReturnLine, Perform, Lines, last, before, Variable, TextFunction}
-use Rattle.shader_runs.specs.Text.{TextModule, Trees, Line}
+use Rattle.shader_runs.specs.Text.{Perform, Lines, last, before, Variable, TextFunction}
+use Rattle.shader_runs.specs.Text.{TextModule, Trees, Line, JumpLine}
 use Rattle.shader_runs.specs.Constants.{run_module, follow_module}
 use Rattle.shader_runs.specs.Scope.{ModuleNames, Naming, fits_function}
 use Rattle.shader_runs.specs.Form.{form_functions, functions_of}
@@ -115,7 +115,7 @@ let_own h e = Let (numbered_name h) e
 
 -- a value is returned
 abbrev pub return_of : Tree → Line
-return_of e = ReturnLine (Some e)
+return_of e = JumpLine (Return (Some e))
 
 -- `1i` and such
 abbrev pub digits : ℕ → Tree

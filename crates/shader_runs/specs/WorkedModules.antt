@@ -48,12 +48,12 @@ changed_value word was v =
     cond (same_bytes word (codes "atomicStore")) v
     (cond (same_bytes word (codes "atomicAdd")) (sum_value was v) was)
 
--- what is at a place behind a request
+-- what is at a place after a request
 abbrev pub after_ask : Place → (word : Bytes) → List Value → (was : Value) → Value
 after_ask p word (Pointer q ∷ v ∷ vs) was = cond (same_place p q) (changed_value word was v) was
 after_ask p word vs was = was
 
--- what is at a place behind an entry: a local's first value, if it has one
+-- what is at a place after an entry: a local's first value, if it has one
 abbrev pub after_entry : Place → (earlier : ℕ) → List (Option Value) → (was : Value) → Value
 after_entry (Rooted (LocalRoot pointer k i)) earlier firsts was =
     cond (nat_eq k earlier) (unwrap_or (get_or firsts i None) was) was

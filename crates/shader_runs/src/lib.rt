@@ -19,7 +19,7 @@ ghost use Rattle.shader_runs.specs.StatementRows.{StatementRowsHold};
 ghost use Rattle.shader_runs.specs.VariableRows.{VariableRowsHold};
 
 /// A module's functions and entry points and their texts make the same events and end alike.
-/// So does one behind its callees, whatever stands after it and between it and them.
+/// So does one after its callees, whatever stands after it and between it and them.
 pub fn runs_alike()
     ensures whole { RunsAlike }
     ensures one { OneRunsAlike }

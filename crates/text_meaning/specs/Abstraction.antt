@@ -23,13 +23,13 @@ use Rattle.wgsl_text.specs.Text.{text, mark_text}
 use Rattle.wgsl_text.specs.Reading.{type_layout}
 use Rattle.shader_runs.specs.Value.{Bytes, MemberNamed, ElementAt, Opaque, ShortCircuitAnd}
 use Rattle.shader_runs.specs.Value.{ShortCircuitOr}
-use Rattle.shader_runs.specs.Program.{Label, Numbered, Default}
+use Rattle.shader_runs.specs.Program.{Label, Numbered, Default, Break, Continue, Return, Kill}
 use Rattle.shader_runs.specs.Text.{Tree, Name, LiteralOf, Apply, Deref, AddressOf, Index, PartOf}
 use Rattle.shader_runs.specs.Text.{LogicalOf as Logical, Trees, no_more, more, Line, Let, Assign}
-use Rattle.shader_runs.specs.Text.{Braces, IfElse, SwitchOn, LoopOf, BreakLine, ContinueLine}
-use Rattle.shader_runs.specs.Text.{ReturnLine, DiscardLine, Perform, Lines, last, before, Groups}
+use Rattle.shader_runs.specs.Text.{Braces, IfElse, SwitchOn, LoopOf}
+use Rattle.shader_runs.specs.Text.{Perform, Lines, last, before, Groups}
 use Rattle.shader_runs.specs.Text.{no_group, group, Variable, ModuleVariable, TextFunction}
-use Rattle.shader_runs.specs.Text.{TextModule, TextConstant}
+use Rattle.shader_runs.specs.Text.{TextModule, TextConstant, JumpLine}
 use Rattle.text_meaning.specs.Literals.{value_read, integer_of_sign}
 
 -- `&&` and `||` decide by their left side alone where they can; any other operator is a word with
@@ -82,11 +82,11 @@ abbrev mutual
   statement_read (TypedLet w t e) = Let w (expression_read e)
   statement_read (tree.Assign a b) = Assign (expression_read a) (expression_read b)
   statement_read (CallStatement t args) = Perform (called_word t args) (arguments_read args)
-  statement_read tree.Return = ReturnLine None
-  statement_read (ReturnValue e) = ReturnLine (Some (expression_read e))
-  statement_read Discard = DiscardLine
-  statement_read tree.Break = BreakLine
-  statement_read tree.Continue = ContinueLine
+  statement_read tree.Return = JumpLine (Return None)
+  statement_read (ReturnValue e) = JumpLine (Return (Some (expression_read e)))
+  statement_read Discard = JumpLine Kill
+  statement_read tree.Break = JumpLine Break
+  statement_read tree.Continue = JumpLine Continue
   statement_read (If e accept reject) =
       IfElse (expression_read e) (statements_read accept) (optional_read reject)
   statement_read (Loop body rest) = LoopOf (statements_read body) (optional_read rest) None
@@ -143,7 +143,7 @@ function_read f =
 abbrev pub constant_read : tree_declarations.NamedConstant → TextConstant
 constant_read c = record { name = c.name; initialiser = expression_read c.value }
 
--- a text's functions, and behind them those of its entry points
+-- a text's functions, and after them those of its entry points
 abbrev pub functions_of : tree_declarations.Program → List tree_functions.Function
 functions_of p = p.functions ++ map (λ e. e.function) p.entry_points
 

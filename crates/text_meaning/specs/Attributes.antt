@@ -23,7 +23,7 @@ pub record LocationBinding : Type 0 where
   pub per_primitive : Bool
 
 -- How a value passes in or out of a stage: by nothing, where these attributes say nothing of it; as
--- a value of the hardware, by its word, if it has one; or at a location.
+-- a built-in value, by its word, if it has one; or at a location.
 pub data StageBinding : Type 0 where
   NotBound : List Attribute → StageBinding
   BuiltinValue : (word : Option (List ℕ)) → (invariant : Bool) → StageBinding
@@ -47,7 +47,7 @@ plain_location n =
       per_primitive = false;
     }
 
--- what stands behind the interpolation of a location, behind its source, and behind its number
+-- what stands after the interpolation of a location, after its source, and after its number
 abbrev pub behind_interpolation_read : LocationBinding → List Attribute → StageBinding
 behind_interpolation_read l [] = AtLocation l
 behind_interpolation_read l (Plain PerPrimitive ∷ []) =

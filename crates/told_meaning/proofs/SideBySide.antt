@@ -67,7 +67,7 @@ module _ {X Y : Type 0} (R : X → Y → Type 0) where
   joined_same p q each (x ∷ xs) (y ∷ ys) h =
       λ i. each x y h.0 i ++ joined_same p q each xs ys h.1 i
 
-  -- ---- lists one behind another
+  -- ---- lists one after another
   pub AllZip-append : (xs : List X) (ys : List Y) (ws : List X) (zs : List Y) → AllZip R xs ys →
       AllZip R ws zs → AllZip R (xs ++ ws) (ys ++ zs)
   AllZip-append [] [] ws zs h k = k

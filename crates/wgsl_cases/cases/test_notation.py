@@ -168,13 +168,13 @@ ANSWERS = [
     (FUNCTION + "  gives\n    a\n", "== a\na\n\n"),
     (FUNCTION + "  gives\n    a[: i32];\n", "== a\na;\n\n", "== a, with types\na: i32;\n\n"),
     (FUNCTION + "  gives\n    a\n  refused: b\n", "== a\na\n\nrefused: b\n"),
-    # no empty line behind the last entry point, and one behind what stands in front of a refusal
+    # no empty line after the last entry point, and one after what stands in front of a refusal
     (POINT + "  gives\n    a\n", "== a\na\n"),
     (POINT + "  gives\n    a\n  refused: b\n", "== a\na\n\nrefused: b\n"),
     (POINT + "  gives\n    a\n  gives with types\n    b\n  refused with types: c\n",
      "== a\na\n", "== a, with types\nb\n\nrefused: c\n"),
     (POINT + "  gives nothing\n", "== a\n"),
-    # a blank behind a line of attributes alone
+    # a blank after a line of attributes alone
     (POINT + "  gives\n    @fragment\n    fn f(@a b: c) {\n    }\n",
      "== a\n@fragment \nfn f(@a b: c) {\n}\n"),
     (POINT + "  gives\n    @compute @workgroup_size(1, 1, 1)\n    a\n",

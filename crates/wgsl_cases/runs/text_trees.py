@@ -21,7 +21,7 @@ SUFFIXES = {"i": "i32", "u": "u32", "li": "i64", "lu": "u64", "": "abstract"}
 FLOAT = re.compile(r"(-?)([0-9]+)(?:\.([0-9]+))?(?:e(-?[0-9]+))?(h|f|lf)")
 FLOATS = {"h": "f16", "f": "f32", "lf": "f64"}
 SIGNS = ("+", "-", "*", "/", "%", "==", "!=", "<", "<=", ">", "&", "^", "|", "&&", "||", "<<")
-# the words behind which `<` begins a list
+# the words after which `<` begins a list
 GENERATORS = re.compile(
     r"vec[234]|mat[234]x[234]|array|binding_array|atomic|ptr|bitcast|acceleration_structure|ray_query|coopLoadT?|"
     r"coop_mat(8|16)x(8|16)|texture_(multisampled_|storage_)?(1d|2d|3d|cube)(_array)?")

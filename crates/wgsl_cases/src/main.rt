@@ -1,8 +1,8 @@
 //! Reads cases, one in each line of the input, and tells of each what becomes of its module.
 //!
 //! A line is a JSON object with the members `name`, `module` and `info`; uses are counted, unless a
-//! member `counted` is `true`. Behind a line `== NAME` comes the text of the module, and behind it, if
-//! the module is refused, a line `refused: WHY`; behind a line `== NAME, with types` the same where
+//! member `counted` is `true`. After a line `== NAME` comes the text of the module, and after it, if
+//! the module is refused, a line `refused: WHY`; after a line `== NAME, with types` the same where
 //! each `let` tells its type, if that differs. Where a member `places` is `true`, a line `at: PLACE`
 //! comes after a refusal, the place being that in the JSON. Where a member `portable` is `true`, what
 //! is written for standard compilers comes after `== NAME, portable` and `== NAME, portable with

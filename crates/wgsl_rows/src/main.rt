@@ -10,7 +10,7 @@ mod words;
 pub use program::run;
 use std::process::ExitCode;
 
-/// Runs the program on the words behind its name, and ends with its status.
+/// Runs the program on the words after its name, and ends with its status.
 fn main(rt: HostRuntime) -> ExitCode {
     let mut out = rt.stdout();
     let mut err = rt.stderr();

@@ -36,7 +36,7 @@ fn all_are_written(rt: &impl Abort, alloc: Global, shader: &ModuleBuilder) {
     assert!(rt; text.ends_with("@workgroup_size(1, 1, 1) \nfn p65535_() {\n}\n"));
 }
 
-/// A module with one more is refused, and nothing stands behind what the sink had.
+/// A module with one more is refused, and nothing stands after what the sink had.
 fn one_more_is_refused(rt: &impl Abort, alloc: Global, shader: &ModuleBuilder) {
     assert!(rt; accepts(&shader.module, &shader.info));
     let sink = String::from_str(alloc, "before").expect(rt, "memory");

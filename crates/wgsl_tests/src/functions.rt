@@ -61,7 +61,7 @@ const NAMED_AGAIN: &str = "fn e(x: i32) -> i32 {\n    let x_2 = (x + x);\n    re
 
 const COMPUTE: &str = "@compute @workgroup_size(64, 1, 1) \nfn main() {\n}\n";
 
-/// The function has this text behind what stands in a sink, or is refused, and nothing is written.
+/// The function has this text after what stands in a sink, or is refused, and nothing is written.
 fn is_written(
     rt: &impl Abort,
     alloc: Global,
@@ -95,7 +95,7 @@ fn is_written(
 }
 
 /// What stands before or after a function is nothing to its text: not the body of another, nor the
-/// head of a stage. Behind its own text a label gets another name.
+/// head of a stage. After its own text a label gets another name.
 #[test]
 fn a_function_is_written_by_itself(rt: HostRuntime) {
     let alloc = rt.alloc();

@@ -13,7 +13,7 @@ struct Long {
     /// What its name has, and how often.
     named: &'static str,
     named_times: usize,
-    /// What the name of the same label has behind it when it comes again.
+    /// What the name of the same label has after it when it comes again.
     again: &'static str,
 }
 
@@ -25,7 +25,7 @@ const LETTERS: Long = Long {
     again: "_1",
 };
 
-/// The base ends in a digit, so that the first name has a `_` behind it.
+/// The base ends in a digit, so that the first name has a `_` after it.
 const FOREIGN: Long = Long {
     part: "\u{1f600}",
     times: MEBIBYTE / 4,

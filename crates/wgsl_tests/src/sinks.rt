@@ -51,7 +51,7 @@ fn refusal_of(rt: &impl Abort, written: &Result<(), Error>) -> Option<SinkError>
     }
 }
 
-/// Whether the text stands there, behind a beginning of it with no more bytes than this.
+/// Whether the text stands there, after a beginning of it with no more bytes than this.
 fn is_begun_and_whole(held: &str, text: &str, limit: usize) -> bool {
     match held.strip_suffix(text) {
         Some(begun) => begun.len() <= limit && text.starts_with(begun),

@@ -1,4 +1,4 @@
--- Pieces that end in a blank, a line end or a sign that nothing extends, one part of a row behind
+-- Pieces that end in a blank, a line end or a sign that nothing extends, one part of a row after
 -- another.
 use Rattle.std.proofs.Common.{◌≡◌, ℕ, true, false, List, [], ◌∷◌, ◌++◌, refl, sym, subst}
 use Rattle.std.proofs.Common.{append_assoc}
@@ -28,7 +28,7 @@ gap b = record { by = b.by }
 pub indent : {n : ℕ} {qs : List Piece} → Closed qs → Closed (Indent n ∷ qs)
 indent b = record { by = b.by }
 
--- what shows that a token ends, and what stands behind it
+-- what shows that a token ends, and what stands after it
 pub tok : {t : Token} {qs : List Piece} → IsToken t → ((more : List Piece) → ends t (text (qs ++ more)) ≡ true) → Closed qs → Closed (TokenPiece t ∷ qs)
 tok is front b = record { by = λ more h. (is, front more, b.by more h) }
 

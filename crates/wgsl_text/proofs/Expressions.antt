@@ -72,7 +72,7 @@ number_done : (more : Arguments) → IsSome more →
 number_done NoArguments is a = absurd is
 number_done _ is a = record { to = a.to }
 
--- a whole zero behind others
+-- a whole zero after others
 zero_done : (more done : Arguments) → IsSome done → {t : TypeSpecifier} {s : Stack} {s' : State} →
     Runs (more_arguments_pieces more) (AfterArgument t (ZeroArgument true done) s) s' →
     Runs (more_arguments_pieces more) (GotNumberArgument t done false 0 s) s'
@@ -84,7 +84,7 @@ zero_done _ (Argument e done) is a = record { to = a.to }
 zero_done _ (NumberArgument n done) is a = record { to = a.to }
 zero_done _ (ZeroArgument whole done) is a = record { to = a.to }
 
--- A plain number that stands behind others is a level, and the first one is none.
+-- A plain number that stands after others is a level, and the first one is none.
 abbrev StandBehind : Arguments → Type 0
 StandBehind NoArguments = ⊤
 StandBehind (Argument e more) = StandBehind more

@@ -64,7 +64,7 @@ parameters_run : (ps : List Parameter) → Each IsParameter ps → (f : List ℕ
 parameters_run [] is f s = at_end
 parameters_run (p ∷ more) is f s = parameter_runs p is.0 f [] s onward more_parameters_run more is.1 p f [] s
 
--- a type behind the attributes of a result
+-- a type after the attributes of a result
 result_type : (t : TypeSpecifier) {s : Stack} {s' : State} → Runs (type_pieces t) (WantType s) s' → Runs (type_pieces t) (WantResult s) s'
 result_type (Named w) a = record { to = a.to }
 result_type (Template w parts) a = record { to = a.to }
@@ -142,12 +142,12 @@ value_closed : (value : Option Expression) → IsValue value → Closed (value_p
 value_closed None is = stop
 value_closed (Some e) is = gap $ sign (λ _. refl) $ gap $ part (expression_spaced e is) (λ _. refl) stop
 
--- a type, a value and what stands behind them
+-- a type, a value and what stands after them
 pub value_behind : (t : TypeSpecifier) → IsType t → (value : Option Expression) → IsValue value → {qs : List Piece} → Closed qs → Closed (type_pieces t ++ (value_pieces value ++ qs))
 value_behind t is None at b = part (type_spaced t is.part) (λ _. refl) $ stop then b
 value_behind t is (Some e) at b = part (type_spaced t is.part) (λ _. refl) $ value_closed (Some e) at then b
 
--- pieces that end in a type, and those behind them
+-- pieces that end in a type, and those after them
 before_type : (ps qs rest : List Piece) → Closed (ps ++ (qs ++ rest)) → Closed ((ps ++ qs) ++ rest)
 before_type ps qs rest a = subst Closed (sym (append_assoc ps qs rest)) a
 

@@ -161,7 +161,7 @@ pub data State : Type 0 where
   GlobalName : Space → Stack → State
   AfterGlobalName : Space → List ℕ → Stack → State
 
--- the first behind the second, turned round
+-- the first after the second, turned round
 abbrev pub unwind_arguments : Arguments → Arguments → Arguments
 unwind_arguments NoArguments args = args
 unwind_arguments (Argument e done) args = unwind_arguments done (Argument e args)
@@ -272,7 +272,7 @@ abbrev pub want_semicolon : Stack → State
 want_semicolon (InReturn s) = add_statement Return s
 want_semicolon _ = Failed
 
--- `else` behind an `if` that has been read without one
+-- `else` after an `if` that has been read without one
 abbrev pub else_of : Statements → Stack → State
 else_of (Then (If e accept NoBlock) done) s = WantBrace (InReject e accept (InStatements done s))
 else_of _ s = Failed
@@ -479,7 +479,7 @@ abbrev pub got_index : Mark → Expression → ℕ → Stack → State
 got_index CloseBracket e n s = Got (IndexAt e n) s
 got_index _ e n s = Failed
 
--- a plain number alone in parentheses is a literal, and with more behind it an argument
+-- a plain number alone in parentheses is a literal, and with more after it an argument
 abbrev pub wrapped_literal : List ℕ → Bool → ℕ → Literal
 wrapped_literal w negative n = cond (bytes_eq (codes "i16") w) (SignedShort negative n) (cond (bytes_eq (codes "u16") w) (UnsignedShort n) LeastInteger)
 
@@ -487,7 +487,7 @@ abbrev pub wrapped : TypeSpecifier → Bool → ℕ → Stack → State
 wrapped (Named w) negative n s = Got (Constant (wrapped_literal w negative n)) s
 wrapped (Template w args) negative n s = Failed
 
--- behind others a zero is a level
+-- after others a zero is a level
 abbrev pub number_then : Arguments → ℕ → Arguments
 number_then NoArguments n = NumberArgument n NoArguments
 number_then done zero = ZeroArgument true done

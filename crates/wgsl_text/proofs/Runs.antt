@@ -1,4 +1,4 @@
--- Runs of the machine over pieces, one part of a row behind another.
+-- Runs of the machine over pieces, one part of a row after another.
 use Rattle.std.proofs.Common.{◌≡◌, ℕ, Bool, true, false, cond, List, [], ◌∷◌, ◌++◌, refl, ap, ◌∙◌}
 use Rattle.wgsl_text.specs.Token.{Token, Piece, TokenPiece, Blank, LineEnd, Indent}
 use Rattle.wgsl_text.specs.Words.{is_builtin}

@@ -1,4 +1,4 @@
--- Pieces in which no token runs into the next, one part of a row behind another.
+-- Pieces in which no token runs into the next, one part of a row after another.
 use Rattle.std.proofs.Common.{◌≡◌, ℕ, Bool, true, false, List, [], ◌∷◌, ◌++◌, refl, sym, ap, subst}
 use Rattle.std.proofs.Common.{◌∙◌, append_assoc, arith, ◌||◌}
 use Rattle.std.specs.Prelude.{◌<◌, length, ◌==◌}
@@ -21,7 +21,7 @@ use Rattle.wgsl_text.proofs.Text.{own_digits, digit_no_letter, Apart}
 pub record Spaced (ps : List Piece) : Type 0 where
   pub by : (more : List Piece) → Apart more → ends_word (text more) ≡ true → Apart (ps ++ more)
 
--- These pieces end a word, if only those behind them do.
+-- These pieces end a word, if only those after them do.
 abbrev pub Ends : List Piece → Type 0
 Ends ps = (more : List Piece) → ends_word (text more) ≡ true → ends_word (text (ps ++ more)) ≡ true
 

@@ -50,7 +50,7 @@ unwind_rewind_cases : (cs done : Cases) → unwind_cases (rewind_cases cs done) 
 unwind_rewind_cases NoCases done = refl
 unwind_rewind_cases (Case labels body more) done = unwind_rewind_cases more (Case labels body done)
 
--- the brace behind statements
+-- the brace after statements
 pub closes : (ss : Statements) {s : Stack} {qs : List Piece} {s' : State} → Runs qs (close_block ss s) s' → Runs (mark CloseBrace ∷ qs) (Want (InStatements (rewind_statements ss NoStatements) s)) s'
 closes ss {s} b = reads $ as_state (ap (λ body. close_block body s) (unwind_rewind ss NoStatements)) b
 

@@ -480,7 +480,7 @@ blanks_scan : (n : ℕ) (rest : List ℕ) → scan (replicate n 32 ++ rest) 0 �
 blanks_scan zero rest = refl
 blanks_scan (suc n) rest = blanks_scan n rest
 
--- No token runs into what stands behind it.
+-- No token runs into what stands after it.
 abbrev pub Apart : List Piece → Type 0
 Apart [] = ⊤
 Apart (TokenPiece t ∷ pieces) = IsToken t × (ends t (text pieces) ≡ true) × Apart pieces

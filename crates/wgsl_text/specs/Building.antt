@@ -51,7 +51,7 @@ pub record CalledWordsAreExpressions : Type 0 where
   pub gather : (w : List ℕ) (n : ℕ) (e : Expression) (es : List Expression) →
       IsTrue (stands_in gather_words w) → n < 4 → Each IsExpression (e ∷ es) →
       IsExpression (Call (Named w) (NumberArgument n (operands (e ∷ es))))
-  -- a sampling at level zero, which stands behind some of its operands
+  -- a sampling at level zero, which stands after some of its operands
   pub level : (whole : Bool) (w : List ℕ) (e : Expression) (es more : List Expression) →
       IsTrue (stands_in level_words w) → Each IsExpression (e ∷ es) → Each IsExpression more →
       IsExpression (Call (Named w) (operands_with_level whole (e ∷ es) more))

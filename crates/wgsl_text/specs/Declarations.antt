@@ -92,7 +92,7 @@ members_pieces (m ∷ more) =
     (type_pieces m.type ++
     (mark Comma ∷ LineEnd ∷ members_pieces more))))
 
--- an empty line behind each
+-- an empty line after each
 abbrev pub structs_pieces : List Struct → List Piece
 structs_pieces [] = []
 structs_pieces (s ∷ more) =
@@ -118,7 +118,7 @@ overrides_pieces (o ∷ more) =
     (value_pieces o.value ++
     overrides_pieces more)))
 
--- a line end behind the binding
+-- a line end after the binding
 abbrev pub behind_attribute : Attribute → List Piece
 behind_attribute (Numbered Binding n) = LineEnd ∷ []
 behind_attribute _ = []
@@ -145,7 +145,7 @@ globals_pieces (g ∷ more) =
     (value_pieces g.value ++
     globals_pieces more)))))
 
--- an empty line behind the enables, the constants, the overrides and the globals, if there are any
+-- an empty line after the enables, the constants, the overrides and the globals, if there are any
 abbrev pub program_pieces : Program → List Piece
 program_pieces p =
     enables_pieces p.enables ++

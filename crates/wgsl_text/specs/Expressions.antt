@@ -170,7 +170,7 @@ abbrev pub have_a_level : Arguments → Bool
 have_a_level (Argument e more) = have_a_zero more
 have_a_level _ = false
 
--- A plain number in front of others is the component of a gather, and `0.0`, or `0` behind others,
+-- A plain number in front of others is the component of a gather, and `0.0`, or `0` after others,
 -- the level of a sampling, and nothing else.
 abbrev pub may_take : TypeSpecifier → Arguments → Bool
 may_take (Named w) (NumberArgument n more) =

@@ -74,7 +74,7 @@ locals_pieces (l ∷ more) =
     (value_pieces l.value ++
     locals_pieces more))
 
--- an empty line behind the items of a group, if there are any
+-- an empty line after the items of a group, if there are any
 abbrev pub group_end : {A : Type 0} → List A → List Piece
 group_end [] = []
 group_end (x ∷ more) = LineEnd ∷ []
@@ -90,7 +90,7 @@ function_pieces f =
     (statements_pieces f.body 1 ++
     (mark CloseBrace ∷ LineEnd ∷ [])))))))
 
--- an empty line behind each
+-- an empty line after each
 abbrev pub functions_pieces : List Function → List Piece
 functions_pieces [] = []
 functions_pieces (f ∷ more) = function_pieces f ++ (LineEnd ∷ functions_pieces more)
@@ -98,7 +98,7 @@ functions_pieces (f ∷ more) = function_pieces f ++ (LineEnd ∷ functions_piec
 abbrev pub entry_point_pieces : EntryPoint → List Piece
 entry_point_pieces e = attributes_pieces e.stage ++ (LineEnd ∷ function_pieces e.function)
 
--- an empty line between two, and none behind the last
+-- an empty line between two, and none after the last
 abbrev pub more_entry_points_pieces : List EntryPoint → List Piece
 more_entry_points_pieces [] = []
 more_entry_points_pieces (e ∷ more) =

@@ -87,7 +87,7 @@ pub record RefusedTexts : Type 0 where
       "    }" ∷
       "}" ∷
       "" ∷ []))
-  -- a member with two sizes, with two alignments, and with its size behind its alignment or binding
+  -- a member with two sizes, with two alignments, and with its size after its alignment or binding
   pub two_sizes : IsNoProgram (codes "struct S {\n    @size(16) @size(16) a: f32,\n}\n\n")
   pub two_alignments : IsNoProgram (codes "struct S {\n    @align(8) @align(8) a: f32,\n}\n\n")
   pub size_behind_alignment : IsNoProgram (

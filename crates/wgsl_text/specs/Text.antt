@@ -1,6 +1,6 @@
 -- The text of pieces, and the tokens of a text.
 --
--- Throughout, b and c are bytes, ds are the digits behind one, w is a word, m a mark, n a number,
+-- Throughout, b and c are bytes, ds are the digits after one, w is a word, m a mark, n a number,
 -- and t a token.
 use Rattle.std.specs.Prelude.{ℕ, zero, suc, ◌*◌, Bool, true, false, not, ◌&&◌, ◌||◌, if◌then◌else◌}
 use Rattle.std.specs.Prelude.{List, [], ◌∷◌, ◌++◌, codes, ◌==◌, length, take, drop, replicate}
@@ -156,7 +156,7 @@ word_token w = if is_reserved w then keyword_among keywords w else Word w
 abbrev pub word_lexeme : ℕ → List ℕ → Lexeme
 word_lexeme b bytes = Takes (word_token (b ∷ take (word_length bytes) bytes)) (word_length bytes)
 
--- the suffix that the bytes begin with: by what stands behind an `l`, by a letter, by any byte
+-- the suffix that the bytes begin with: by what stands after an `l`, by a letter, by any byte
 abbrev pub long_suffix : List ℕ → Suffix
 long_suffix bytes =
     if starts_with 105 bytes then SuffixLi else (if starts_with 117 bytes then SuffixLu
@@ -171,7 +171,7 @@ abbrev pub suffix_at : List ℕ → Suffix
 suffix_at [] = NoSuffix
 suffix_at (b ∷ bytes) = if is_letter b then letter_suffix b bytes else NoSuffix
 
--- `.0` behind a lone `0`
+-- `.0` after a lone `0`
 abbrev pub is_point_zero : List ℕ → Bool
 is_point_zero [] = false
 is_point_zero (b ∷ bytes) = b == 46 && starts_with 48 bytes

@@ -28,7 +28,7 @@ mutual
 
 -- The pieces of types.
 
--- Does a blank stand behind the commas between the parts of a type?
+-- Does a blank stand after the commas between the parts of a type?
 abbrev pub has_gaps : List ℕ → Bool
 has_gaps w = not (stands_in storage_image_words w || stands_in cooperative_matrix_words w)
 

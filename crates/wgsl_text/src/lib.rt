@@ -24,7 +24,7 @@ ghost use Rattle.wgsl_text.specs.Spelling.{Spells, Begins};
 ghost use Rattle.wgsl_text.specs.Text.{text, tokens};
 ghost use Rattle.wgsl_text.specs.ValueWords.{ValueWords};
 
-/// The tokens of a text are those of its front, and then those of what stands behind it. The front
+/// The tokens of a text are those of its front, and then those of what stands after it. The front
 /// is a blank, or the longest that spells a token, or a byte that begins none.
 pub fn longest_token()
     ensures nothing { tokens [] ≡ [] }

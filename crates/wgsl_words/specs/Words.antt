@@ -203,7 +203,7 @@ math_word math.Pack4xU8Clamp = Some (codes "pack4xU8Clamp")
 math_word math.Inverse = None
 math_word math.Outer = None
 
--- values of the hardware
+-- built-in values
 abbrev pub builtin_word : BuiltIn → Option (List ℕ)
 builtin_word (builtin.Position invariant) = Some (codes "position")
 builtin_word (builtin.Barycentric true) = Some (codes "barycentric")

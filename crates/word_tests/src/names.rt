@@ -58,7 +58,7 @@ const FOR_WGSL: Calls = &[
     ("Fn", "Fn"),
 ];
 
-/// Labels of calls behind a `reset` by the empty module, and their names.
+/// Labels of calls after a `reset` by the empty module, and their names.
 const BEHIND_A_RESET: &[Calls] = &[
     &[
         ("fn", "fn_"),
@@ -303,7 +303,7 @@ fn have_names(rt: &impl Abort, keys: &[NameKey], names: &HashMap<NameKey, String
 }
 
 /// A `reset` by the module, with the words of WGSL and the prefixes that its implementations
-/// reserve, gives the names, and the calls theirs behind it.
+/// reserve, gives the names, and the calls theirs after it.
 fn check_reset(
     rt: &impl Abort,
     alloc: Global,

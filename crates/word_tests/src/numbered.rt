@@ -36,7 +36,7 @@ impl<'a> NumberedTypes<'a> {
         Ok(Self { types, names })
     }
 
-    /// Whether each type stands behind the type that it names, and each override that a length
+    /// Whether each type stands after the type that it names, and each override that a length
     /// names is one of the first `overrides`. Then the types are in order.
     pub fn is_in_order(&self, overrides: usize) -> bool
         ensures { IsTrue result → IsInOrder (numbered_context self.now.types.now) }

@@ -33,7 +33,7 @@ pub struct Request<'a> {
     pub info: Option<&'a str>,
 }
 
-/// What the words behind the program's name ask for. The error is also what tells the help and the
+/// What the words after the program's name ask for. The error is also what tells the help and the
 /// version.
 pub fn request_of(alloc: Global, words: &[String]) -> Result<Request<'_>, Error> {
     let matches = command(alloc)?.try_get_matches_from(words)?;

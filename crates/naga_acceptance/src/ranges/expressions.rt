@@ -72,26 +72,7 @@ fn names_in_range(module: &Module, arguments: usize, locals: usize, expression: 
         Expression::Literal(literal) => literal_is_within(*literal),
         Expression::AccessIndex { index, .. } => fits_32_bits(*index),
         Expression::Swizzle { pattern, .. } => pattern_is_whole(*pattern),
-        Expression::Access { .. }
-        | Expression::Splat { .. }
-        | Expression::Load { .. }
-        | Expression::ImageSample { .. }
-        | Expression::ImageLoad { .. }
-        | Expression::ImageQuery { .. }
-        | Expression::Unary { .. }
-        | Expression::Binary { .. }
-        | Expression::Select { .. }
-        | Expression::Derivative { .. }
-        | Expression::Relational { .. }
-        | Expression::Math { .. }
-        | Expression::As { .. }
-        | Expression::ArrayLength(_)
-        | Expression::RayQueryProceedResult
-        | Expression::RayQueryGetIntersection { .. }
-        | Expression::RayQueryVertexPositions { .. }
-        | Expression::SubgroupBallotResult
-        | Expression::CooperativeLoad { .. }
-        | Expression::CooperativeMultiplyAdd { .. } => true,
+        _ => true,
     }
 }
 

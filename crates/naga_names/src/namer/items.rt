@@ -71,7 +71,7 @@ impl Owner {
 
 /// Gives items their names, up to the first refusal.
 ///
-/// Behind a refusal nothing is named, so that who names items goes on, and looks for it once, at
+/// After a refusal nothing is named, so that who names items goes on, and looks for it once, at
 /// the end.
 #[derive(Drop)]
 pub struct Naming {

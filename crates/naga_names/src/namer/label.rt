@@ -163,7 +163,7 @@ fn is_separating(c: char) -> bool
     matches!(c, ':' | '<' | '>' | ',' | '_')
 }
 
-/// A character that no identifier has, behind a `_` unless it is the first one.
+/// A character that no identifier has, after a `_` unless it is the first one.
 fn push_foreign(text: &mut String, c: char) -> Result<(), AllocError>
     requires { is_foreign c ≡ true }
     ensures { OnOk result ((before : List ℕ) → string_bytes text.old ≡ spelling before →

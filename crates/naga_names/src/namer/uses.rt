@@ -71,7 +71,7 @@ impl Uses {
     }
 }
 
-/// The number behind this one, unless this is the greatest.
+/// The number after this one, unless this is the greatest.
 fn number_after(later: u32) -> Option<u32>
     ensures number { IfSome result (λ number. (number ≡ later + 1) × (number < 2 ^ 32)) }
     ensures none { IfNone result (later + 1 ≡ 2 ^ 32) }
@@ -79,7 +79,7 @@ fn number_after(later: u32) -> Option<u32>
     later.checked_add(1)
 }
 
-/// The base with `_` and the number behind it.
+/// The base with `_` and the number after it.
 fn numbered(alloc: Global, base: &str, number: u32) -> Result<String, AllocError>
     ensures { IfOk result (λ name. string_bytes name ≡ later_name base.now number) }
 {

@@ -45,7 +45,7 @@ pub fn type_fits(types: usize, overrides: usize, inner: &TypeInner) -> bool
     }
 }
 
-/// Whether each type stands behind the type that it names, and each override that a length names is
+/// Whether each type stands after the type that it names, and each override that a length names is
 /// one of the first `overrides`. Then the types are in order for each context.
 pub fn types_in_order(types: &UniqueArena<Type_>, overrides: usize) -> bool
     ensures arena { IsTrue result → IsInOrder (arena_context types.now) }

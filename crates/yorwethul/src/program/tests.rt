@@ -19,7 +19,7 @@ fn begins(written: &[u8], beginning: &str) -> bool {
     written.is_empty() == beginning.is_empty() && written.starts_with(beginning.as_bytes())
 }
 
-/// Whether this is told of the words behind the program's name.
+/// Whether this is told of the words after the program's name.
 fn words_give(rt: &HostRuntime, words: &[&str], told: Told) -> Result<bool, AllocError> {
     let mut texts = vec![in rt.alloc(); String::from_str(rt.alloc(), "yorwethul")?]?;
     for word in words {

@@ -1,4 +1,4 @@
-use Rattle.std.proofs.Common.{◌≡◌, ◌∙◌, sym}
+use Rattle.std.proofs.Common.{◌∙◌, sym}
 use Rattle.naga_scope.proofs.FormlessDeclarations.{by_fault, by_none, by_other, by_strides, of_members}
 use Rattle.naga_scope.proofs.declarations.formless_in_struct.Goals as goal
 

@@ -1,4 +1,4 @@
-use Rattle.std.proofs.Common.{[], ℕ, ◌≡◌, ◌<◌, ◌∙◌, List, Some, arith, ap, length, slice_get}
+use Rattle.std.proofs.Common.{[], ℕ, ◌≡◌, ◌∙◌, List, Some, arith, ap, length, slice_get}
 use Rattle.std.proofs.Common.{string_bytes, subst, sym}
 use Rattle.std.specs.Option.{option_map_or}
 use Rattle.naga_scope.specs.Availabilities.{TextPoint, handles_of}

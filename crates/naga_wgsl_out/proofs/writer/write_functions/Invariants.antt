@@ -8,7 +8,7 @@ invariant-loop-index g l =
     (g.W.TextSink.text l.initial.out) (g.W.TextSink.failures l.initial.out)
     l.namer (g.W.TextSink.text l.out) (g.W.TextSink.failures l.out)
 
--- where the functions that others may call stand behind a text, the entry points stand behind them
+-- where the functions that others may call stand after a text, the entry points stand after them
 abbrev pub invariant-loop-index-2 : goal.invariant-loop-index-2
 invariant-loop-index-2 g l =
     (content : List ℕ) (failed : ℕ) →

@@ -4,7 +4,7 @@ use Rattle.naga_ir.specs.StatementViews.{tree_of}
 use Rattle.naga_ir.proofs.Remaining.{none_behind}
 use Rattle.naga_ir.proofs.statement_operands.StatementOperandsIterator.next.Goals as goal
 
--- behind the last operand there is none
+-- after the last operand there is none
 pub returns-in-None-clause-steps : goal.returns-in-None-clause-steps
 returns-in-None-clause-steps c =
     let none =

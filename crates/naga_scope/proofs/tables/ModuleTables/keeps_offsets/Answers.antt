@@ -1,4 +1,4 @@
-use Rattle.std.proofs.Common.{◌≡◌, ◌∙◌, ap, subst, sym}
+use Rattle.std.proofs.Common.{◌∙◌, ap, subst, sym}
 use Rattle.std.specs.Option.{is_some}
 use Rattle.module_meaning.proofs.Layouts.{rules_alike}
 use Rattle.naga_layout.specs.Tables.{written_rule}

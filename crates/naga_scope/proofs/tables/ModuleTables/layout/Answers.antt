@@ -1,10 +1,7 @@
-use Rattle.std.proofs.Common.{◌≡◌, ◌∙◌, ap}
-use Rattle.std.specs.Option.{option_map}
-use Rattle.module_meaning.specs.Layouts.{layout_in, module_rule}
-use Rattle.naga_ir.specs.declared.module.Module.{Module}
+use Rattle.std.proofs.Common.{◌∙◌, ap}
+use Rattle.module_meaning.specs.Layouts.{module_rule}
 use Rattle.naga_layout.proofs.Left.{cell_aligned}
 use Rattle.naga_layout.specs.Tables.{cell_at}
-use Rattle.wgsl_layout.specs.Capped.{capped}
 use Rattle.naga_scope.specs.Tables.{Tables}
 use Rattle.naga_scope.proofs.tables.ModuleTables.layout.Goals as goal
 

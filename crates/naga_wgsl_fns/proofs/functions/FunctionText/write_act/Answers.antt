@@ -1,4 +1,4 @@
-use Rattle.std.proofs.Common.{◌∙◌, ◌≡◌, ap, subst, sym, refl, Option, Some, None, length, arith}
+use Rattle.std.proofs.Common.{◌∙◌, ◌≡◌, ap, subst, sym, refl, length, arith}
 use Rattle.std.specs.Option.{option_to_list}
 use Rattle.module_meaning.specs.Names.{module_names}
 use Rattle.naga_ir.specs.Operands.{own_operands, own_result}
@@ -10,7 +10,6 @@ use Rattle.shader_runs.specs.Scope.{after_result}
 use Rattle.naga_wgsl_fns.specs.FunctionText.{AreInText, bound, handles_in, named_in, naming, number}
 use Rattle.naga_wgsl_fns.specs.Statements.{act_text}
 use Rattle.naga_wgsl_fns.proofs.StatementRows.{act_after, act_changes, act_is, act_named, act_roots}
-use Rattle.naga_wgsl_fns.proofs.TextHandles.{outcome_inside}
 use Rattle.naga_wgsl_fns.proofs.functions.FunctionText.write_act.Goals as goal
 
 pub write_act_line-requires-clause-operands : goal.write_act_line-requires-clause-operands

@@ -1,0 +1,9 @@
+use Rattle.std.proofs.Common.{◌≡◌}
+use Rattle.naga_ir.specs.Operands.{own_operands}
+use Rattle.naga_ir.specs.StatementViews.{tree_of}
+use Rattle.naga_acceptance.specs.Counts.{with_uses}
+use Rattle.naga_acceptance.proofs.counts.add_own_uses.Given as goal
+
+abbrev pub invariant-loop-operand : goal.invariant-loop-operand
+invariant-loop-operand l =
+    with_uses l.infos l.operand-iterator ≡ with_uses l.initial.infos (own_operands (tree_of l.statement))
