@@ -8,10 +8,7 @@ use Rattle.naga_info.specs.declared.info.ModuleInfo.{ModuleInfo}
 use Rattle.naga_back.specs.declared.flags.WriterFlags.{WriterFlags}
 use Rattle.naga_back.specs.Flags.{annotates_types}
 use Rattle.naga_wgsl_fns.specs.declared.error.Error.{Error}
-use Rattle.module_meaning.specs.Bindings.{BindsAs}
-use Rattle.module_meaning.specs.Layouts.{KeepsLayouts}
-use Rattle.module_meaning.specs.Resolution.{ResolvesAs}
-use Rattle.naga_wgsl_out.specs.Headline.{EachReading, FaithfulWriting}
+use Rattle.naga_wgsl_out.specs.Headline.{EachReading, FaithfulWriting, MatchesModule}
 use Rattle.module_limits.specs.Nesting.{nested_past}
 use Rattle.module_limits.specs.declared.limits.Limits.{Limits}
 use Rattle.module_meaning.specs.Accepted.{is_accepted}
@@ -32,18 +29,16 @@ whole_is_longer flags m info bound (Err error) content now empty appends behind 
 
 -- all that is promised of a text, under other names of the same
 text_within : (m : Module) (info : ModuleInfo) (bound : ℕ) (own flags : WriterFlags) (content held text : List ℕ) → own ≡ flags → content ≡ [] → text ≡ held →
-    FaithfulWriting own m info (Ok tt) content held 0 0 → EachReading content held (ResolvesAs m info) →
-    EachReading content held (BindsAs m info (annotates_types own)) → EachReading content held (KeepsLayouts m) →
+    FaithfulWriting own m info (Ok tt) content held 0 0 →
+    EachReading content held (MatchesModule (annotates_types own) m info) →
     held ≡ content ++ written_text m info own → length text ≤ bound → IsTextWithin flags bound m info text
-text_within m info bound own flags content held text same empty is faithful resolves binds lays appends within =
+text_within m info bound own flags content held text same empty is faithful matches appends within =
     let back = sym is in
     record {
       is = is ∙ appends ∙ (λ i. empty i ++ written_text m info (same i));
       within = within;
       faithful = subst (λ t. FaithfulWriting flags m info (Ok tt) [] t 0 0) back (subst (λ f. FaithfulWriting f m info (Ok tt) [] held 0 0) same (subst (λ c. FaithfulWriting own m info (Ok tt) c held 0 0) empty faithful));
-      resolution = subst (λ t. EachReading [] t (ResolvesAs m info)) back (subst (λ c. EachReading c held (ResolvesAs m info)) empty resolves);
-      bindings = subst (λ t. EachReading [] t (BindsAs m info (annotates_types flags))) back (subst (λ f. EachReading [] held (BindsAs m info (annotates_types f))) same (subst (λ c. EachReading c held (BindsAs m info (annotates_types own))) empty binds));
-      layouts = subst (λ t. EachReading [] t (KeepsLayouts m)) back (subst (λ c. EachReading c held (KeepsLayouts m)) empty lays);
+      matches = subst (λ t. EachReading [] t (MatchesModule (annotates_types flags) m info)) back (subst (λ f. EachReading [] held (MatchesModule (annotates_types f) m info)) same (subst (λ c. EachReading c held (MatchesModule (annotates_types own) m info)) empty matches));
     }
 
 -- what is told of the writer's answer is so of the module: the writer had these flags, and its sink
@@ -52,27 +47,23 @@ pub answers_bounded : {Y : Type 0} (flags own : WriterFlags) (m : Module) (info 
     (result : Result (String Y) LimitedError) →
     own ≡ flags → content ≡ [] → before ≡ 0 → now ≡ held →
     FaithfulWriting own m info answer content held before after →
-    OnOk answer (EachReading content held (ResolvesAs m info)) →
-    OnOk answer (EachReading content held (BindsAs m info (annotates_types own))) →
-    OnOk answer (EachReading content held (KeepsLayouts m)) →
+    OnOk answer (EachReading content held (MatchesModule (annotates_types own) m info)) →
     AppendsItsText m info own answer content held →
     OnErr answer (IsBehind content (written_text m info own) held) →
     TellsBounded bound answer now result → AnswersBounded flags bound m info result
-answers_bounded flags own m info bound answer content held now before after (Ok text) same empty none taken faithful resolves binds lays appends behind tells =
+answers_bounded flags own m info bound answer content held now before after (Ok text) same empty none taken faithful matches appends behind tells =
     let P : Result Unit Error → Type 0 = λ a. FaithfulWriting own m info a content held before after in
     let f : FaithfulWriting own m info (Ok tt) content held before after = subst P tells.0 faithful in
     let whole : FaithfulWriting own m info (Ok tt) content held 0 0 = record { refusals = f.refusals; reading = f.reading; interface = f.interface; runs = f.runs } in
     let is : string_bytes text ≡ held = tells.1 ∙ taken in
     text_within m info bound own flags content held (string_bytes text) same empty is whole
-    (subst (λ a. OnOk a (EachReading content held (ResolvesAs m info))) tells.0 resolves)
-    (subst (λ a. OnOk a (EachReading content held (BindsAs m info (annotates_types own)))) tells.0 binds)
-    (subst (λ a. OnOk a (EachReading content held (KeepsLayouts m))) tells.0 lays)
+    (subst (λ a. OnOk a (EachReading content held (MatchesModule (annotates_types own) m info))) tells.0 matches)
     (subst (λ a. AppendsItsText m info own a content held) tells.0 appends)
     (subst (λ t. length t ≤ bound) (sym tells.1) tells.2)
-answers_bounded flags own m info bound answer content held now before after (Err limited.TooLong) same empty none taken faithful resolves binds lays appends behind tells =
+answers_bounded flags own m info bound answer content held now before after (Err limited.TooLong) same empty none taken faithful matches appends behind tells =
     subst (λ f. bound < length (written_text m info f)) same
     (whole_is_longer own m info bound answer content held empty appends behind (omega (arith, tells, ap length taken)))
-answers_bounded flags own m info bound answer content held now before after (Err (limited.Refused error)) same empty none taken faithful resolves binds lays appends behind tells =
+answers_bounded flags own m info bound answer content held now before after (Err (limited.Refused error)) same empty none taken faithful matches appends behind tells =
     record {
       beginning = held;
       failures = after;
@@ -83,8 +74,8 @@ answers_bounded flags own m info bound answer content held now before after (Err
           (subst (λ c. FaithfulWriting own m info (Err error) c held before after) empty
           (subst (λ a. FaithfulWriting own m info a content held before after) tells.0 faithful)));
     }
-answers_bounded flags own m info bound answer content held now before after (Err (limited.TooDeep nested)) same empty none taken faithful resolves binds lays appends behind tells = absurd tells
-answers_bounded flags own m info bound answer content held now before after (Err (limited.NotAccepted fault)) same empty none taken faithful resolves binds lays appends behind tells = absurd tells
+answers_bounded flags own m info bound answer content held now before after (Err (limited.TooDeep nested)) same empty none taken faithful matches appends behind tells = absurd tells
+answers_bounded flags own m info bound answer content held now before after (Err (limited.NotAccepted fault)) same empty none taken faithful matches appends behind tells = absurd tells
 
 -- and so it is of one that was asked for first, and counted
 pub answers_within : {Y : Type 0} (flags : WriterFlags) (limits : Limits) (m : Module) (old new : ModuleInfo) (result : Result (String Y) LimitedError) →

@@ -20,10 +20,7 @@ use Rattle.wgsl_text.specs.Reading.{Reads, HasOneReading}
 use Rattle.wgsl_text.specs.Text.{tokens}
 use Rattle.wgsl_text.proofs.Reading.{program_has_one_reading}
 use Rattle.module_meaning.specs.Faithful.{HasInterfaceOf, RunsAs}
-use Rattle.module_meaning.specs.Bindings.{BindsAs}
-use Rattle.module_meaning.specs.Layouts.{KeepsLayouts}
 use Rattle.naga_form.proofs.Bindings.{binds_as}
-use Rattle.module_meaning.specs.Resolution.{ResolvesAs}
 use Rattle.naga_form.proofs.Runs.{runs_as}
 use Rattle.naga_words.specs.Sink.{IsBehind}
 use Rattle.naga_words.proofs.Writing.{behind_then}
@@ -37,7 +34,7 @@ use Rattle.naga_back.specs.declared.flags.WriterFlags.{WriterFlags}
 use Rattle.naga_back.specs.Flags.{annotates_types}
 use Rattle.naga_wgsl_out.specs.Writing.{HasPlan, MetNoPlan, WritesFunctions, WroteFunctions}
 use Rattle.naga_wgsl_out.specs.Writing.{WroteFunctionsBefore, front_text, lines_before, module_lines}
-use Rattle.naga_wgsl_out.specs.Writing.{written_text}
+use Rattle.naga_wgsl_out.specs.Writing.{AppendsItsText, written_text}
 use Rattle.naga_wgsl_out.proofs.Functions.{lines_behind, lines_split, written_lines}
 use Rattle.naga_wgsl_out.proofs.ModuleScopes.{all_planned_counted, all_planned_formed, all_planned_hold}
 use Rattle.naga_wgsl_out.proofs.ModuleScopes.{fault_refuses, fault_reported}
@@ -46,16 +43,53 @@ use Rattle.naga_wgsl_out.specs.ModuleRefusals.{ComesBeforeText, HasAllNames, IsN
 use Rattle.naga_wgsl_out.specs.ModuleRefusals.{ItemsAreFull}
 use Rattle.naga_wgsl_out.specs.ModuleRefusals.{IsRefusal, NamerIsFull, TellsOfFunction}
 use Rattle.naga_wgsl_out.proofs.ExpressionNames.{none_past}
-use Rattle.naga_wgsl_out.specs.Headline.{EachReading, FaithfulWriting}
+use Rattle.naga_wgsl_out.proofs.ReportedNames.{keys_come_first}
+use Rattle.naga_wgsl_out.specs.Headline.{EachReading, FaithfulWriting, MatchesModule}
+use Rattle.naga_wgsl_out.specs.Leaving.{Leaves, LeavesOnError}
+use Rattle.naga_wgsl_out.specs.Unwritable.{TellsFirst}
 
 -- where nothing was written
-pub behind_nothing : (content piece : List ℕ) → IsBehind content piece content
+behind_nothing : (content piece : List ℕ) → IsBehind content piece content
 behind_nothing content piece = ([], piece, refl, sym (append-nil content))
 
-pub refused_behind_nothing : (r : Result Unit Error) (content piece : List ℕ) →
-    OnErr r (IsBehind content piece content)
-refused_behind_nothing (Ok x) content piece = tt
-refused_behind_nothing (Err e) content piece = behind_nothing content piece
+-- what an error leaves: where it tells that a key is out of range it comes before any text
+on_error : (flags : WriterFlags) (m : Module) (info : ModuleInfo) (error : Error)
+    (content now : List ℕ) (before after : ℕ) →
+    IsBehind content (written_text m info flags) now → (ComesBeforeText m error → now ≡ content) →
+    (TellsOfFunction m error →
+    WroteFunctionsBefore m info flags (content ++ front_text m info flags) now) →
+    (TellsOfModule error → after ≡ before) →
+    (TellsOfModule error → TellsFirst (annotates_types flags) m info error) →
+    LeavesOnError flags m info error content now before after
+on_error flags m info error content now before after behind untouched written_before unfailed told =
+    record {
+      behind = behind;
+      untouched = untouched;
+      keys = λ of. untouched (keys_come_first m error of);
+      written_before = written_before;
+      unfailed = unfailed;
+      told = told;
+    }
+
+-- an error that tells of no function leaves the sink as it was, where nothing was written
+pub leaves_untouched : (flags : WriterFlags) (m : Module) (info : ModuleInfo) (content : List ℕ)
+    (failed : ℕ) (r : Result Unit Error) (error : Error) → IsErrAnd r (λ e. e ≡ error) →
+    (TellsOfFunction m error → ⊥) →
+    (TellsOfModule error → TellsFirst (annotates_types flags) m info error) →
+    Leaves flags m info r content content failed failed
+leaves_untouched flags m info content failed (Ok x) error is none told = refl
+leaves_untouched flags m info content failed (Err e) error is none told =
+    subst (λ e. LeavesOnError flags m info e content content failed failed) (sym is)
+    (on_error flags m info error content content failed failed (behind_nothing content _)
+    (λ first. refl) (λ of. absurd (none of)) (λ of. refl) told)
+
+-- it leaves a beginning of the text
+pub leaves_beginning : (flags : WriterFlags) (m : Module) (info : ModuleInfo)
+    (r : Result Unit Error) (content now : List ℕ) (before after : ℕ) →
+    Leaves flags m info r content now before after →
+    OnErr r (IsBehind content (written_text m info flags) now)
+leaves_beginning flags m info (Ok x) content now before after leaves = tt
+leaves_beginning flags m info (Err e) content now before after leaves = leaves.behind
 
 -- a refusal
 pub refused : (flags : WriterFlags) (m : Module) (info : ModuleInfo) (error : Error)
@@ -135,16 +169,9 @@ module _ (m : Module) (info : ModuleInfo) (flags : WriterFlags)
   pub record Concludes (r : Result Unit Error) (content now : List ℕ) (before after : ℕ) : Type 0
     where
       pub is_faithful : FaithfulWriting flags m info r content now before after
-      pub resolved : OnOk r (EachReading content now (ResolvesAs m info))
-      pub binds : OnOk r (EachReading content now (BindsAs m info explicit))
-      pub layouts : OnOk r (EachReading content now (KeepsLayouts m))
-      pub text_ok : OnOk r (now ≡ content ++ written_text m info flags)
-      pub text_err : OnErr r (IsBehind content (written_text m info flags) now)
-      pub untouched : IfErr r (λ e. ComesBeforeText m e → now ≡ content)
-      pub written_before : IfErr r (λ e. TellsOfFunction m e →
-          WroteFunctionsBefore m info flags (content ++ front) now)
-      pub unfailed : IfErr r (λ e. TellsOfModule e → after ≡ before)
-      pub failures_ok : OnOk r (after ≡ before)
+      pub matches : OnOk r (EachReading content now (MatchesModule explicit m info))
+      pub text : AppendsItsText m info flags r content now
+      pub leaves : Leaves flags m info r content now before after
 
   -- each label has a name
   none_reported : AllPlanned → NamerIsFull m → ⊥
@@ -165,17 +192,15 @@ module _ (m : Module) (info : ModuleInfo) (flags : WriterFlags)
     stopped e s = record {
       is_faithful = refused flags m info e content now before after
           (for_want explicit m info e before after s.reason);
-      resolved = tt;
-      binds = tt;
-      layouts = tt;
-      text_ok = tt;
-      text_err = subst (λ t. IsBehind content t now) same_text s.behind;
-      untouched = λ first. absurd (want_tells_nothing e before after s.reason first.0);
-      written_before = λ reported.
-          absurd (want_tells_nothing e before after s.reason
-          (function_tells_of_module m e reported));
-      unfailed = λ tells. absurd (want_tells_nothing e before after s.reason tells);
-      failures_ok = tt;
+      matches = tt;
+      text = tt;
+      leaves =
+          let none : TellsOfModule e → ⊥ = want_tells_nothing e before after s.reason in
+          on_error flags m info e content now before after
+          (subst (λ t. IsBehind content t now) same_text s.behind)
+          (λ first. absurd (none first.0))
+          (λ of. absurd (none (function_tells_of_module m e of)))
+          (λ of. absurd (none of)) (λ of. absurd (none of));
     }
 
     -- in front of the functions
@@ -217,46 +242,42 @@ module _ (m : Module) (info : ModuleInfo) (flags : WriterFlags)
               runs = reading (RunsAs m info)
                   (runs_as m info flags accepted declarations have rules);
             };
-            resolved = reading (ResolvesAs m info)
-                (resolves m info flags accepted declarations have rules);
-            binds = reading (BindsAs m info explicit) (binds_as m info flags accepted declarations have);
-            layouts = reading (KeepsLayouts m) told.layouts;
-            text_ok = appended;
-            text_err = tt;
-            untouched = tt;
-            written_before = tt;
-            unfailed = tt;
-            failures_ok = whole.kept;
+            matches = reading (MatchesModule explicit m info) (record {
+              resolution = resolves m info flags accepted declarations have rules;
+              bindings = binds_as m info flags accepted declarations have;
+              layouts = told.layouts;
+            });
+            text = appended;
+            leaves = whole.kept;
           }
 
       met_no_plan : (e : Error) → MetNoPlan m info flags middle among now after e →
+          (TellsOfModule e → TellsFirst explicit m info e) →
           Concludes (Err e) content now before after
-      met_no_plan e s = record {
+      met_no_plan e s first_told = record {
         is_faithful = refused flags m info e content now before after
             (fault_refuses explicit m info s.before.handle before after e s.tells s.fault);
-        resolved = tt;
-        binds = tt;
-        layouts = tt;
-        text_ok = tt;
-        text_err = subst (λ t. IsBehind content t now) same_text
+        matches = tt;
+        text = tt;
+        leaves =
+            on_error flags m info e content now before after
+            (subst (λ t. IsBehind content t now) same_text
             (behind_then content front middle (module_lines m info flags) now stands.appended (
               lines_before m info flags s.before.handle,
               lines_behind m info flags s.before.handle,
               sym (lines_split m info flags s.before.handle),
               s.before.written,
-            ));
-        untouched = λ first.
-            absurd (first.1
-            (fault_reported explicit m info s.before.handle declarations has.nameable e s.tells s.fault));
-        written_before = λ reported.
-            subst (λ t. WroteFunctionsBefore m info flags t now) stands.appended s.before;
-        unfailed = λ tells. s.kept ∙ stands.kept;
-        failures_ok = tt;
+            )))
+            (λ first. absurd (first.1
+            (fault_reported explicit m info s.before.handle declarations has.nameable e s.tells s.fault)))
+            (λ of. subst (λ t. WroteFunctionsBefore m info flags t now) stands.appended s.before)
+            (λ of. s.kept ∙ stands.kept) first_told;
       }
 
       pub concludes : (r : Result Unit Error) →
           WritesFunctions m info flags r middle among now after →
+          IfErr r (λ e. TellsOfModule e → TellsFirst explicit m info e) →
           Concludes r content now before after
-      concludes (Ok _) w = wrote w
-      concludes (Err e) (inl s) = stopped e (stopped_then stands s)
-      concludes (Err e) (inr s) = met_no_plan e s
+      concludes (Ok _) w told = wrote w
+      concludes (Err e) (inl s) told = stopped e (stopped_then stands s)
+      concludes (Err e) (inr s) told = met_no_plan e s told

@@ -3,7 +3,7 @@ use Rattle.std.proofs.Common.{◌≡◌, ◌∙◌, ◌<◌, ℕ, zero, suc, Boo
 use Rattle.std.proofs.Common.{ap, arith, inl, inr, nat_eq, not, refl, slice_index_or, subst, sym}
 use Rattle.std.proofs.lemmas.Bool.{and_parts, false≢true}
 use Rattle.std.specs.List.{list_all}
-use Rattle.std.specs.Prelude.{◌⊎◌, Err, IfErr, IsErrAnd, Ok, Result, get_or, string_bytes}
+use Rattle.std.specs.Prelude.{◌⊎◌, get_or, string_bytes}
 use Rattle.naga_ir.specs.declared.module.Module.{Module}
 use Rattle.naga_wgsl_fns.specs.Refusals.{TellsOfForm, TellsOfFullNamer, TellsOfScope, custom_texts}
 use Rattle.naga_wgsl_fns.specs.Refusals.{unimplemented_texts}
@@ -71,7 +71,7 @@ keys_tell_of_none m (Custom message) told of =
 keys_tell_of_none m _ told of = absurd told
 
 -- why the items get no names tells of no function
-tells_of_none : (m : Module) (error : Error) → IsNamesRefusal m error → TellsOfFunction m error → ⊥
+pub tells_of_none : (m : Module) (error : Error) → IsNamesRefusal m error → TellsOfFunction m error → ⊥
 tells_of_none m (Custom message) (inl reported) of =
     (tells_of_labels m (Custom message) (ap begins reported.0) of).1 reported.1
 tells_of_none m (Custom message) (inr reported) of =
@@ -86,18 +86,6 @@ tells_of_none m (Memory e) refusal of = by of.tells
 tells_of_none m _ refusal of = absurd refusal
 
 -- a key that is out of range is told before any text
-keys_come_first : (m : Module) (error : Error) → TellsOfKeys error → ComesBeforeText m error
+pub keys_come_first : (m : Module) (error : Error) → TellsOfKeys error → ComesBeforeText m error
 keys_come_first m (Custom message) told = (tt, keys_tell_of_none m (Custom message) told)
 keys_come_first m _ told = absurd told
-
-pub keys_untouched : (m : Module) (r : Result Unit Error) (P : Type 0) →
-    IfErr r (λ e. ComesBeforeText m e → P) → IfErr r (λ e. TellsOfKeys e → P)
-keys_untouched m (Ok u) P first = tt
-keys_untouched m (Err e) P first = λ told. first (keys_come_first m e told)
-
-pub names_tell_of_none : (m : Module) (P : Type 0) (r : Result Unit Error) (error : Error) →
-    IsErrAnd r (λ e. e ≡ error) → IsNamesRefusal m error →
-    IfErr r (λ e. TellsOfFunction m e → P)
-names_tell_of_none m P (Err e) error reported refusal =
-    λ of. absurd (tells_of_none m e (subst (IsNamesRefusal m) (sym reported) refusal) of)
-names_tell_of_none m P (Ok u) error reported refusal = absurd reported

@@ -1,14 +1,17 @@
 -- Faithful writing: what is promised of each call that writes an accepted module.
 --
 -- Throughout, m is the module, and flags say how it is written.
-use Rattle.std.specs.Prelude.{◌≡◌, ℕ, List, [], ◌++◌, string_bytes, Result, Ok, Err, OnOk}
+use Rattle.std.specs.Prelude.{◌≡◌, ℕ, Bool, List, [], ◌++◌, string_bytes, Result, Ok, Err, OnOk}
 use Rattle.std.specs.declared.string.String.{String}
 use Rattle.naga_ir.specs.declared.module.Module.{Module}
 use Rattle.naga_info.specs.declared.info.ModuleInfo.{ModuleInfo}
 use Rattle.wgsl_text.specs.Reading.{Reads, HasOneReading}
 use Rattle.wgsl_text.specs.Text.{tokens}
 use Rattle.wgsl_text.specs.Declarations.{Program}
+use Rattle.module_meaning.specs.Bindings.{BindsAs}
 use Rattle.module_meaning.specs.Faithful.{HasInterfaceOf, RunsAs}
+use Rattle.module_meaning.specs.Layouts.{KeepsLayouts}
+use Rattle.module_meaning.specs.Resolution.{ResolvesAs}
 use Rattle.naga_wgsl_fns.specs.declared.error.Error.{Error}
 use Rattle.naga_wgsl_out.specs.ModuleRefusals.{RefusesOnlyFor}
 use Rattle.naga_back.specs.declared.flags.WriterFlags.{WriterFlags}
@@ -42,6 +45,18 @@ pub record FaithfulWriting (flags : WriterFlags) (m : Module) (info : ModuleInfo
   -- that in every world, under every typed meaning of operators and every bound on loop turns makes
   -- the module's events, operands and result.
   pub runs : OnOk answer (EachReading content now (RunsAs m info))
+
+-- what else such a program has of the module; explicit says whether `let`s tell types
+pub record MatchesModule (explicit : Bool) (m : Module) (info : ModuleInfo) (program : Program)
+    : Type 0 where
+  -- each identifier stands for the item that it was written for
+  pub resolution : ResolvesAs m info program
+  -- the `let`s are those of the emitted expressions that are to be bound, and tell the types of
+  -- these if that is asked for
+  pub bindings : BindsAs m info explicit program
+  -- WGSL's rules, by the program's own structs, leave the members of each struct that is concerned
+  -- at the module's offsets, and give it the module's span, where that can be
+  pub layouts : KeepsLayouts m program
 
 -- the answer of a call that makes a string of its own, and the string
 abbrev pub answer_of : {Y : Type 0} → Result (String Y) Error → Result Unit Error

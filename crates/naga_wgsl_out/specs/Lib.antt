@@ -10,3 +10,4 @@ pub mod Items
 pub mod Structs
 pub mod Variables
 pub mod Unwritable
+pub mod Leaving

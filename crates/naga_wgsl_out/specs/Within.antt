@@ -8,9 +8,6 @@ use Rattle.std.specs.declared.string.String.{String}
 use Rattle.module_limits.specs.Nesting.{nested_past}
 use Rattle.module_limits.specs.declared.limits.Limits.{Limits}
 use Rattle.module_meaning.specs.Accepted.{is_accepted}
-use Rattle.module_meaning.specs.Bindings.{BindsAs}
-use Rattle.module_meaning.specs.Layouts.{KeepsLayouts}
-use Rattle.module_meaning.specs.Resolution.{ResolvesAs}
 use Rattle.naga_acceptance.specs.Faults.{Fails}
 use Rattle.naga_back.specs.Flags.{annotates_types}
 use Rattle.naga_back.specs.declared.flags.WriterFlags.{WriterFlags}
@@ -19,7 +16,7 @@ use Rattle.naga_ir.specs.declared.module.Module.{Module}
 use Rattle.naga_wgsl_fns.specs.declared.error.Error.{Error}
 use Rattle.naga_wgsl_fns.specs.declared.error.Error.TheVariants.{Memory}
 use Rattle.naga_wgsl_out.specs.Checked.{IsCounted}
-use Rattle.naga_wgsl_out.specs.Headline.{EachReading, FaithfulWriting}
+use Rattle.naga_wgsl_out.specs.Headline.{EachReading, FaithfulWriting, MatchesModule}
 use Rattle.naga_wgsl_out.specs.Writing.{written_text}
 use Rattle.naga_wgsl_out.specs.declared.within.LimitedError.{LimitedError}
 use Rattle.naga_wgsl_out.specs.declared.within.LimitedError.TheVariants as limited
@@ -30,9 +27,7 @@ pub record IsTextWithin (flags : WriterFlags) (bound : ℕ) (m : Module) (info :
   pub is : text ≡ written_text m info flags
   pub within : length text ≤ bound
   pub faithful : FaithfulWriting flags m info (Ok tt) [] text 0 0
-  pub resolution : EachReading [] text (ResolvesAs m info)
-  pub bindings : EachReading [] text (BindsAs m info (annotates_types flags))
-  pub layouts : EachReading [] text (KeepsLayouts m)
+  pub matches : EachReading [] text (MatchesModule (annotates_types flags) m info)
 
 -- the writer refused the module, or memory was wanting, after a text that was not too long
 pub record IsRefusedWithin (flags : WriterFlags) (bound : ℕ) (m : Module) (info : ModuleInfo)

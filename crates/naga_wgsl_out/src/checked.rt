@@ -3,13 +3,11 @@
 ghost use Rattle.std.specs.Prelude.{◌≡◌, [], OnOk};
 ghost use Rattle.std.specs.Option.{IfSome, is_none};
 ghost use Rattle.module_meaning.specs.Accepted.{is_accepted};
-ghost use Rattle.module_meaning.specs.Bindings.{BindsAs};
-ghost use Rattle.module_meaning.specs.Layouts.{KeepsLayouts};
-ghost use Rattle.module_meaning.specs.Resolution.{ResolvesAs};
 ghost use Rattle.naga_acceptance.specs.Faults.{Fails};
 ghost use Rattle.naga_back.specs.Flags.{annotates_types};
 ghost use Rattle.naga_wgsl_out.specs.Checked.{IsCounted, fault_of, written_of};
-ghost use Rattle.naga_wgsl_out.specs.Headline.{EachReading, FaithfulWriting, answer_of, text_of};
+ghost use Rattle.naga_wgsl_out.specs.Headline.{EachReading, FaithfulWriting, MatchesModule};
+ghost use Rattle.naga_wgsl_out.specs.Headline.{answer_of, text_of};
 ghost use Rattle.naga_wgsl_out.specs.Writing.{written_text};
 
 use crate::writer::write_string;
@@ -60,12 +58,9 @@ pub fn write_checked(
         (λ _. IsCounted «module».now info.old info.new) }
     ensures faithful { IfSome (written_of result) (λ r.
         FaithfulWriting flags «module».now info.new (answer_of r) [] (text_of r) 0 0) }
-    ensures resolution { IfSome (written_of result) (λ r. OnOk (answer_of r)
-        (EachReading [] (text_of r) (ResolvesAs «module».now info.new))) }
-    ensures bindings { IfSome (written_of result) (λ r. OnOk (answer_of r)
-        (EachReading [] (text_of r) (BindsAs «module».now info.new (annotates_types flags)))) }
-    ensures layouts { IfSome (written_of result) (λ r. OnOk (answer_of r)
-        (EachReading [] (text_of r) (KeepsLayouts «module».now))) }
+    ensures matches { IfSome (written_of result) (λ r. OnOk (answer_of r)
+        (EachReading [] (text_of r)
+        (MatchesModule (annotates_types flags) «module».now info.new))) }
     ensures text { IfSome (written_of result) (λ r. OnOk (answer_of r)
         (text_of r ≡ written_text «module».now info.new flags)) }
 {

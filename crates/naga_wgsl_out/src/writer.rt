@@ -1,32 +1,29 @@
 //! The writer of modules.
 
-ghost use Rattle.std.specs.Prelude.{◌≡◌, ◌++◌, [], IfErr, IfOk, IsTrue, OnErr, OnOk};
+ghost use Rattle.std.specs.Prelude.{◌≡◌, [], IfErr, IfOk, IsTrue, OnOk};
 ghost use Rattle.std.specs.Prelude.{string_bytes};
 ghost use Rattle.module_meaning.specs.Accepted.{is_accepted};
 ghost use Rattle.module_meaning.specs.DeclarationForms.{DeclarationsHaveForms};
 ghost use Rattle.module_meaning.specs.FunctionNumbers.{IsFunctionOf, function_number};
 ghost use Rattle.naga_names.specs.Keys.{names_in};
-ghost use Rattle.module_meaning.specs.Layouts.{KeepsLayouts};
-ghost use Rattle.naga_words.specs.Sink.{IsBehind};
 ghost use Rattle.naga_names.specs.Refusal.{IsResetRefusal};
 ghost use Rattle.module_meaning.specs.Names.{HasNamesOf, wgsl_names};
-ghost use Rattle.module_meaning.specs.Resolution.{ResolvesAs};
-ghost use Rattle.module_meaning.specs.Bindings.{BindsAs};
 ghost use Rattle.naga_scope.specs.Plans.{AreExpressionNames, IsPlanOf};
 ghost use Rattle.naga_scope.specs.Tables.{AreTablesOf};
 ghost use Rattle.naga_wgsl_fns.specs.Appends.{Appends};
 ghost use Rattle.naga_back.specs.Flags.{annotates_types};
-ghost use Rattle.naga_wgsl_out.specs.Headline.{EachReading, FaithfulWriting, answer_of, text_of};
+ghost use Rattle.naga_wgsl_out.specs.Headline.{EachReading, FaithfulWriting, MatchesModule};
+ghost use Rattle.naga_wgsl_out.specs.Headline.{answer_of, text_of};
+ghost use Rattle.naga_wgsl_out.specs.Leaving.{Leaves};
 ghost use Rattle.naga_wgsl_fns.specs.Items.{HasNamedItemsOf};
 ghost use Rattle.naga_wgsl_fns.specs.ModuleText.{CanWriteOf};
 ghost use Rattle.naga_wgsl_fns.specs.Refusals.{TellsOfModule};
-ghost use Rattle.naga_wgsl_out.specs.ModuleRefusals.{ComesBeforeText, HasAllNames};
-ghost use Rattle.naga_wgsl_out.specs.ModuleRefusals.{HasNamedBefore, IsNamesRefusal};
-ghost use Rattle.naga_wgsl_out.specs.ModuleRefusals.{TellsOfFunction, TellsOfKeys};
+ghost use Rattle.naga_wgsl_out.specs.ModuleRefusals.{HasAllNames, HasNamedBefore};
+ghost use Rattle.naga_wgsl_out.specs.ModuleRefusals.{IsNamesRefusal};
 ghost use Rattle.naga_wgsl_out.specs.Unwritable.{TellsFirst, TellsRefusalOf};
 ghost use Rattle.naga_wgsl_out.specs.Writing.{WritesFunctions, WritesNext, Writing};
-ghost use Rattle.naga_wgsl_out.specs.Writing.{WroteFunctionsBefore, front_text, line_at};
-ghost use Rattle.naga_wgsl_out.specs.Writing.{AppendsItsText, line_behind, written_text};
+ghost use Rattle.naga_wgsl_out.specs.Writing.{AppendsItsText, front_text, line_at, line_behind};
+ghost use Rattle.naga_wgsl_out.specs.Writing.{written_text};
 
 use crate::declarations::write_declarations;
 use crate::enables::write_enables;
@@ -124,37 +121,13 @@ impl<W: TextSink> Writer<W> {
             result
             (W.text self.old.sink) (W.text self.new.sink)
             (W.failures self.old.sink) (W.failures self.new.sink) }
-        // Each identifier of the text stands for the item that it was written for.
-        ensures resolution { OnOk result (EachReading (W.text self.old.sink) (W.text self.new.sink)
-            (ResolvesAs «module».now info.now)) }
-        // Its `let`s are those of the emitted expressions that are to be bound, and tell the types
-        // of these if the flags ask for it.
-        ensures bindings { OnOk result (EachReading (W.text self.old.sink) (W.text self.new.sink)
-            (BindsAs «module».now info.now (annotates_types self.old.flags))) }
-        // WGSL's rules, by the text's own structs, leave the members of each struct that is
-        // concerned at the module's offsets, and give it the module's span, where that can be.
-        ensures layouts { OnOk result (EachReading (W.text self.old.sink) (W.text self.new.sink)
-            (KeepsLayouts «module».now)) }
-        ensures text_ok { AppendsItsText «module».now info.now self.old.flags result
+        ensures matches { OnOk result (EachReading (W.text self.old.sink) (W.text self.new.sink)
+            (MatchesModule (annotates_types self.old.flags) «module».now info.now)) }
+        ensures text { AppendsItsText «module».now info.now self.old.flags result
             (W.text self.old.sink) (W.text self.new.sink) }
-        ensures text_err { OnErr result (IsBehind (W.text self.old.sink)
-            (written_text «module».now info.now self.old.flags) (W.text self.new.sink)) }
-        ensures failures_ok { OnOk result (W.failures self.new.sink ≡ W.failures self.old.sink) }
-        ensures untouched { IfErr result (λ e. ComesBeforeText «module».now e →
-            W.text self.new.sink ≡ W.text self.old.sink) }
-        // A key that is out of range is told in front of any text.
-        ensures keys { IfErr result (λ e. TellsOfKeys e →
-            W.text self.new.sink ≡ W.text self.old.sink) }
-        // What stands in front of the function that is refused.
-        ensures written_before { IfErr result (λ e. TellsOfFunction «module».now e →
-            WroteFunctionsBefore «module».now info.now self.old.flags
-            (W.text self.old.sink ++ front_text «module».now info.now self.old.flags)
-            (W.text self.new.sink)) }
-        ensures unfailed { IfErr result (λ e. TellsOfModule e →
-            W.failures self.new.sink ≡ W.failures self.old.sink) }
-        // A refusal names a construct that stands in the module, and is the first that is found.
-        ensures told { IfErr result (λ e. TellsOfModule e →
-            TellsFirst (annotates_types self.old.flags) «module».now info.now e) }
+        ensures leaves { Leaves self.old.flags «module».now info.now result
+            (W.text self.old.sink) (W.text self.new.sink)
+            (W.failures self.old.sink) (W.failures self.new.sink) }
         ensures flags { self.new.flags ≡ self.old.flags }
     {
         let tables = ModuleTables::of(self.alloc, module)?;
@@ -392,12 +365,8 @@ pub fn write_string(
     ensures faithful { FaithfulWriting flags «module».now info.now
         (answer_of result)
         [] (text_of result) 0 0 }
-    ensures resolution { OnOk (answer_of result) (EachReading [] (text_of result)
-        (ResolvesAs «module».now info.now)) }
-    ensures bindings { OnOk (answer_of result) (EachReading [] (text_of result)
-        (BindsAs «module».now info.now (annotates_types flags))) }
-    ensures layouts { OnOk (answer_of result) (EachReading [] (text_of result)
-        (KeepsLayouts «module».now)) }
+    ensures matches { OnOk (answer_of result) (EachReading [] (text_of result)
+        (MatchesModule (annotates_types flags) «module».now info.now)) }
     ensures text { IfOk result (λ text.
         string_bytes text ≡ written_text «module».now info.now flags) }
     ensures told { IfErr result (λ e. TellsOfModule e →

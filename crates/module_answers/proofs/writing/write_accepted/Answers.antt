@@ -1,6 +1,7 @@
 use Rattle.std.proofs.Common.{subst, sym}
 use Rattle.std.specs.Prelude.{OnErr}
 use Rattle.naga_words.specs.Sink.{IsBehind}
+use Rattle.naga_wgsl_out.proofs.Faithful.{leaves_beginning}
 use Rattle.naga_wgsl_out.specs.Headline.{FaithfulWriting}
 use Rattle.naga_wgsl_out.specs.Writing.{written_text}
 use Rattle.module_answers.proofs.writing.write_accepted.Goals as goal
@@ -43,4 +44,4 @@ returns-clause-beginning g c =
     (subst
     (λ now. OnErr answer (IsBehind (text c.new-writer.result.sink) (written_text m info c.new-writer.result.flags) (text now)))
     (sym c.finish-sink.ensures)
-    c.write-answer.ensures.text_err))
+    (leaves_beginning _ m info answer _ _ _ _ c.write-answer.ensures.leaves)))

@@ -1,0 +1,39 @@
+-- What a call of the writer leaves in its sink, and what its error tells.
+--
+-- Throughout, m is the module, flags say how it is written, the sink held content before the call and
+-- holds now after it, and it had failed so often before and has failed so often after.
+use Rattle.std.specs.Prelude.{◌≡◌, ◌++◌, ℕ, List, Result, Ok, Err}
+use Rattle.naga_back.specs.Flags.{annotates_types}
+use Rattle.naga_back.specs.declared.flags.WriterFlags.{WriterFlags}
+use Rattle.naga_info.specs.declared.info.ModuleInfo.{ModuleInfo}
+use Rattle.naga_ir.specs.declared.module.Module.{Module}
+use Rattle.naga_wgsl_fns.specs.Refusals.{TellsOfModule}
+use Rattle.naga_wgsl_fns.specs.declared.error.Error.{Error}
+use Rattle.naga_words.specs.Sink.{IsBehind}
+use Rattle.naga_wgsl_out.specs.ModuleRefusals.{ComesBeforeText, TellsOfFunction, TellsOfKeys}
+use Rattle.naga_wgsl_out.specs.Unwritable.{TellsFirst}
+use Rattle.naga_wgsl_out.specs.Writing.{WroteFunctionsBefore, front_text, written_text}
+
+-- the call ended with this error
+pub record LeavesOnError (flags : WriterFlags) (m : Module) (info : ModuleInfo) (error : Error)
+    (content now : List ℕ) (before after : ℕ) : Type 0 where
+  -- a beginning of the module's text stands after what the sink held,
+  pub behind : IsBehind content (written_text m info flags) now
+  -- and none of it where the error comes before any text, or tells that a key is out of range;
+  pub untouched : ComesBeforeText m error → now ≡ content
+  pub keys : TellsOfKeys error → now ≡ content
+  -- where it tells of a function, what stands in front of that one
+  pub written_before : TellsOfFunction m error →
+      WroteFunctionsBefore m info flags (content ++ front_text m info flags) now
+  -- a sink that fails ends the call by an error of its own
+  pub unfailed : TellsOfModule error → after ≡ before
+  -- an error that tells of the module names a construct that stands there, and is the first that is
+  -- found
+  pub told : TellsOfModule error → TellsFirst (annotates_types flags) m info error
+
+-- the call gave this answer; its text, where it wrote the module, is told apart from this
+abbrev pub Leaves : WriterFlags → Module → ModuleInfo → Result Unit Error →
+    (content now : List ℕ) → (before after : ℕ) → Type 0
+Leaves flags m info (Ok _) content now before after = after ≡ before
+Leaves flags m info (Err error) content now before after =
+    LeavesOnError flags m info error content now before after
