@@ -21,7 +21,7 @@ EXAMPLES = {
     "Select": "an operator that is called by a word",
     "Splat": "an operator that tells its type, and of which constants are made",
     "CooperativeStore": "a statement that is an act",
-    "Kill": "a statement with a shape of its own",
+    "Kill": "a statement that is a jump",
 }
 TOP = os.path.join(os.path.dirname(os.path.abspath(__file__)), "..")
 CRATES = os.path.join(TOP, "crates")

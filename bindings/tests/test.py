@@ -1,5 +1,8 @@
 #!/usr/bin/env python3
-"""test.py [FOLDER] [--whole]: tests what stands around the library, and the library itself where FOLDER has its archive, as
+"""test.py [FOLDER] [--whole]
+test.py --without-library
+
+Tests what stands around the library, and the library itself where FOLDER has its archive, as
 ./dist and bindings/c/pack.sh make it. FOLDER is out/dist at the top, if nothing is told.
 
 It tells what it tries, and what it leaves out since the machine lacks it. Where there is no archive, programs in C, C++,
@@ -432,9 +435,9 @@ def library_tests(is_whole):
 
 
 def main():
-    words = [word for word in sys.argv[1:] if word != "--whole"]
+    words = [word for word in sys.argv[1:] if not word.startswith("--")]
     folder = Path(words[0]).resolve() if words else TOP / "out/dist"
-    has_archive = (folder / "libyorwethul.a").is_file()
+    has_archive = "--without-library" not in sys.argv and (folder / "libyorwethul.a").is_file()
     if words and not has_archive:
         sys.exit(f"there is no libyorwethul.a in {folder}")
     failed = 0
@@ -442,7 +445,7 @@ def main():
         for title, test, needs, more in tests(folder, "--whole" in sys.argv):
             missing = [need for need in needs if not find(need)]
             if missing or (more and not has_archive):
-                why = f"no {', '.join(missing)}" if missing else "no archive has been built: ./dist makes one"
+                why = f"no {', '.join(missing)}" if missing else "no library is asked for, or ./dist has made none"
                 print(f"skipped: {title}: {why}")
                 continue
             start = time.monotonic()

@@ -142,8 +142,8 @@ fn first_differ(first: &[SwitchCase], behind: &[SwitchCase]) -> bool
 
 /// Whether no label is repeated, in whatever order they stand.
 ///
-/// It takes no memory: 4,096 labels at a time are sorted on the stack, and those after are looked
-/// for among them. So `n` labels take `n log n` steps where there are no more than 4,096. More, in
+/// It takes no memory: 4,096 labels at a time are sorted on the stack, and all later ones are
+/// looked for among them. So `n` labels take `n log n` steps where there are no more than 4,096. More, in
 /// whatever order, take a sort for each 4,096, and `n² / 8,192` looks at a mark, of which one in
 /// eight needs a search of 13 comparisons, unless labels are chosen to share their marks. Since
 /// those that were sorted differ, no label is looked for more than 2^21 times.

@@ -217,7 +217,7 @@ fn labels_ascend(cases: &[SwitchCase]) -> bool
 /// Up to how many labels are compared in pairs, which is less work than sorting them.
 const FEW_LABELS: usize = 32;
 
-/// Whether no label stands after itself. It compares each with those after it.
+/// Whether no label is repeated. It compares each with those after it.
 fn few_differ(cases: &[SwitchCase]) -> bool
     ensures { result ≡ labels_differ (cases_of cases.now) }
 {

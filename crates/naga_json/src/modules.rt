@@ -8,7 +8,7 @@ use serde_json::Value;
 use std::alloc::Global;
 
 /// Reads a module: `read_module(alloc, r#"{"functions": [{"name": "f"}]}"#)`. A refusal leaves
-/// nothing after, here and in the functions below: [`ReadError::OutOfMemory`] where memory is
+/// nothing, here and in the functions below: [`ReadError::OutOfMemory`] where memory is
 /// refused, [`ReadError::NoJson`] where the text is no JSON or nests more than 127 deep, and
 /// [`ReadError::Misfit`] where the JSON is no module, or says what the module here would lose.
 pub fn read_module(alloc: Global, text: &str) -> Result<Module, ReadError> {

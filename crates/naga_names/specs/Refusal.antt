@@ -1,13 +1,13 @@
 -- Why a label gets no name, and why a module gets none.
 use Rattle.std.specs.Prelude.{◌≡◌, ⊤, ◌⊎◌, List, length, slice_get, Some, ℕ, ◌<◌, ◌^◌, ◌∷◌, ◌++◌}
-use Rattle.std.specs.Prelude.{false}
+use Rattle.std.specs.Prelude.{IfErr, IsErr, OnErr, OnOk, Result, false}
 use Rattle.naga_ir.specs.declared.module.EntryPoint.{EntryPoint}
 use Rattle.naga_ir.specs.declared.module.Function.{Function}
 use Rattle.naga_ir.specs.declared.module.Module.{Module}
 use Rattle.naga_ir.specs.declared.types.Type_.{Type_}
 use Rattle.naga_names.specs.declared.error.NamerError.{NamerError}
 use Rattle.naga_names.specs.declared.error.NamerError.TheVariants.{Full, KeyFull, Memory}
-use Rattle.naga_names.specs.Naming.{Names, Uses, uses_of, label_base, labels_with_base}
+use Rattle.naga_names.specs.Naming.{Names, Uses, uses_of, label_base, labels_with_base, no_names}
 use Rattle.naga_names.specs.Keys.{NameMap}
 use Rattle.naga_names.specs.Reset.{LabelledItem, members_of, is_member, labels_of, keys_fit}
 use Rattle.naga_names.specs.Reset.{labelled_items, HasNamedItems, PutsBeginning}
@@ -76,6 +76,20 @@ IsRefusalOfItems start items (Memory e) = ⊤
 -- the same of all items of a module
 abbrev pub IsResetRefusal : Names → Module → NamerError → Type 0
 IsResetRefusal start module_ error = IsRefusalOfItems start (labelled_items start module_) error
+
+-- The namer was reset by the module, and began with these words and prefixes. All items have names,
+-- or the namer is a new one and the map has the names of some beginning of them. A refusal has a
+-- reason, and a module that gives a reason is refused; so is one of which a list is too long.
+pub record IsReset (start : Names) (module_ : Module) (result : Result Unit NamerError)
+    (now : Names) (before after : NameMap) : Type 0 where
+  pub ok : OnOk result (HasNamedItems start before (labelled_items start module_) now after)
+  pub err : OnErr result (now ≡ no_names)
+  pub beginning : OnErr result (PutsBeginning start before (labelled_items start module_) after)
+  pub reason : IfErr result (IsResetRefusal start module_)
+  pub full : SomeNameIsFull start (labelled_items start module_) → IsErr result
+  pub key_full : SomeKeyIsFull (labelled_items start module_) → IsErr result
+  pub too_long : IfErr result (λ error. error ≡ KeyFull → KeysRunOut module_)
+  pub keys_run_out : KeysRunOut module_ → IsErr result
 
 -- after any items that were named before, these are refused
 -- for a reason, and the map has the names of some beginning

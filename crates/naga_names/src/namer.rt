@@ -8,12 +8,9 @@ ghost use Rattle.naga_names.specs.Naming.{first_name};
 ghost use Rattle.naga_names.specs.Naming.{is_taken, name_of, name_of_base, uses_of, with_use};
 ghost use Rattle.naga_names.specs.Naming.{with_use_of_base, IsFull, HasNamed, name_after};
 ghost use Rattle.naga_names.specs.Members.{PutsName, PutsNoName, HasNamedMembers, RefusesMembers};
-ghost use Rattle.naga_names.specs.Refusal.{IsRefusalOf, IsRefusalOfBase, IsResetRefusal};
-ghost use Rattle.naga_names.specs.Refusal.{RefusesItems, SomeNameIsFull, SomeKeyIsFull, KeysRunOut};
-ghost use Rattle.naga_names.specs.declared.error.NamerError.TheVariants.{KeyFull};
+ghost use Rattle.naga_names.specs.Refusal.{IsRefusalOf, IsRefusalOfBase, IsReset, RefusesItems};
 ghost use Rattle.naga_names.specs.Keys.{names_in};
-ghost use Rattle.naga_names.specs.Reset.{labelled_members, labelled_items, HasNamedItems};
-ghost use Rattle.naga_names.specs.Reset.{PutsBeginning, NamesItems};
+ghost use Rattle.naga_names.specs.Reset.{labelled_members, NamesItems};
 
 use crate::namer::fallback::label_or;
 use crate::namer::items::Naming;
@@ -199,30 +196,9 @@ impl Namer {
         reserved_prefixes: &[&'static str],
         output: &mut HashMap<NameKey, String>,
     ) -> Result<(), NamerError>
-        ensures ok { let start = start_of reserved_keywords builtin_identifiers
-            keywords_case_insensitive reserved_prefixes.now in
-            OnOk result (HasNamedItems start (names_in output.old)
-            (labelled_items start «module».now) self.new (names_in output.new)) }
-        ensures err { OnErr result (self.new ≡ no_names) }
-        ensures beginning { let start = start_of reserved_keywords builtin_identifiers
-            keywords_case_insensitive reserved_prefixes.now in
-            OnErr result (PutsBeginning start (names_in output.old)
-            (labelled_items start «module».now) (names_in output.new)) }
-
-        // A refusal has a reason, and a module that gives a reason is refused.
-        ensures reason { let start = start_of reserved_keywords builtin_identifiers
-            keywords_case_insensitive reserved_prefixes.now in
-            IfErr result (IsResetRefusal start «module».now) }
-        ensures full { let start = start_of reserved_keywords builtin_identifiers
-            keywords_case_insensitive reserved_prefixes.now in
-            SomeNameIsFull start (labelled_items start «module».now) → IsErr result }
-        ensures key_full { let start = start_of reserved_keywords builtin_identifiers
-            keywords_case_insensitive reserved_prefixes.now in
-            SomeKeyIsFull (labelled_items start «module».now) → IsErr result }
-
-        // A key runs out where a list is too long, and such a module is refused.
-        ensures too_long { IfErr result (λ error. error ≡ KeyFull → KeysRunOut «module».now) }
-        ensures keys_run_out { KeysRunOut «module».now → IsErr result }
+        ensures { IsReset (start_of reserved_keywords builtin_identifiers
+            keywords_case_insensitive reserved_prefixes.now) «module».now result self.new
+            (names_in output.old) (names_in output.new) }
     {
         let alloc = self.alloc;
         let prefixes = match Vec::from_slice(alloc, reserved_prefixes) {

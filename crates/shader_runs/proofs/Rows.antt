@@ -184,7 +184,7 @@ rows_hold =
       loop = (record { fits = refl; text = refl; module_run = refl; text_run = refl }, record { fits = refl; text = refl; module_run = refl; text_run = refl });
       barrier = record { fits = refl; text = refl; module_run = refl; text_run = refl };
       select = record { fits = refl; text = refl; module_run = refl; text_run = refl };
-      refused = record { continue_ = refl; after_loop = refl; emitted_again = refl };
+      refused = record { continue_ = refl; break_ = refl; after_loop = refl; emitted_again = refl };
       stuck = record {
         break_outside = refl;
         continue_outside = refl;

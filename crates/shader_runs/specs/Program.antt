@@ -60,15 +60,15 @@ pub data Label : Type 0 where
   Numbered : ℤ → Label
   Default : Label
 
--- what goes on elsewhere than after the statement: after the loop or the switch, with the next turn
--- of the loop, in the caller, which may be given an A, or nowhere
+-- what goes on elsewhere than after the statement: after the loop or the switch, with the loop's
+-- `continuing`, in the caller, which may be given an A, or nowhere
 pub data Jump (A : Type 0) : Type 0 where
   Break : Jump A
   Continue : Jump A
   Return : Option A → Jump A
   Kill : Jump A
 
--- it goes on with the next turn
+-- it is a `continue`
 abbrev pub is_continue : {A : Type 0} → Jump A → Bool
 is_continue Continue = true
 is_continue _ = false
@@ -127,7 +127,7 @@ local_count f = length f.first_values
 abbrev pub local_pointer : Function → ℕ → Bytes
 local_pointer f i = get_or f.local_pointers i []
 
--- the function of this number, that of the functions after it
+-- the function of this number: that of the functions that it may call
 abbrev pub function_numbered : List Function → ℕ → Option Function
 function_numbered [] g = None
 function_numbered (f ∷ fs) g = cond (nat_eq g (length fs)) (Some f) (function_numbered fs g)

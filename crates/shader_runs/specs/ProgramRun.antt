@@ -427,7 +427,7 @@ run_if_arguments_fit true a t = a
 run_if_arguments_fit false a t = Halts Stuck t
 
 -- a call of one of these functions, the last one
--- first: its number is that of the functions after it
+-- first: its number is that of the functions that it may call
 abbrev pub run_call : Environment → World → Meaning → ℕ → List Function → ℕ → List Value →
     List Event → ReachedOrHalted (Option Value)
 run_call env w m n [] g vs t = Halts Stuck t

@@ -584,6 +584,13 @@ continue_function =
     ∷ row (Operator (codes "+") (1 ∷ 1 ∷ [])) i32 ∷ []) (
     Loop body continuing (Some 0) ∷ [])
 
+-- the same with a `break` in place of the `continue`, which skips `continuing` too
+abbrev pub break_function : Function
+break_function =
+    let body = statements (If 0 (then (Jumps Break) end) end ∷ Emit 3 1 ∷ []) in
+    let continuing = statements (Store 2 3 ∷ []) in
+    record continue_function { body = statements (Loop body continuing (Some 0) ∷ []) }
+
 -- a sum of a loop's body is used after the loop
 abbrev pub after_loop_function : Function
 after_loop_function =
@@ -604,9 +611,10 @@ again_function =
 abbrev pub check_of : Function → Bool
 check_of f = fits_function (only (codes "n") (c_name ∷ x_name ∷ []) (a_name ∷ []) f)
 
--- what the check of scope refuses
+-- what the check of scope refuses, and beside it what it lets pass
 pub record AreRefused : Type 0 where
   pub continue_ : check_of continue_function ≡ false
+  pub break_ : check_of break_function ≡ true
   pub after_loop : check_of after_loop_function ≡ false
   pub emitted_again : check_of again_function ≡ false
 

@@ -328,7 +328,7 @@ is_operation Operates = true
 is_operation _ = false
 
 -- what a word does that is the name of no function which stands before.
--- A function after can't be called, nor a word that means nothing
+-- A later function can't be called, nor a word that means nothing
 abbrev pub respond_by_use :
     WordUse → World → Meaning → Bytes → List Value → List Event → ReachedOrHalted (Option Value)
 respond_by_use NamesFunction w m word vs t = Halts Stuck t

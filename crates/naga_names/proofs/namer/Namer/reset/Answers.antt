@@ -1,47 +1,66 @@
-use Rattle.std.proofs.Common.{refl, sym, map, subst, ◌∙◌}
-use Rattle.naga_names.specs.Naming.{new_names}
-use Rattle.naga_names.specs.Refusal.{IsResetRefusal}
+use Rattle.std.proofs.Common.{◌≡◌, Err, [], Ok, refl, sym, subst, ◌∙◌}
+use Rattle.std.proofs.lemmas.Bool.{true≢false}
+use Rattle.naga_ir.specs.declared.module.Module.{Module}
+use Rattle.naga_names.specs.Keys.{NameMap}
+use Rattle.naga_names.specs.Naming.{Names, no_names}
+use Rattle.naga_names.specs.Refusal.{IsReset, IsResetRefusal}
+use Rattle.naga_names.specs.Reset.{HasNamedItems, PutsBeginning, labelled_items}
+use Rattle.naga_names.specs.declared.error.NamerError.{NamerError}
+use Rattle.naga_names.specs.declared.error.NamerError.TheVariants.{Memory}
 use Rattle.naga_names.proofs.Reset.{starts, none_full}
 use Rattle.naga_names.proofs.Refusal.{run_out_unfit, unfit_run_out}
 use Rattle.naga_names.proofs.Progress.{all_named, some_named}
 use Rattle.naga_names.proofs.namer.Namer.reset.Goals as goal
 
-pub returns-in-Ok-end-clause-ok : goal.returns-in-Ok-end-clause-ok
-returns-in-Ok-end-clause-ok c =
+-- where all items have names, no reason to refuse the module stands in it
+named : (start : Names) (m : Module) (now : Names) (before after : NameMap) →
+    HasNamedItems start before (labelled_items start m) now after → IsReset start m (Ok tt) now before after
+named start m now before after has = record {
+  ok = has;
+  err = tt;
+  beginning = tt;
+  reason = tt;
+  full = λ full. absurd (none_full start before _ now after has full);
+  key_full = λ full. absurd (true≢false (sym has.keys ∙ full));
+  too_long = tt;
+  keys_run_out = λ long. absurd (true≢false (sym has.keys ∙ run_out_unfit start m long));
+}
+
+-- and a refusal
+refused : (start : Names) (m : Module) (error : NamerError) (now : Names) (before after : NameMap) →
+    now ≡ no_names → PutsBeginning start before (labelled_items start m) after →
+    IsResetRefusal start m error → IsReset start m (Err error) now before after
+refused start m error now before after none some why = record {
+  ok = tt;
+  err = none;
+  beginning = some;
+  reason = why;
+  full = λ full. tt;
+  key_full = λ full. tt;
+  too_long = λ is. unfit_run_out start m (subst (IsResetRefusal start m) is why);
+  keys_run_out = λ long. tt;
+}
+
+pub returns-in-Ok-end : goal.returns-in-Ok-end
+returns-in-Ok-end c =
     let same = c.new-naming.ensures.namer
     ∙ starts c.args.reserved_keywords c.args.builtin_identifiers
     c.args.keywords_case_insensitive c.new-uses.result c.in-Ok.prefixes.items
     c.args.reserved_prefixes.now c.new-uses.ensures c.in-Ok.ensures.items in
-    all_named _ _ _ _ same refl c.new-naming.ensures.refusal c.name_items.ensures _ (c.in-Ok-end.ensures.ok.0, c.drop-in-Ok-end.view_is ∙ c.in-Ok-end.ensures.ok.1)
+    named _ c.args.module.now _ _ _
+    (all_named _ _ _ _ same refl c.new-naming.ensures.refusal c.name_items.ensures _
+    (c.in-Ok-end.ensures.ok.0, c.drop-in-Ok-end.view_is ∙ c.in-Ok-end.ensures.ok.1))
 
-pub returns-in-Ok-end-clause-full : goal.returns-in-Ok-end-clause-full
-returns-in-Ok-end-clause-full c = λ full. absurd (none_full _ _ _ _ _ (returns-in-Ok-end-clause-ok c) full)
-
-pub returns-in-Ok-end-clause-key_full : goal.returns-in-Ok-end-clause-key_full
-returns-in-Ok-end-clause-key_full c = λ full. sym full ∙ (returns-in-Ok-end-clause-ok c).keys
-
-pub returns-in-Err-end-clause-beginning : goal.returns-in-Err-end-clause-beginning
-returns-in-Err-end-clause-beginning c =
+pub returns-in-Err-end : goal.returns-in-Err-end
+returns-in-Err-end c =
     let same = c.new-naming.ensures.namer
     ∙ starts c.args.reserved_keywords c.args.builtin_identifiers
     c.args.keywords_case_insensitive c.new-uses.result c.in-Ok.prefixes.items
     c.args.reserved_prefixes.now c.new-uses.ensures c.in-Ok.ensures.items in
-    (some_named _ _ _ _ same refl c.new-naming.ensures.refusal c.name_items.ensures _ c.in-Err-end.ensures.err).0
+    let some = some_named _ _ _ _ same refl c.new-naming.ensures.refusal c.name_items.ensures _ c.in-Err-end.ensures.err in
+    refused _ c.args.module.now _ _ _ _ ? some.0 some.1
 
-pub returns-in-Err-end-clause-reason : goal.returns-in-Err-end-clause-reason
-returns-in-Err-end-clause-reason c =
-    let same = c.new-naming.ensures.namer
-    ∙ starts c.args.reserved_keywords c.args.builtin_identifiers
-    c.args.keywords_case_insensitive c.new-uses.result c.in-Ok.prefixes.items
-    c.args.reserved_prefixes.now c.new-uses.ensures c.in-Ok.ensures.items in
-    (some_named _ _ _ _ same refl c.new-naming.ensures.refusal c.name_items.ensures _ c.in-Err-end.ensures.err).1
-
-pub returns-in-Ok-end-clause-keys_run_out : goal.returns-in-Ok-end-clause-keys_run_out
-returns-in-Ok-end-clause-keys_run_out c = λ long.
-    let start = new_names c.args.reserved_keywords c.args.builtin_identifiers c.args.keywords_case_insensitive (map (λ p. p.now) c.args.reserved_prefixes.now) in
-    returns-in-Ok-end-clause-key_full c (run_out_unfit start c.args.module.now long)
-
-pub returns-in-Err-end-clause-too_long : goal.returns-in-Err-end-clause-too_long
-returns-in-Err-end-clause-too_long c = λ is.
-    let start = new_names c.args.reserved_keywords c.args.builtin_identifiers c.args.keywords_case_insensitive (map (λ p. p.now) c.args.reserved_prefixes.now) in
-    unfit_run_out start c.args.module.now (subst (IsResetRefusal start c.args.module.now) is (returns-in-Err-end-clause-reason c))
+pub returns-in-Err : goal.returns-in-Err
+returns-in-Err c =
+    refused _ c.args.module.now (Memory _) _ _ _ ?
+    (record { named = []; left = _; all = refl; put = record { finds = λ key. refl } }) tt
