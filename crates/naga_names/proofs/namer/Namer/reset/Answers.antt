@@ -35,10 +35,10 @@ refused start m error now before after none some why = record {
   err = none;
   beginning = some;
   reason = why;
-  full = λ full. tt;
-  key_full = λ full. tt;
+  full = λ full. refl;
+  key_full = λ full. refl;
   too_long = λ is. unfit_run_out start m (subst (IsResetRefusal start m) is why);
-  keys_run_out = λ long. tt;
+  keys_run_out = λ long. refl;
 }
 
 pub returns-in-Ok-end : goal.returns-in-Ok-end
@@ -58,9 +58,10 @@ returns-in-Err-end c =
     c.args.keywords_case_insensitive c.new-uses.result c.in-Ok.prefixes.items
     c.args.reserved_prefixes.now c.new-uses.ensures c.in-Ok.ensures.items in
     let some = some_named _ _ _ _ same refl c.new-naming.ensures.refusal c.name_items.ensures _ c.in-Err-end.ensures.err in
-    refused _ c.args.module.now _ _ _ _ ? some.0 some.1
+    refused _ c.args.module.now _ _ _ _ (c.drop-in-Err-end.view_is ∙ c.default-in-Err-end.ensures.empty)
+    some.0 some.1
 
 pub returns-in-Err : goal.returns-in-Err
 returns-in-Err c =
-    refused _ c.args.module.now (Memory _) _ _ _ ?
+    refused _ c.args.module.now (Memory _) _ _ _ (c.drop.view_is ∙ c.default.ensures.empty)
     (record { named = []; left = _; all = refl; put = record { finds = λ key. refl } }) tt
