@@ -1,8 +1,9 @@
-# Goes to a copy of the namer and what it stands on, with the program of this name above them, and with the
-# libraries that are named after it. It is read by the scripts beside it, which are run at the top of the
-# repository.
+# Goes to a copy of the namer and what it stands on, with the program of this folder of bench/ above them, and with the
+# libraries that are named after it. The scripts of bench/memory, bench/times and bench/fuzz read it. They are run at the
+# top of the repository.
 set -e
-name=$1
+folder=$1
+name=$(basename "$folder")
 shift
 top=$(pwd)
 copy=$(mktemp -d)
@@ -14,7 +15,7 @@ for library in naga_ir naga_keywords naga_names "$@"; do
     grep "^$library:" crates.txt >> "$copy/crates.txt"
 done
 echo "$name: naga_ir naga_names $*" >> "$copy/crates.txt"
-cp "$top/bench/$name/main.rt.txt" "$copy/crates/$name/src/main.rt"
+cp "$top/bench/$folder/main.rt.txt" "$copy/crates/$name/src/main.rt"
 : > "$copy/crates/$name/specs/Lib.antt"
 : > "$copy/crates/$name/proofs/Lib.antt"
 cd "$copy/crates/$name"

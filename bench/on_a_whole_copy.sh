@@ -1,6 +1,6 @@
 # Goes to a copy of the libraries, with the proofs that earlier checks kept (some GB), and with the program of this name
 # above them, of the files that are named after it. The crates that nothing stands on, programs and tests, are left out.
-# It is read by the scripts beside it, which are run at the top of the repository.
+# The scripts of bench/memory and bench/times read it. They are run at the top of the repository.
 set -e
 name=$1
 shift

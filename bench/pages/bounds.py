@@ -2,7 +2,7 @@
 
 README has at most 130 lines. DESIGN, DECISIONS and SPEED have at most so many words, and no sentence of PROVED more than 40.
 Every link leads to something. No page says "behind": it is "after", or another word. In the walk of READING to the promise no
-file uses one that comes later. bench/pages.sh runs this.
+file uses one that comes later. bench/pages/check.sh runs this.
 """
 
 import re

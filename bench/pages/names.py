@@ -1,4 +1,4 @@
-"""Names in the pages that are not in the tree. bench/pages.sh says what is looked for. elsewhere.txt beside this has the words
+"""Names in the pages that are not in the tree. bench/pages/check.sh says what is looked for. elsewhere.txt beside this has the words
 of tools, of Rust and of the grammar's notation, and made-up names, that pages use and the tree has not."""
 
 import pathlib

@@ -26,7 +26,7 @@ from pathlib import Path
 HERE = Path(__file__).resolve().parent
 BINDINGS = HERE.parent
 TOP = BINDINGS.parent
-sys.path.append(str(TOP / "bench/nested_modules"))
+sys.path.append(str(TOP / "crates/yorwethul/nested_modules"))
 from modules import KINDS, doubled, nested  # noqa: E402
 
 CRATES = TOP / "crates"

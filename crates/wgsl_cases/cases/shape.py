@@ -1,16 +1,16 @@
 """Whether a module is one that naga could write: each name known, each member told that has to be.
 
-What the IR has is told once, by bench/whole_modules/ir.py. The reader lets unknown members be, so
-that a misspelt one would test nothing.
+What the IR has is told once, by ../ir/ir.py. The reader lets unknown members be, so that a misspelt
+one would test nothing.
 """
 
 import sys
 from pathlib import Path
 
-sys.path.insert(0, str(Path(__file__).resolve().parents[3] / "bench" / "whole_modules"))
+sys.path.insert(0, str(Path(__file__).resolve().parents[1] / "ir"))
 from forms import (  # noqa: E402
     Bare, Enum, Fixed, Flags, Listed, Maybe, Needed, Number, Numbered, Paired, Place, Short, Shown,
-    Struct, Text, Truth)
+    Struct, Text, Truth, name_of)
 from ir import BLOCK, EXPRESSION, MODULE, SHORT_RESOLUTION, STATEMENT, TYPE_INNER  # noqa: E402
 
 COUNTED = Struct("Counted", ("ref_count", Number(0, 2**64 - 1)), ("ty", SHORT_RESOLUTION))
@@ -99,12 +99,6 @@ def check_variant(form, value, place):
         raise ShapeError(place, f"{name} has nothing")
     variant = with_content[0]
     check(variant if isinstance(variant, Struct) else variant[1], content, joined(place, name))
-
-
-def name_of(variant):
-    if isinstance(variant, str):
-        return variant
-    return variant.name if isinstance(variant, (Struct, Bare)) else variant[0]
 
 
 def check_plain(form, value, place):

@@ -4,45 +4,26 @@ It tells types, and the word and the operands that WGSL has for each expression 
 """
 
 import re
+import sys
+from pathlib import Path
 
 from integer_values import Meaning, held, is_over
 
-# where the operands of expressions and statements are told, in the order in which WGSL has them
-OPERANDS = {
-    "Compose": "components", "Access": "base index", "AccessIndex": "base", "Splat": "value", "Swizzle": "vector",
-    "Load": "pointer", "Unary": "expr", "Binary": "left right", "Select": "reject accept condition",
-    "Derivative": "expr", "Relational": "argument", "Math": "arg arg1 arg2 arg3", "As": "expr",
-    "CooperativeMultiplyAdd": "a b c", "CooperativeLoad": "data.pointer data.stride",
-    "RayQueryGetIntersection": "query", "RayQueryVertexPositions": "query", "ImageQuery": "image query.Size.level",
-    "ImageLoad": "image coordinate array_index sample level",
-    "ImageSample": "image sampler coordinate array_index depth_ref level.Exact level.Bias level.Gradient.x "
-                   "level.Gradient.y offset",
-    "If": "condition", "Switch": "selector", "Loop": "break_if", "Return": "value", "Store": "pointer value",
-    "Call": "arguments", "RayQuery": "query", "Atomic": "pointer fun.Exchange.compare value",
-    "ImageAtomic": "image coordinate array_index fun.Exchange.compare value",
-    "ImageStore": "image coordinate array_index value", "WorkGroupUniformLoad": "pointer",
-    "SubgroupBallot": "predicate", "SubgroupCollectiveOperation": "argument",
-    "SubgroupGather": "argument mode.Broadcast mode.Shuffle mode.ShuffleDown mode.ShuffleUp mode.ShuffleXor "
-                      "mode.QuadBroadcast",
-    "CooperativeStore": "target data.pointer data.stride",
-    "RayPipelineFunction": "TraceRay.acceleration_structure TraceRay.descriptor TraceRay.payload"}
-BLOCKS = {"If": ("accept", "reject"), "Loop": ("body", "continuing")}
+sys.path.append(str(Path(__file__).resolve().parents[1] / "ir"))
+from ir import COMPONENT, STORAGE_ACCESS  # noqa: E402
+from tables import (  # noqa: E402
+    BINARY_SIGNS, BLOCKS, COOPERATIVE_SIZES, OPERANDS, SPACE_WORDS, UNARY_SIGNS, VECTOR_SIZES)
+
 # these are events where they are used or have a name, and those of images anyhow
 READS = ("Load", "Derivative", "CooperativeLoad")
 EVENTS = (*READS, "ImageSample", "ImageLoad", "ImageQuery")
-SIZES = {"Bi": 2, "Tri": 3, "Quad": 4, "Eight": 8, "Sixteen": 16}
+SIZES = {**VECTOR_SIZES, **COOPERATIVE_SIZES}
 KINDS = {"Sint": "i", "Uint": "u", "Float": "f"}
-COMPONENTS = "XYZW"
-SIGNS = dict(zip(
-    "Add Subtract Multiply Divide Modulo Equal NotEqual Less LessEqual Greater GreaterEqual And ExclusiveOr "
-    "InclusiveOr LogicalAnd LogicalOr ShiftLeft ShiftRight Negate LogicalNot BitwiseNot".split(),
-    "+ - * / % == != < <= > >= & ^ | && || << >> - ! ~".split()))
+COMPONENTS = COMPONENT.names()
+SIGNS = {**BINARY_SIGNS, **UNARY_SIGNS}
 ATOMICS = {"Subtract": "Sub", "ExclusiveOr": "Xor", "InclusiveOr": "Or"}
 LEVELS = {"Auto": "", "Zero": "Level", "Exact": "Level", "Bias": "Bias", "Gradient": "Grad"}
 AXES = {"X": "dpdx", "Y": "dpdy", "Width": "fwidth"}
-SPACES = {
-    "WorkGroup": "workgroup", "TaskPayload": "task_payload", "RayPayload": "ray_payload",
-    "IncomingRayPayload": "incoming_ray_payload"}
 
 
 def tagged(form):
@@ -84,8 +65,8 @@ def space_of(form):
     """A space, and the access that a pointer into it tells."""
     name, content = tagged(form)
     if name != "Storage":
-        return SPACES.get(name, name.lower()), None
-    access = flags(content["access"], ["LOAD", "STORE", "ATOMIC"])
+        return SPACE_WORDS[name], None
+    access = flags(content["access"], STORAGE_ACCESS.form.words)
     return "storage", "atomic" if "ATOMIC" in access else "read_write" if "STORE" in access else None
 
 
