@@ -5,7 +5,7 @@
 -- Throughout, m is a module, f a function, p an entry point, e an expression, k a constant or a
 -- member of a struct, and levels is how deep something may be nested.
 use Rattle.std.specs.Prelude.{ℕ, max, List, [], ◌∷◌, ◌++◌, Option, Some, None, map, nat_le}
-use Rattle.std.specs.Prelude.{if◌then◌else◌, slice_get}
+use Rattle.std.specs.Prelude.{codes, if◌then◌else◌, slice_get}
 use Rattle.std.specs.Option.{is_some, option_and_then, option_to_list}
 use Rattle.naga_ir.specs.Operands.{expression_operands}
 use Rattle.naga_ir.specs.declared.expression.Expression.{Expression}
@@ -95,3 +95,9 @@ nested_past levels m =
     (if nat_le (module_types_depth m) levels then
     (if nat_le (module_operands_depth m) levels then None else Some Operands)
     else Some Types) else Some Blocks
+
+-- what is displayed of it, as `nested too deep: types`
+abbrev pub nested_text : Nested → List ℕ
+nested_text Blocks = codes "nested too deep: blocks"
+nested_text Types = codes "nested too deep: types"
+nested_text Operands = codes "nested too deep: operands"

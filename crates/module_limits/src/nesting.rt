@@ -1,10 +1,10 @@
 //! How deep a module is nested.
 
-ghost use Rattle.std.specs.Prelude.{◌≡◌, IfOk, map, nat_le};
+ghost use Rattle.std.specs.Prelude.{◌≡◌, IfOk, Some, map, nat_le};
 ghost use Rattle.module_limits.specs.Blocks.{block_depth};
 ghost use Rattle.module_limits.specs.Depths.{greatest};
 ghost use Rattle.module_limits.specs.Nesting.{module_blocks_depth, module_operands_depth};
-ghost use Rattle.module_limits.specs.Nesting.{nested_past, operands_depth};
+ghost use Rattle.module_limits.specs.Nesting.{nested_past, nested_text, operands_depth};
 
 use crate::blocks::block_is_within;
 use crate::depths::{globals_are_within, operands_are_within, types_are_within};
@@ -26,6 +26,8 @@ pub enum Nested {
 }
 
 impl fmt::Display for Nested {
+    ghost output = { λ what. Some (nested_text what) };
+
     fn fmt<W: fmt::Write>(&self, f: &mut fmt::Formatter<W>) -> fmt::Result {
         f.write_str("nested too deep: ")?;
         f.write_str(match self {

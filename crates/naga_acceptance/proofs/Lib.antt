@@ -1,3 +1,4 @@
+mod FaultTextExamples
 pub mod Agreement
 pub mod Counting
 pub mod EarlierUses

@@ -1,4 +1,5 @@
 pub mod Counts
+pub mod FaultTexts
 pub mod Faults
 pub mod FirstFaults
 pub mod KnownTypes

@@ -1,6 +1,8 @@
 //! Where a module is not accepted, and which kind of fault is there.
 
-ghost use Rattle.std.specs.Prelude.{◌≡◌};
+ghost use Rattle.std.specs.Prelude.{◌≡◌, Some};
+ghost use Rattle.naga_acceptance.specs.FaultTexts.{fault_text, item_text, part_text};
+ghost use Rattle.naga_acceptance.specs.FaultTexts.{unaccepted_text};
 ghost use Rattle.naga_acceptance.specs.FirstFaults.{at, at_entry_point, at_expression, at_function};
 
 use naga_ir::{
@@ -113,12 +115,16 @@ pub(crate) fn at_expression(found: (Handle<Expression>, Fault)) -> (FunctionPlac
 }
 
 impl fmt::Display for Unaccepted {
+    ghost output = { λ u. Some (unaccepted_text u) };
+
     fn fmt<W: fmt::Write>(&self, f: &mut fmt::Formatter<W>) -> fmt::Result {
         write!(f, "{}: {}", self.item, self.fault)
     }
 }
 
 impl fmt::Display for Item {
+    ghost output = { λ place. Some (item_text place) };
+
     fn fmt<W: fmt::Write>(&self, f: &mut fmt::Formatter<W>) -> fmt::Result {
         match self {
             Item::Module => f.write_str("module"),
@@ -134,6 +140,8 @@ impl fmt::Display for Item {
 }
 
 impl fmt::Display for FunctionPlace {
+    ghost output = { λ place. Some (part_text place) };
+
     fn fmt<W: fmt::Write>(&self, f: &mut fmt::Formatter<W>) -> fmt::Result {
         match self {
             FunctionPlace::Whole => Ok(()),
@@ -145,6 +153,8 @@ impl fmt::Display for FunctionPlace {
 }
 
 impl fmt::Display for Fault {
+    ghost output = { λ kind. Some (fault_text kind) };
+
     fn fmt<W: fmt::Write>(&self, f: &mut fmt::Formatter<W>) -> fmt::Result {
         f.write_str(match self {
             Fault::InfoSize => "not one thing is known of each",

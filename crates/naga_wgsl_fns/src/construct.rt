@@ -1,7 +1,7 @@
 //! The constructs for which a module is refused.
 
 ghost use Rattle.std.specs.Prelude.{◌≡◌};
-ghost use Rattle.naga_wgsl_fns.specs.Constructs.{IsToldAs};
+ghost use Rattle.naga_wgsl_fns.specs.Constructs.{IsToldAs, construct_text};
 
 use crate::error::{Error, custom, unimplemented, unsupported};
 use naga_ir::{BuiltIn, MathFunction, RelationalFunction, Scalar};
@@ -107,6 +107,8 @@ impl Construct {
 }
 
 impl fmt::Display for Construct {
+    ghost output = { construct_text };
+
     fn fmt<W: fmt::Write>(&self, f: &mut fmt::Formatter<W>) -> fmt::Result {
         match self {
             Construct::FloatLiteral => f.write_str("float literal"),
