@@ -27,7 +27,7 @@ HERE = Path(__file__).resolve().parent
 BINDINGS = HERE.parent
 TOP = BINDINGS.parent
 sys.path.append(str(TOP / "crates/yorwethul/nested_modules"))
-from modules import KINDS, doubled, nested  # noqa: E402
+from modules import KINDS, doubled, levels, nested  # noqa: E402
 
 CRATES = TOP / "crates"
 EXAMPLES = sorted((TOP / "examples").glob("*.json"))
@@ -340,11 +340,13 @@ def test_depth(folder, _):
             told = library.call(name, data, *flags)
             must(told[0] == wanted, f"{name}: {told} of {data[:40]}")
     for kind in KINDS:
-        for depth in (DEEPEST_NESTING + 1, 100_000):
+        for depth in (DEEPEST_NESTING + 1, DEEPEST_NESTING + 2, 100_000):
             data = json.dumps(nested(kind, depth)).encode()
             for name, flags in (("write", [0]), ("check", []), ("layout", [])):
                 told = library.call(name, data, *flags)
-                must(told[0] == TOO_DEEP and told[1].startswith("nested too deep: "), f"{name}: {told} of {kind}, {depth} deep")
+                is_deep = levels(kind, depth) > DEEPEST_NESTING
+                is_told = told[0] == TOO_DEEP and told[1].startswith("nested too deep: ")
+                must(is_deep == is_told, f"{name}: {told} of {kind}, {depth} deep")
     told = library.call("write", json.dumps(doubled(100)).encode(), 0)
     must(told == (TOO_LONG, "text of more than 67108864 bytes"), f"{told} of a text that doubles")
 

@@ -16,7 +16,7 @@ import resource
 import subprocess
 import sys
 
-from modules import KINDS, blocks, doubled, nested
+from modules import KINDS, blocks, doubled, levels, nested
 
 MEGABYTE = 1 << 20
 # JSON of blocks in one another is written by calls in one another
@@ -48,9 +48,7 @@ def asked(is_short):
 
 def is_right(kind, depth, status, told):
     """Whether this is what is to be answered of such a module."""
-    # a constant without a name and what it is made of are two levels
-    levels = depth // 2 * 2 if kind == "unnamed constants" else depth
-    if levels > 4_000:
+    if levels(kind, depth) > 4_000:
         return status == 1 and told.startswith("refused: nested too deep: ")
     # each of these spells its type, which is as deep
     is_long = kind in ("compositions", "global compositions") and depth == 4_000

@@ -139,3 +139,8 @@ KINDS = {
 
 def nested(kind, depth):
     return KINDS[kind](depth)
+
+
+def levels(kind, depth):
+    """How many levels such a module has: a constant without a name and what it is made of are two."""
+    return depth // 2 * 2 if kind == "unnamed constants" else depth
