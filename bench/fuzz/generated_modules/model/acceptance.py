@@ -62,7 +62,7 @@ def declarations_fit(module):
 
 
 def initialiser_stands_before(module, h, e):
-    """One of the module's own expressions stands behind the initialiser of what it names."""
+    """One of the module's own expressions stands after the initialiser of what it names."""
     if e.kind not in ("constant", "override"):
         return True
     init = (module.constants if e.kind == "constant" else module.overrides)[e.what[0]].init

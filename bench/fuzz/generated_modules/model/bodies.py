@@ -101,7 +101,7 @@ class BodyMaker:
         return ty
 
     def block(self, level, breaks, continues):
-        """The statements of a block, behind which what they gave is left as it is."""
+        """The statements of a block, after which what they gave is left as it is."""
         body = []
         for _ in range(self.r.choice([0, 1, 1, 2, 2, 3, 5])):
             body += self.statement(level, breaks, continues)
@@ -189,9 +189,9 @@ class BodyMaker:
         none, one, most = (self.maker.put("literal", whole, [1, number]) for number in (0, 1, self.r.randint(1, 3)))
         counter = self.new_local(whole, none)
         before = self.maker.put("load", whole, [], [counter])
-        behind = self.maker.put("binary", whole, [BINARY.index("+")], [before, one])
-        is_enough = self.maker.put("binary", TRUTH, [BINARY.index(">=")], [behind, most])
-        return [emit(before, is_enough), store(counter, behind)], is_enough
+        after = self.maker.put("binary", whole, [BINARY.index("+")], [before, one])
+        is_enough = self.maker.put("binary", TRUTH, [BINARY.index(">=")], [after, most])
+        return [emit(before, is_enough), store(counter, after)], is_enough
 
     def skip(self):
         """A branch that goes on with the next turn, or leaves the loop."""

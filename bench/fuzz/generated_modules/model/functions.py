@@ -149,7 +149,7 @@ class FunctionMaker:
         self.make_pointing_locals()
 
     def make_pointing_locals(self):
-        """Now and then a first value that is a pointer to a local, which may stand behind it."""
+        """Now and then a first value that is a pointer to a local, which may stand after it."""
         for at, (label, ty, _) in enumerate(self.f.locals):
             if points(ty) and self.chance(0.5):
                 self.f.locals[at] = (label, ty, self.some_of(self.of_type(ty)))
@@ -569,7 +569,7 @@ class FunctionMaker:
             f.body.append(returns(self.some_of(values)))
 
     def make_fault(self):
-        """Another operand of an expression or a statement, which may stand behind it, or nowhere."""
+        """Another operand of an expression or a statement, which may stand after it, or nowhere."""
         f = self.f
         with_operands = self.handles(lambda e: e.operands)
         other = self.r.randrange(len(f.expressions) + 1)

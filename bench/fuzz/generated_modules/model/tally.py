@@ -101,7 +101,7 @@ class Tally:
     def add_refused(self, module, text):
         before, name = text.split("refused: ")
         self.add("refused: " + name.strip())
-        self.add("refused, behind a text", before != "")
+        self.add("refused, after a text", before != "")
         standing = standing_in_declarations(module)
         for name in standing:
             self.add(f"standing in declarations: {name}")

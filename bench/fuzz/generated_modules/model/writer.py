@@ -92,7 +92,7 @@ def is_constant_text(f, h):
 
 # ---- the text of a function
 class Writer:
-    """Writes a function under its module's names; the namer goes on behind the labels of front ends."""
+    """Writes a function under its module's names; the namer goes on after the labels of front ends."""
 
     def __init__(self, f, names, explicit, is_portable=False):
         self.f, self.module_names = f, names
@@ -273,7 +273,7 @@ class Writer:
             self.statement(s)
 
     def inner(self, body):
-        """A block one level deeper, behind which all that it gave is forgotten."""
+        """A block one level deeper, after which all that it gave is forgotten."""
         scope = self.scope()
         self.level += 1
         self.block(body)

@@ -9,7 +9,7 @@ INT, TRUTH, FLOAT = ("scalar", I32), ("scalar", BOOL), ("scalar", F32)
 
 
 class Planter(FunctionMaker):
-    """Plants in one function. New expressions stand behind all others until they are moved."""
+    """Plants in one function. New expressions stand after all others until they are moved."""
 
     def __init__(self, r, module, f):
         super().__init__(r, module, [], f)
@@ -67,7 +67,7 @@ class Planter(FunctionMaker):
         return [(block, at) for block in (self.f.body, *inner) for at in range(len(block) + 1)]
 
     def insert(self, *statements):
-        """Puts statements into a block, one behind another, with others between them or not."""
+        """Puts statements into a block, one after another, with others between them or not."""
         block, at = self.r.choice(self.spots())
         for s in statements:
             block.insert(at, s)
@@ -167,7 +167,7 @@ class Planter(FunctionMaker):
 
     # ---- places of expressions
     def move(self):
-        """Moves new expressions further in front, behind their operands and out of each `Emit`."""
+        """Moves new expressions further in front, after their operands and out of each `Emit`."""
         expressions = self.f.expressions
         for e in self.new:
             old = next(h for h, each in enumerate(expressions) if each is e)
@@ -181,7 +181,7 @@ class Planter(FunctionMaker):
             self.renumber(old, self.r.choice(free))
 
     def renumber(self, old, new):
-        """The expression stands further in front now, and those between behind it."""
+        """The expression stands further in front now, and those between after it."""
         f = self.f
         f.expressions.insert(new, f.expressions.pop(old))
 
