@@ -3,7 +3,7 @@
 from functions import FunctionMaker
 from modules import LEAVES, RESULTS, Expression, Statement, emit, store, statements_in
 from refusals import formless, formless_type
-from spelling import BOOL, F32, FUNCTION, I32, U32, alike, pointer_to, points
+from spelling import BOOL, F32, FUNCTION, I32, U32, alike, pointer_to, is_pointer
 
 INT, TRUTH, FLOAT = ("scalar", I32), ("scalar", BOOL), ("scalar", F32)
 
@@ -76,7 +76,7 @@ class Planter(FunctionMaker):
     def use(self, h, is_stored=True):
         """Statements of which the first one has the expression as an operand, once."""
         ty, users = self.f.type_of(h), [self.texel, self.gather, self.ballot]
-        if is_stored and not points(ty):
+        if is_stored and not is_pointer(ty):
             users += [self.store] * 2
         if ty == TRUTH:
             users += [self.branch] * 2
@@ -138,7 +138,7 @@ class Planter(FunctionMaker):
 
     def replace(self, h):
         """Stands for an operand of a statement, if one is of its type."""
-        found = self.operands(lambda ty: alike(ty, self.f.type_of(h)) and not points(ty))
+        found = self.operands(lambda ty: alike(ty, self.f.type_of(h)) and not is_pointer(ty))
         if found:
             _, _, s, number = self.r.choice(found)
             s.operands[number] = h
@@ -163,7 +163,7 @@ class Planter(FunctionMaker):
             (block, at, s, number) for block in blocks for at, s in enumerate(block)
             for number in range(len(s.operands))]
         types = [self.f.type_of(s.operands[number]) for _, _, s, number in found]
-        return [each for each, ty in zip(found, types) if not points(ty) and test(ty)]
+        return [each for each, ty in zip(found, types) if not is_pointer(ty) and test(ty)]
 
     # ---- places of expressions
     def move(self):
