@@ -1,7 +1,7 @@
 """Tells modules that are spoiled in one place, and looks at what a program answers.
 
 Each value of each module is replaced in turn by others, each member of an object left out, another member put beside
-each, content put behind each name of a variant that has none, the last item of each list doubled, and the text cut
+each, content put after each name of a variant that has none, the last item of each list doubled, and the text cut
 off at each tenth character; texts nest deep, or tell no module. The program (`main.rt.txt`) must answer each with a
 module or with an error, and go on. An error must tell the place that was spoiled, or one in or around it, and a problem
 that can be there; where a number is read, it must be the one that was told.
@@ -33,7 +33,7 @@ OTHERS = {
 BEYOND = "1e999"
 MARK = "\x01"
 # what must be refused
-NEVER_READ = ("cut off", "no module", "content behind a name")
+NEVER_READ = ("cut off", "no module", "content after a name")
 # what is let be in a module, whatever stands in it
 LET_BE = re.compile(r"""\.(diagnostic_filters|diagnostic_filter_leaf|doc_comments|ray_desc|ray_intersection
     |ray_vertex_return|mesh_info\.(?!output_variable)\w+|RayQuery\.fun)\b""", re.VERBOSE)
@@ -102,7 +102,7 @@ def spoiled(known):
             yield Spoiled(frame.replace(json.dumps(MARK), other), done + other, place, tuple(never))
         yield Spoiled(frame.replace(json.dumps(MARK), BEYOND), "replaced by " + BEYOND, place)
         if isinstance(value, str) and value in VARIANTS:
-            yield Spoiled(frame.replace(json.dumps(MARK), object_of([(value, "7")])), "content behind a name", place)
+            yield Spoiled(frame.replace(json.dumps(MARK), object_of([(value, "7")])), "content after a name", place)
         if isinstance(value, list) and value:
             doubled = json.dumps(value + value[-1:])
             yield Spoiled(frame.replace(json.dumps(MARK), doubled), "one doubled", f"{place}[{len(value)}]")
@@ -138,10 +138,10 @@ def nested():
         "choices": (body, '[{"If":{"condition":0,"accept":', "[]", "}}]"),
         "loops": (body, '[{"Loop":{"body":[],"continuing":', "[]", "}}]"),
         "cases": (body, '[{"Switch":{"selector":0,"cases":[{"value":"Default","body":', "[]", "}]}}]")}
-    for name, (around, before, inner, behind) in wraps.items():
+    for name, (around, before, inner, after) in wraps.items():
         # around the depths at which a block and what stands around it nest 127 deep
         for count in (1, *range(20, 30), *range(38, 45), *range(58, 66), *range(122, 130), 10000):
-            text = around % (before * count + inner + behind * count)
+            text = around % (before * count + inner + after * count)
             depth = depth_of(text)
             kind = "10,000 times" if count == 10000 else "more than 127 deep" if depth > 127 else "at most 127 deep"
             yield Spoiled(text, f"{name} nested {kind}", "")
@@ -231,8 +231,8 @@ def changed(whole, given):
     """The words and numbers that stand in the second text where it is another than the first."""
     shorter = min(len(whole), len(given))
     start = next((at for at in range(shorter) if whole[at] != given[at]), shorter)
-    behind = next((at for at in range(shorter - start) if whole[-1 - at] != given[-1 - at]), shorter - start)
-    end = len(given) - behind
+    after = next((at for at in range(shorter - start) if whole[-1 - at] != given[-1 - at]), shorter - start)
+    end = len(given) - after
     while start > 0 and re.match(r"[\w-]", given[start - 1]):
         start -= 1
     while end < len(given) and re.match(r"\w", given[end]):

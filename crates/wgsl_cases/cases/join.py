@@ -98,7 +98,7 @@ def sections(case):
 
 
 def block_text(lines):
-    """The text of a block: its lines without the indentation that they share, a blank behind each of
+    """The text of a block: its lines without the indentation that they share, a blank after each of
     attributes alone, and an empty line."""
     while lines and not lines[-1].text:
         lines = lines[:-1]
@@ -196,7 +196,7 @@ class Expected:
 
 
 def ended(text, has_entry_points):
-    """No empty line stands behind the last entry point."""
+    """No empty line stands after the last entry point."""
     return text.removesuffix("\n") if has_entry_points else text
 
 
@@ -219,7 +219,7 @@ def with_definitions(case):
 
 
 def replaced(text, values):
-    """The text with values in the place of their names, which stand behind `$`."""
+    """The text with values in the place of their names, which stand after `$`."""
     return re.sub(r"\$[a-z_]+", lambda match: values.get(match.group(0), match.group(0)), text)
 
 
@@ -253,7 +253,7 @@ def rows_of(case):
 
 
 def edited(case, lines, edits):
-    """The lines after the edits: `OLD => NEW` or `LINE / OLD => NEW`, behind `in PART: ` or not."""
+    """The lines after the edits: `OLD => NEW` or `LINE / OLD => NEW`, after `in PART: ` or not."""
     for edit in edits:
         old, new = (part.strip() for part in edit.text.split("=>", 1))
         start, end = 0, len(lines)
@@ -263,18 +263,18 @@ def edited(case, lines, edits):
             old = inside.group(2)
         old, slash, words = old.partition(" / ")
         at = place_of(case, lines, start, end, old, edit)
-        behind = at + 1 if slash or new else end_of(lines, at)
+        after = at + 1 if slash or new else end_of(lines, at)
         if slash:
             if lines[at].text.count(words) != 1:
                 raise case.error(f"`{words}` does not stand once in `{lines[at].text}`", edit)
             new = lines[at].text.replace(words, new)
         parts = [written(lines[at], part.strip()) for part in new.split(";;")] if new else []
-        lines = lines[:at] + parts + lines[behind:]
+        lines = lines[:at] + parts + lines[after:]
     return lines
 
 
 def written(line, text):
-    """The text in the place of the line; behind `>` it stands below it."""
+    """The text in the place of the line; after `>` it stands below it."""
     below = text.startswith("> ")
     return Line(" " * (line.indent + 2 * below) + text[2 * below:].strip(), line.number)
 
@@ -294,10 +294,10 @@ def place_of(case, lines, start, end, old, edit):
 
 def end_of(lines, at):
     """Where what stands below a line ends."""
-    behind = at + 1
-    while behind < len(lines) and lines[behind].indent > lines[at].indent:
-        behind += 1
-    return behind
+    after = at + 1
+    while after < len(lines) and lines[after].indent > lines[at].indent:
+        after += 1
+    return after
 
 
 def part_named(case, lines, head, edit):

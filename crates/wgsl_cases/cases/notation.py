@@ -185,7 +185,7 @@ class Reader:
         return word
 
     def content(self, name):
-        """What stands in brackets behind a name."""
+        """What stands in brackets after a name."""
         if name in ("Scalar", "Atomic", "AtomicCompareExchangeWeakResult"):
             self.want("(")
             value = self.scalar()
@@ -207,7 +207,7 @@ class Reader:
         return self.types.place(None, self.inner())
 
     def resolution(self):
-        """What is known of an expression's type: a handle, or behind `~` the type itself."""
+        """What is known of an expression's type: a handle, or after `~` the type itself."""
         if self.takes("*"):
             return {"Value": {"Pointer": {"base": self.handle(), "space": "Function"}}}
         if self.takes("~"):
@@ -308,7 +308,7 @@ class Reader:
         return {"ValuePointer": {**held, "space": space}}
 
     def length(self):
-        """The length of an array, behind a comma if it has one."""
+        """The length of an array, after a comma if it has one."""
         if not self.takes(","):
             return "Dynamic"
         if self.takes("override"):
@@ -750,7 +750,7 @@ class Module:
         expressions.append(expression)
 
     def add_label(self, reader, number, names):
-        """The label of an expression, which stands behind its number."""
+        """The label of an expression, which stands after its number."""
         if names is None:
             reader.fail("an expression of the module has no label")
         label = reader.label()
@@ -828,7 +828,7 @@ class Module:
         return at + 1
 
     def switch_case(self, line, below):
-        """`case 1`, `case 1u` or `default`, with ` falls through` behind."""
+        """`case 1`, `case 1u` or `default`, with ` falls through` after."""
         match = re.fullmatch(r"(?:case (-?\d+)(u?)|default)( falls through)?", line.text)
         if not match:
             raise self.case.error("a case is `case 1`, `case 1u` or `default`", line)

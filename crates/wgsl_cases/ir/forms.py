@@ -125,9 +125,9 @@ class Needed(Form):
 class Listed(Form):
     """A list of values, most often a short one, between what `Debug` puts around it."""
 
-    def __init__(self, form, before="[", behind="]", most=4):
-        self.form, self.before, self.behind, self.most = form, before, behind, most
-        self.absent = before + behind
+    def __init__(self, form, before="[", after="]", most=4):
+        self.form, self.before, self.after, self.most = form, before, after, most
+        self.absent = before + after
 
     def items(self, r):
         return [self.form.tell(r) for _ in range(r.randint(0, min(self.most, r.most)))]
@@ -135,7 +135,7 @@ class Listed(Form):
     def tell(self, r):
         items = self.items(r)
         inner = ", ".join(item.debug for item in items)
-        return Told(list_of(item.json for item in items), self.before + inner + self.behind)
+        return Told(list_of(item.json for item in items), self.before + inner + self.after)
 
 
 class Fixed(Form):

@@ -66,8 +66,8 @@ class World:
         """What was stored last, in this place, around it or in its parts."""
         if root not in self.stores and root in self.initial:
             self.stores[root] = [((), self.initial[root]())]
-        behind = self.stores.get(root, [])
-        for at, (stored, value) in reversed(list(enumerate(behind))):
+        after = self.stores.get(root, [])
+        for at, (stored, value) in reversed(list(enumerate(after))):
             if path[:len(stored)] == stored:
                 return along(value, path[len(stored):])
             if stored[:len(path)] == path:
@@ -75,7 +75,7 @@ class World:
                 if parts is not None:
                     return ty, tuple(
                         self.read(root, (*path, number), held(part)) for number, part in enumerate(parts))
-                inner = [(each[len(path):], value) for each, value in behind[:at + 1] if each[:len(path)] == path]
+                inner = [(each[len(path):], value) for each, value in after[:at + 1] if each[:len(path)] == path]
                 return made(ty, "parts", root, path, inner)
         return made(ty, "memory", self.number, root, *path)
 

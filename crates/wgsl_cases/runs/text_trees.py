@@ -1,7 +1,7 @@
 """Reads the bytes of a text as tokens, trees and what names stand for.
 
 Each identifier is looked up where it stands: in the blocks around it, the innermost first, then among what the text
-declares. A `let` is in scope behind itself to the end of its block, and in a loop's `continuing` if it stands in the
+declares. A `let` is in scope after itself to the end of its block, and in a loop's `continuing` if it stands in the
 body in front of the first statement in which a `continue` of this loop stands.
 
     literal VALUE; argument N; local N; let N; item NAME; call TYPE E..; address E; target E; a sign with E or E E

@@ -11,7 +11,7 @@ It does so too under one meaning of whole numbers, with the runs of `crates/wgsl
 model.
 
 Where several constructs stand for which a module is refused, any one of them may be told: of those in what a module
-declares, in front of any text, else of those in a function, behind the functions in front of it.
+declares, in front of any text, else of those in a function, after the functions in front of it.
 
 The program answers a line of JSON for each line of JSON, as `yorwethul --lines` does.
 
@@ -96,7 +96,7 @@ def styled_answers(module, is_plain, explicit):
 
 
 def text_in(answer):
-    """A text, with the refusal behind it where there is one; or that the module is not read, or not accepted."""
+    """A text, with the refusal after it where there is one; or that the module is not read, or not accepted."""
     if "error" in answer:
         return NOT_READ
     if "not_accepted" in answer:

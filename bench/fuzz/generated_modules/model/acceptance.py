@@ -4,7 +4,7 @@ from modules import EVENTS, LEAVES, PARTS, RESULTS, statements_in
 from operators import LITERALS, is_numeral, numeral_fits, word_of
 from spelling import (
     BOOL, FUNCTION, I32, U32, alike, count_of_parts, has_parts, has_pointer_to_handle, held, identity, is_integer,
-    is_override, override_of, part_of, pointed_at, pointer_to, points, scalar_of)
+    is_override, override_of, part_of, pointed_at, pointer_to, is_pointer, scalar_of)
 
 
 def is_read(module):
@@ -62,7 +62,7 @@ def declarations_fit(module):
 
 
 def initialiser_stands_before(module, h, e):
-    """One of the module's own expressions stands behind the initialiser of what it names."""
+    """One of the module's own expressions stands after the initialiser of what it names."""
     if e.kind not in ("constant", "override"):
         return True
     init = (module.constants if e.kind == "constant" else module.overrides)[e.what[0]].init
@@ -132,7 +132,7 @@ def expression_is_sound(f, e):
         if wanted is None:
             return False
     elif e.kind == "load":
-        if not points(of[0]):
+        if not is_pointer(of[0]):
             return False
         wanted = held(pointed_at(of[0]))
     elif e.kind == "splat":
@@ -145,7 +145,7 @@ def expression_is_sound(f, e):
             return False
         wanted = ("vector", size, scalar_of(of[0]))
     elif e.kind == "cooperative load":
-        return points(of[0]) and pointed_at(of[0])[0] in ("scalar", "vector")
+        return is_pointer(of[0]) and pointed_at(of[0])[0] in ("scalar", "vector")
     elif e.kind == "binary" and word_of(f, e) in ("&&", "||") and of[0] == ("scalar", BOOL):
         wanted = ("scalar", BOOL)
     return alike(e.type, wanted)
@@ -173,7 +173,7 @@ def statement_is_sound(f, s, breaks, continues):
     if s.kind in ("break", "continue"):
         return breaks if s.kind == "break" else continues
     if s.kind == "store":
-        return points(of[0]) and alike(held(pointed_at(of[0])), of[1])
+        return is_pointer(of[0]) and alike(held(pointed_at(of[0])), of[1])
     if s.kind == "return":
         return alike(f.result, of[0]) if of and f.result is not None else not of and f.result is None
     if s.kind == "if":
@@ -202,7 +202,7 @@ def labels_fit(selector, cases):
 def act_is_sound(f, s, of):
     if s.kind == "atomic" and not (of[0][0] == "pointer" and pointed_at(of[0])[0] == "atomic"):
         return False
-    if s.kind == "cooperative store" and not (points(of[1]) and pointed_at(of[1])[0] in ("scalar", "vector")):
+    if s.kind == "cooperative store" and not (is_pointer(of[1]) and pointed_at(of[1])[0] in ("scalar", "vector")):
         return False
     if s.kind == "call" and not is_called_with(f.module.functions[s.what[0]], of):
         return False

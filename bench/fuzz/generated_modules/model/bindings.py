@@ -41,7 +41,7 @@ def formless_binding(binding):
 
 
 def attributes(binding):
-    """The attributes of a binding, each with a blank behind it."""
+    """The attributes of a binding, each with a blank after it."""
     if binding is None:
         return ""
     if binding[0] == "builtin":

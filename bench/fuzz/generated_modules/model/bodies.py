@@ -3,7 +3,7 @@
 from modules import (
     LEAVES, RESULTS, Expression, Statement, Variable, emit, holds_continue, loop, returns, statements_in, store)
 from spelling import (
-    BOOL, FUNCTION, HANDLE, I32, U32, alike, held, pointed_at, pointer_to, points, points_to_atomic, scalar_of)
+    BOOL, FUNCTION, HANDLE, I32, U32, alike, held, pointed_at, pointer_to, is_pointer, points_to_atomic, scalar_of)
 from words import ATOMICS, BINARY, COMPARING, GATHERS, OPERATIONS
 from worlds import SELECTED
 from writer import constants_of
@@ -29,7 +29,7 @@ class BodyMaker:
         self.given, self.trees = set(), set()
         self.constants = []
         taken = [ty for f in self.module.functions for _, ty in f.arguments]
-        self.calls = 0.2 if any(points(ty) and ty[2] == FUNCTION for ty in taken) else 0.07
+        self.calls = 0.2 if any(is_pointer(ty) and ty[2] == FUNCTION for ty in taken) else 0.07
 
     # ---- scope
     def is_tree(self, h):
@@ -92,7 +92,7 @@ class BodyMaker:
     def some_result(self):
         if self.maker.wanted is not None:
             return self.maker.wanted
-        types = [e.type for e in self.f.expressions if not points(e.type) or self.chance(0.05)]
+        types = [e.type for e in self.f.expressions if not is_pointer(e.type) or self.chance(0.05)]
         types = [ty for ty in types if not self.module.names_undeclared(ty) or self.chance(0.02)]
         if not types or self.chance(0.35):
             return None
@@ -101,7 +101,7 @@ class BodyMaker:
         return ty
 
     def block(self, level, breaks, continues):
-        """The statements of a block, behind which what they gave is left as it is."""
+        """The statements of a block, after which what they gave is left as it is."""
         body = []
         for _ in range(self.r.choice([0, 1, 1, 2, 2, 3, 5])):
             body += self.statement(level, breaks, continues)
@@ -189,9 +189,9 @@ class BodyMaker:
         none, one, most = (self.maker.put("literal", whole, [1, number]) for number in (0, 1, self.r.randint(1, 3)))
         counter = self.new_local(whole, none)
         before = self.maker.put("load", whole, [], [counter])
-        behind = self.maker.put("binary", whole, [BINARY.index("+")], [before, one])
-        is_enough = self.maker.put("binary", TRUTH, [BINARY.index(">=")], [behind, most])
-        return [emit(before, is_enough), store(counter, behind)], is_enough
+        after = self.maker.put("binary", whole, [BINARY.index("+")], [before, one])
+        is_enough = self.maker.put("binary", TRUTH, [BINARY.index(">=")], [after, most])
+        return [emit(before, is_enough), store(counter, after)], is_enough
 
     def skip(self):
         """A branch that goes on with the next turn, or leaves the loop."""
@@ -254,7 +254,7 @@ class BodyMaker:
         return []
 
     def make_store(self):
-        p = self.some(lambda e: points(e.type))
+        p = self.some(lambda e: is_pointer(e.type))
         if p is None:
             p = self.new_local(self.r.choice(self.maker.types)) if self.maker.types else None
         value = None if p is None else self.of_type(held(pointed_at(self.f.type_of(p))))
@@ -362,12 +362,12 @@ class BodyMaker:
         return [Statement("image atomic", [fun, layered], operands + more)]
 
     def make_uniform_load(self):
-        p = self.some(lambda e: points(e.type))
+        p = self.some(lambda e: is_pointer(e.type))
         p = self.some_value() if p is None else p
         outcome = self.again("uniform result")
         if outcome is None:
             ty = self.f.type_of(p)
-            ty = held(pointed_at(ty)) if points(ty) and self.chance(0.8) else self.some_given()
+            ty = held(pointed_at(ty)) if is_pointer(ty) and self.chance(0.8) else self.some_given()
             outcome = self.result("uniform result", ty, [None])
         return [Statement("uniform load", [], [p], outcome)]
 
@@ -404,7 +404,7 @@ class BodyMaker:
             return [Statement("ray query", [], [self.some_value()])]
         if what < 0.5:
             return [Statement("trace", [], [self.some_value() for _ in range(3)])]
-        p = self.some(lambda e: points(e.type) and pointed_at(e.type)[0] in ("scalar", "vector"))
+        p = self.some(lambda e: is_pointer(e.type) and pointed_at(e.type)[0] in ("scalar", "vector"))
         p = self.new_local(("scalar", I32)) if p is None else p
         p = self.some_value() if self.chance(0.004) else p
         return [Statement("cooperative store", [self.chance(0.5)], [self.some_value(), p, self.some_value()])]

@@ -26,7 +26,7 @@ PRIVATE, WORKGROUP, UNIFORM = ("private", 0), ("workgroup", 0), ("uniform", 0)
 
 def whole(types=(), own=(), constants=(), overrides=(), variables=(), functions=(), special=()):
     """A module of these items, each with its type in the place of its handle, and of types, each by itself or in a list
-    behind its label."""
+    after its label."""
     module = module_of(list(functions))
     late, late_labels = module.types, module.labels
     module.types, module.labels = [], []

@@ -401,7 +401,7 @@ class FaultMaker:
             f.add(self.own.named(kind, len(items) + r.choice([0, 0, 1])))
 
     def order(self):
-        """An initialiser that stands behind the name of its item, or a call of what is not in front."""
+        """An initialiser that stands after the name of its item, or a call of what is not in front."""
         r, module = self.r, self.module
         calls = [(f, s) for f in module.bodies() for s in statements_in(f.body) if s.kind == "call"]
         if calls and r.random() < 0.6:

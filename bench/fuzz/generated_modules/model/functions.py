@@ -8,7 +8,7 @@ from operators import LITERALS, NUMERALS, conversion_word, is_numeral, wanted_sc
 from refusals import formless_own
 from spelling import (
     BOOL, F32, F64, FUNCTION, HALVES, I16, I32, I64, INTEGERS, SCALAR_KINDS, U16, U32, U64, alike, bases_of,
-    count_of_parts, has_parts, held, part_of, pointed_at, pointer_to, points, scalar_of, whole_of, with_scalar)
+    count_of_parts, has_parts, held, part_of, pointed_at, pointer_to, is_pointer, scalar_of, whole_of, with_scalar)
 from structs import StructMaker
 from words import MATH, QUERIES, RELATIONAL
 
@@ -62,11 +62,11 @@ class FunctionMaker:
     def some_operand(self):
         """Most often a value, now and then a pointer, an image or a sampler."""
         is_any = self.chance(0.1)
-        return self.some_of(self.handles(lambda e: is_any or not (points(e.type) or e.type[0] in IMAGE_KINDS)))
+        return self.some_of(self.handles(lambda e: is_any or not (is_pointer(e.type) or e.type[0] in IMAGE_KINDS)))
 
     def some_pointer(self):
         # the last ones are to parts, more often than not
-        pointers = self.handles(lambda e: points(e.type))
+        pointers = self.handles(lambda e: is_pointer(e.type))
         return self.some_of(pointers[-3:] if self.chance(0.5) else pointers)
 
     # ---- a function
@@ -149,9 +149,9 @@ class FunctionMaker:
         self.make_pointing_locals()
 
     def make_pointing_locals(self):
-        """Now and then a first value that is a pointer to a local, which may stand behind it."""
+        """Now and then a first value that is a pointer to a local, which may stand after it."""
         for at, (label, ty, _) in enumerate(self.f.locals):
-            if points(ty) and self.chance(0.5):
+            if is_pointer(ty) and self.chance(0.5):
                 self.f.locals[at] = (label, ty, self.some_of(self.of_type(ty)))
 
     def put_declared(self):
@@ -213,7 +213,7 @@ class FunctionMaker:
         p = self.some_pointer() if self.chance(0.998) else self.some_operand()
         if p is not None:
             ty = self.f.type_of(p)
-            self.put("load", held(pointed_at(ty)) if points(ty) else ty, [], [p])
+            self.put("load", held(pointed_at(ty)) if is_pointer(ty) else ty, [], [p])
 
     def make_unary(self):
         x = self.some_operand()
@@ -364,7 +364,7 @@ class FunctionMaker:
             self.put("math", pointer_to(struct, FUNCTION), [MATH_NUMBERS["abs"]], [x, x])
         else:
             over = self.some_over_struct()
-            self.put("derivative", over if points(over) else pointer_to(over, FUNCTION), [1, 0], [x])
+            self.put("derivative", over if is_pointer(over) else pointer_to(over, FUNCTION), [1, 0], [x])
 
     def make_struct_value(self, x):
         """A zero value or a composition of a struct or of what is over one, which a text can't have."""
@@ -392,19 +392,19 @@ class FunctionMaker:
         for _ in range(3):
             if has_parts(self.f.type_of(h)) and self.chance(0.7):
                 h = self.make_part_of(h) or h
-        if points(self.f.type_of(h)) and self.chance(0.6):
+        if is_pointer(self.f.type_of(h)) and self.chance(0.6):
             self.put("load", held(pointed_at(self.f.type_of(h))), [], [h])
 
     def make_declared_member(self):
         """A member of a struct that a text declares, or of one that is pointed at, most often what it holds."""
         structs = [self.module.types[h] for h in self.module.declared_structs() if self.module.types[h][1]]
         bases = self.handles(lambda e: whole_of(e.type) in structs)
-        h = self.some_of([h for h in bases if points(self.f.type_of(h)) or self.chance(0.4)])
+        h = self.some_of([h for h in bases if is_pointer(self.f.type_of(h)) or self.chance(0.4)])
         if h is None and structs:
             h = self.put_typed("zero", self.r.choice(structs))
         if h is not None:
             h = self.make_part_of(h)
-        if h is not None and points(self.f.type_of(h)) and self.chance(0.6):
+        if h is not None and is_pointer(self.f.type_of(h)) and self.chance(0.6):
             self.put("load", held(pointed_at(self.f.type_of(h))), [], [h])
 
     # ---- parts
@@ -486,7 +486,7 @@ class FunctionMaker:
         self.put("image query", self.some_given(), [query, has_level], operands)
 
     def make_length(self):
-        arrays = self.handles(lambda e: points(e.type) and pointed_at(e.type)[0] == "array")
+        arrays = self.handles(lambda e: is_pointer(e.type) and pointed_at(e.type)[0] == "array")
         x = self.some_of(arrays) if arrays and self.chance(0.9) else self.some_operand()
         self.put("array length", ("scalar", U32), [], [x])
 
@@ -497,12 +497,12 @@ class FunctionMaker:
 
     def make_cooperative_load(self):
         pointers = self.handles(
-            lambda e: points(e.type) and pointed_at(e.type)[0] in ("scalar", "vector") or self.chance(0.0005))
+            lambda e: is_pointer(e.type) and pointed_at(e.type)[0] in ("scalar", "vector") or self.chance(0.0005))
         if pointers:
             what = [*some_tile(self.r), self.r.choice("ABC"), self.chance(0.5)]
             p = self.some_of(pointers)
             of = self.f.type_of(p)
-            scalar = scalar_of(pointed_at(of)) if points(of) else None
+            scalar = scalar_of(pointed_at(of)) if is_pointer(of) else None
             ty = ("cooperative", *what[:2], scalar or F32, what[2])
             self.put("cooperative load", ty if self.chance(0.9) else some_type(self.r), what, [p, self.some_operand()])
 
@@ -540,7 +540,7 @@ class FunctionMaker:
     def make_store(self, last):
         """A store of what stands no further than this, or almost so."""
         given = [h for h in range(len(self.f.expressions)) if h <= last or self.chance(0.02)]
-        pointers = [h for h in given if points(self.f.type_of(h))]
+        pointers = [h for h in given if is_pointer(self.f.type_of(h))]
         p = self.some_of(pointers[-3:] if self.chance(0.5) else pointers)
         if p is None:
             return
@@ -553,7 +553,7 @@ class FunctionMaker:
         f = self.f
         values = self.handles(
             lambda e: self.chance(0.05) if self.module.names_undeclared(e.type)
-            else not points(e.type) or self.chance(0.2))
+            else not is_pointer(e.type) or self.chance(0.2))
         values = self.of_type(self.wanted) if self.wanted is not None else values
         if values and self.chance(0.9):
             h = self.r.choice(values[-4:])
@@ -569,7 +569,7 @@ class FunctionMaker:
             f.body.append(returns(self.some_of(values)))
 
     def make_fault(self):
-        """Another operand of an expression or a statement, which may stand behind it, or nowhere."""
+        """Another operand of an expression or a statement, which may stand after it, or nowhere."""
         f = self.f
         with_operands = self.handles(lambda e: e.operands)
         other = self.r.randrange(len(f.expressions) + 1)

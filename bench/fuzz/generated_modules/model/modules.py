@@ -168,7 +168,7 @@ class Module:
         self.functions, self.entry_points = [], []
 
     def bodies(self):
-        """Functions, and behind them entry points."""
+        """Functions, and after them entry points."""
         return [*self.functions, *self.entry_points]
 
     def groups(self):
@@ -180,7 +180,7 @@ class Module:
         return next(number for number, each in enumerate(self.bodies()) if each is f)
 
     def handle_of(self, ty, label=None):
-        """The type's handle; the type is put behind those that it is made of, if it is not there."""
+        """The type's handle; the type is put after those that it is made of, if it is not there."""
         if ty not in self.types:
             for base in bases_of(ty):
                 self.handle_of(base)

@@ -75,7 +75,7 @@ def name_extra(namer, label, fallback):
 
 
 class Names:
-    """The names of a module's items, in the order in which they are given, and the namer as it is behind them."""
+    """The names of a module's items, in the order in which they are given, and the namer as it is after them."""
 
     def __init__(self, module):
         self.namer = namer = Namer()

@@ -4,7 +4,7 @@ from fractions import Fraction
 
 from naming import member_names
 from spelling import (
-    BOOL, F16, F32, F64, I16, I32, I64, SCALAR_KINDS, SCALARS, U16, U32, U64, pointed_at, points, scalar_of, spelled,
+    BOOL, F16, F32, F64, I16, I32, I64, SCALAR_KINDS, SCALARS, U16, U32, U64, is_pointer, pointed_at, scalar_of, spelled,
     whole_of, with_scalar)
 from words import (
     ATOMICS, AXES, BARRIERS, BINARY, COLLECTIVES, COMPARING, CONTROLS, GATHERS, MATH, OPERATIONS, QUERIES, RELATIONAL,
@@ -146,7 +146,7 @@ def word_of(f, e):
 
 def loaded_matrix(pointer, columns, rows, role):
     """The type of the matrix that is loaded through a pointer, which is over the scalar that this points at."""
-    return ("cooperative", columns, rows, scalar_of(pointed_at(pointer)) if points(pointer) else None, role)
+    return ("cooperative", columns, rows, scalar_of(pointed_at(pointer)) if is_pointer(pointer) else None, role)
 
 
 def cooperative_word(pointer, columns, rows, role, by_rows):

@@ -50,7 +50,7 @@ def declared(text):
 
 
 def read_parameters(s):
-    """The parameters in front of a closing bracket, and what stands behind it."""
+    """The parameters in front of a closing bracket, and what stands after it."""
     parameters = []
     while not s.startswith(")"):
         attributes, s = read_attributes(s)
@@ -64,7 +64,7 @@ def read_parameters(s):
 
 
 def read_attributes(s):
-    """The attributes that a text begins with, each as its word and what it is over, and what stands behind them."""
+    """The attributes that a text begins with, each as its word and what it is over, and what stands after them."""
     attributes = []
     while s.startswith("@"):
         found = re.match(r"@(\w+)(?:\(([^()]*)\))? ", s)
@@ -80,7 +80,7 @@ def read_whole_type(s):
 
 
 class Lines:
-    """The lines of a function behind its locals."""
+    """The lines of a function after its locals."""
 
     def __init__(self, lines):
         self.left = lines

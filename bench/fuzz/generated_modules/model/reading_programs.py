@@ -1,6 +1,6 @@
 """Reads whole texts: what they enable and declare, their functions and their entry points, in this order.
 
-Each group of declarations has an empty line behind it, but entry points, between which there is one.
+Each group of declarations has an empty line after it, but entry points, between which there is one.
 """
 
 import re
@@ -54,7 +54,7 @@ class Program:
         assert self.left.pop(0) == "", self.left
 
     def group(self, pattern, read):
-        """The lines of this form that come next, read, with an empty line behind them."""
+        """The lines of this form that come next, read, with an empty line after them."""
         items = []
         while self.left:
             found = re.fullmatch(pattern, self.left[0])
@@ -103,7 +103,7 @@ class Program:
         return TextFunction(lines)
 
     def bodies(self):
-        """Functions, and behind them entry points."""
+        """Functions, and after them entry points."""
         return self.functions + [function for _, function in self.entry_points]
 
 

@@ -380,7 +380,7 @@ class TextRun:
         raise Ended("out of turns")
 
     def turn(self, body, unskipped):
-        """The body of a loop, behind which the names that a `continue` skips are forgotten."""
+        """The body of a loop, after which the names that a `continue` skips are forgotten."""
         in_sight = None
         for number, line in enumerate(body):
             if number == unskipped:

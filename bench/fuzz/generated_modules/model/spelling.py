@@ -122,7 +122,7 @@ def identity(ty):
     return spelled(ty) or ty
 
 
-def points(ty):
+def is_pointer(ty):
     return ty[0] in ("pointer", "value pointer")
 
 
@@ -138,7 +138,7 @@ def held(ty):
 
 
 def points_to_atomic(ty):
-    return points(ty) and pointed_at(ty)[0] == "atomic"
+    return is_pointer(ty) and pointed_at(ty)[0] == "atomic"
 
 
 def scalar_of(ty):
@@ -180,7 +180,7 @@ def value_part(ty, index):
 
 def whole_of(ty):
     """What parts are taken of: the type itself, or what it points at."""
-    return pointed_at(ty) if points(ty) else ty
+    return pointed_at(ty) if is_pointer(ty) else ty
 
 
 def has_parts(ty):
@@ -191,7 +191,7 @@ def part_of(ty, index=None):
     """The type of the part at a computed index, or a known one, or of a pointer to it; none where there is none."""
     whole = whole_of(ty)
     part = value_part(whole, index)
-    if not part or not points(ty):
+    if not part or not is_pointer(ty):
         return part
     # of a vector or a matrix it is a pointer by value, which matters where it has no spelling
     if whole[0] in ("vector", "matrix"):

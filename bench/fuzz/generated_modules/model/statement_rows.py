@@ -131,7 +131,7 @@ def asked(kind, what, *operands, gives=None):
 
 
 def nested_loops():
-    """Names of a loop are forgotten behind it."""
+    """Names of a loop are forgotten after it."""
     f = function("l", None, ("c", TRUTH))
     a = local(f, INT)
     held = load(f, a)

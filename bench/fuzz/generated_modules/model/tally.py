@@ -11,7 +11,7 @@ from reading_programs import Program
 from refusals import declared_items, standing_in_declarations
 from runs import module_runs, text_runs
 from serde import line_of
-from spelling import HANDLE, SCALARS, is_override, points, whole_of
+from spelling import HANDLE, SCALARS, is_override, is_pointer, whole_of
 from words import MATH
 from worlds import NoValue, Term
 from writer import emitted_by, written_of
@@ -101,7 +101,7 @@ class Tally:
     def add_refused(self, module, text):
         before, name = text.split("refused: ")
         self.add("refused: " + name.strip())
-        self.add("refused, behind a text", before != "")
+        self.add("refused, after a text", before != "")
         standing = standing_in_declarations(module)
         for name in standing:
             self.add(f"standing in declarations: {name}")
@@ -136,7 +136,7 @@ class Tally:
             if e.kind == "literal" and is_numeral(e.what[0]):
                 self.add(f"written, with numerals: {SCALARS[LITERALS[e.what[0]]]}")
         arguments = [ty for f in module.bodies() for _, ty in f.arguments]
-        self.add("written, with pointers as arguments", any(map(points, arguments)))
+        self.add("written, with pointers as arguments", any(map(is_pointer, arguments)))
         for kind in {ty[0] for ty in module.types}:
             self.add(f"written, with types: {kind}")
         lengths = [ty[2] for ty in module.types if ty[0] in ("array", "binding array")]
@@ -166,7 +166,7 @@ class Tally:
         for name, test in (("declared", True), ("undeclared", False)):
             own = [ty for ty in members if module.names_undeclared(whole_of(ty)) != test]
             self.add(f"written, with members of {name} structs", own != [])
-            self.add(f"written, with members of {name} structs through pointers", any(map(points, own)))
+            self.add(f"written, with members of {name} structs through pointers", any(map(is_pointer, own)))
         made = [e for _, e in written if e.kind in ("zero", "compose") and e.type[0] == "struct"]
         for kind in ("zero", "compose"):
             self.add(f"written, with structs made by {kind}", any(e.kind == kind for e in made))

@@ -93,7 +93,7 @@ ASKING = {
     *words_of("subgroup{All,Any,Add,Mul,Max,Min,And,Or,Xor} subgroup{Exclusive,Inclusive}{Add,Mul} subgroupBallot"),
     *words_of("textureStore workgroupUniformLoad coopStore coopStoreT coopLoad coopLoadT traceRay")}
 
-# what the hardware tells and is told, with its word or none, where it isn't the name in small letters
+# built-in values, with their word or none, where it isn't the name in small letters
 BUILTIN_NAMES = BUILT_IN.names()
 BUILTIN_WORDS = {
     "WorkGroupId": "workgroup_id", "NumWorkGroups": "num_workgroups", "RayTmin": "ray_t_min",

@@ -3,7 +3,7 @@
 from bindings import attributes
 from modules import CONSTANTS, EVENTS, IMAGES, LEAVES, PARTS, READS, RESULTS, holds_continue, statements_in
 from operators import act_word, barrier_words, literal_text, numbers_around, offset_of, word_of
-from spelling import HANDLE, has_parts, points, points_to_atomic, spelled
+from spelling import HANDLE, has_parts, is_pointer, points_to_atomic, spelled
 
 # what initialisers and offsets may be made of
 WRITTEN_OUT = (*CONSTANTS, "compose", "splat")
@@ -92,7 +92,7 @@ def is_constant_text(f, h):
 
 # ---- the text of a function
 class Writer:
-    """Writes a function under its module's names; the namer goes on behind the labels of front ends."""
+    """Writes a function under its module's names; the namer goes on after the labels of front ends."""
 
     def __init__(self, f, names, explicit, is_portable=False):
         self.f, self.module_names = f, names
@@ -166,7 +166,7 @@ class Writer:
             return False
         if e.kind == "global":
             return self.f.module.variables[e.what[0]].space != HANDLE
-        return e.kind == "local" or (e.kind in PARTS and points(self.f.type_of(e.operands[0])))
+        return e.kind == "local" or (e.kind in PARTS and is_pointer(self.f.type_of(e.operands[0])))
 
     def value(self, h):
         """An operand where a value is wanted."""
@@ -273,7 +273,7 @@ class Writer:
             self.statement(s)
 
     def inner(self, body):
-        """A block one level deeper, behind which all that it gave is forgotten."""
+        """A block one level deeper, after which all that it gave is forgotten."""
         scope = self.scope()
         self.level += 1
         self.block(body)

@@ -159,7 +159,7 @@ def constant_of_type(p):
 
 
 def in_declaration(plant):
-    """What plants in a declaration, behind which others stand or none."""
+    """What plants in a declaration, after which others stand or none."""
     def planted(r, module):
         own = own_maker(r, module)
         found = plant(r, module, own, FaultMaker(r, module, own))
@@ -348,7 +348,7 @@ def type_of_local(p):
 
 @in_function
 def type_of_value(p):
-    """That of a zero value or a composition, also where a local of the type is told behind it."""
+    """That of a zero value or a composition, also where a local of the type is told after it."""
     ty, name = some_formless_type(p.r, p.module)
     if p.chance(0.5):
         return written(p, name, p.put_typed("zero", ty))
@@ -457,15 +457,15 @@ def block(body):
 
 
 def operand_before_or_without(p):
-    """What is used, and emitted nowhere, behind that, or in a block in front of it."""
+    """What is used, and emitted nowhere, after that, or in a block in front of it."""
     x = p.asked(INT)
     s, *more = p.use(x)
     given, truth, whole = emit(x, x), p.leaf_of(TRUTH), p.leaf_of(INT)
-    before, behind = p.r.choice([
+    before, after = p.r.choice([
         ([], []), ([], [given]), ([block([given])], []), ([loop([given, Statement("break")])], []),
         ([branch(truth, [given])], []), ([branch(truth, [], [given])], []),
         ([switch(whole, (("sint", 0), False, [given]), (None, False, []))], [])])
-    p.insert(*before, s, *more, *behind)
+    p.insert(*before, s, *more, *after)
     return at_operand(OUT_OF_SCOPE, p.f, p.at(x), s)
 
 
@@ -539,7 +539,7 @@ def needless_emit(p):
 
 
 def first_value(p):
-    """A local's first value that is asked for, or names a local behind it."""
+    """A local's first value that is asked for, or names a local after it."""
     number = len(p.f.locals)
     if p.chance(0.5):
         h = p.asked(INT)

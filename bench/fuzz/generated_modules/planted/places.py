@@ -17,7 +17,7 @@ def always(is_plain, explicit):
 
 class Planted:
     """A construct, by what is told of it; the function that it is in, or none; what tells the
-    place behind that of the function or of the module; and in which styles it stands there."""
+    place after that of the function or of the module; and in which styles it stands there."""
 
     def __init__(self, name, f, part, stands=always):
         self.name, self.f, self.part, self.stands = name, f, part, stands

@@ -3,13 +3,13 @@
 from functions import FunctionMaker
 from modules import LEAVES, RESULTS, Expression, Statement, emit, store, statements_in
 from refusals import formless, formless_type
-from spelling import BOOL, F32, FUNCTION, I32, U32, alike, pointer_to, points
+from spelling import BOOL, F32, FUNCTION, I32, U32, alike, pointer_to, is_pointer
 
 INT, TRUTH, FLOAT = ("scalar", I32), ("scalar", BOOL), ("scalar", F32)
 
 
 class Planter(FunctionMaker):
-    """Plants in one function. New expressions stand behind all others until they are moved."""
+    """Plants in one function. New expressions stand after all others until they are moved."""
 
     def __init__(self, r, module, f):
         super().__init__(r, module, [], f)
@@ -67,7 +67,7 @@ class Planter(FunctionMaker):
         return [(block, at) for block in (self.f.body, *inner) for at in range(len(block) + 1)]
 
     def insert(self, *statements):
-        """Puts statements into a block, one behind another, with others between them or not."""
+        """Puts statements into a block, one after another, with others between them or not."""
         block, at = self.r.choice(self.spots())
         for s in statements:
             block.insert(at, s)
@@ -76,7 +76,7 @@ class Planter(FunctionMaker):
     def use(self, h, is_stored=True):
         """Statements of which the first one has the expression as an operand, once."""
         ty, users = self.f.type_of(h), [self.texel, self.gather, self.ballot]
-        if is_stored and not points(ty):
+        if is_stored and not is_pointer(ty):
             users += [self.store] * 2
         if ty == TRUTH:
             users += [self.branch] * 2
@@ -138,7 +138,7 @@ class Planter(FunctionMaker):
 
     def replace(self, h):
         """Stands for an operand of a statement, if one is of its type."""
-        found = self.operands(lambda ty: alike(ty, self.f.type_of(h)) and not points(ty))
+        found = self.operands(lambda ty: alike(ty, self.f.type_of(h)) and not is_pointer(ty))
         if found:
             _, _, s, number = self.r.choice(found)
             s.operands[number] = h
@@ -163,11 +163,11 @@ class Planter(FunctionMaker):
             (block, at, s, number) for block in blocks for at, s in enumerate(block)
             for number in range(len(s.operands))]
         types = [self.f.type_of(s.operands[number]) for _, _, s, number in found]
-        return [each for each, ty in zip(found, types) if not points(ty) and test(ty)]
+        return [each for each, ty in zip(found, types) if not is_pointer(ty) and test(ty)]
 
     # ---- places of expressions
     def move(self):
-        """Moves new expressions further in front, behind their operands and out of each `Emit`."""
+        """Moves new expressions further in front, after their operands and out of each `Emit`."""
         expressions = self.f.expressions
         for e in self.new:
             old = next(h for h, each in enumerate(expressions) if each is e)
@@ -181,7 +181,7 @@ class Planter(FunctionMaker):
             self.renumber(old, self.r.choice(free))
 
     def renumber(self, old, new):
-        """The expression stands further in front now, and those between behind it."""
+        """The expression stands further in front now, and those between after it."""
         f = self.f
         f.expressions.insert(new, f.expressions.pop(old))
 
