@@ -119,9 +119,9 @@ returns-in-Some-clause-told g c =
     let told = c.declaration_without_form.ensures.told in
     λ of. record {
       refusal = record { construct = told.0; place = place.Declaration _ };
-      stands = (c.in-Some.declaration, found.place, told.1);
+      stands = (c.in-Some.declaration, found.place, told.1, told.2);
       first = found.first;
-      told = told.2;
+      told = told.3;
     }
 
 pub returns-in_err-names-clause-told : goal.returns-in_err-names-clause-told
