@@ -1,8 +1,9 @@
 -- Labels that are named one after another.
-use Rattle.std.proofs.Common.{◌≡◌, ◌++◌, ◌∙◌, ℕ, List, [], ◌∷◌, append-nil, append_assoc, ap, refl}
+use Rattle.std.proofs.Common.{◌≡◌, ◌≤◌, ◌^◌, ◌++◌, ◌∙◌, ℕ, List, [], ◌∷◌, append-nil, append_assoc, ap, refl}
 use Rattle.std.proofs.Common.{arith, length-append, subst, sym}
 use Rattle.std.specs.Prelude.{Err, IfErr, Ok, OnOk, Result}
 use Rattle.module_meaning.specs.ExpressionLabels.{SomeLabelIsFull}
+use Rattle.naga_names.proofs.NameShapes.{counted_more}
 use Rattle.naga_names.specs.Naming.{HasNamed, Names, Uses, label_base, labels_with_base, name_after}
 use Rattle.naga_names.specs.Naming.{with_use}
 use Rattle.naga_names.specs.Refusal.{IsRefusalOf}
@@ -85,6 +86,27 @@ names_one old new held label name used is more = record {
   labels_named = more;
   names = λ earlier has. ap (λ n. held ++ n ∷ []) (is earlier has);
 }
+
+-- where labels are counted, none of them is full
+pub counted_none_full : (start : Names) (earlier labels : List (List ℕ)) →
+    ((base : List ℕ) → labels_with_base start (earlier ++ labels) base ≤ 2 ^ 32) →
+    SomeLabelIsFull start earlier labels → ⊥
+counted_none_full start earlier labels few s =
+    let base : List ℕ = label_base start s.label in
+    let split = ap (λ ls. earlier ++ ls) s.all ∙ sym (append_assoc earlier s.named (s.label ∷ s.left)) in
+    let more = ap (λ ls. labels_with_base start ls base) split
+    ∙ counted_more start (earlier ++ s.named) s.label s.left base refl in
+    let full = s.full in
+    omega (arith, few base, more, full)
+
+-- so it is with labels that are named
+pub none_full : {old new : Names} {held labels now : List (List ℕ)} →
+    NamesLabels old held labels new now → (earlier : List (List ℕ)) → HasNamed old earlier →
+    SomeLabelIsFull old earlier labels → ⊥
+none_full {old} {new} {held} {labels} {now} n earlier has full =
+    let counted = n.labels_named earlier has in
+    counted_none_full old earlier labels
+    (λ base. subst (λ k. labels_with_base k (earlier ++ labels) base ≤ 2 ^ 32) n.words (counted.few base)) full
 
 -- ---- labels that are refused
 -- a base that is full among some is so among more

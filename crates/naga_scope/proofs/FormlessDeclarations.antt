@@ -1,6 +1,6 @@
 -- What a search through a module's declarations says of them.
 use Rattle.std.proofs.Common.{◌≡◌, ℕ, ◌+◌, ◌-◌, ◌<◌, ◌≤◌, Bool, true, false, Option, Some, None, refl, sym, ap, ◌∙◌, subst}
-use Rattle.std.proofs.Common.{List, length, slice_get, nat_lt, arith, not, MatchOption, Vec, Global}
+use Rattle.std.proofs.Common.{List, length, slice_get, nat_lt, arith, inl, inr, not, MatchOption, Vec, Global}
 use Rattle.std.specs.Prelude.{IfNone, IfSome, IsTrue, if◌then◌else◌}
 use Rattle.std.specs.Option.{is_some, option_and_then}
 use Rattle.std.proofs.lemmas.Bool.{false≢true, le-ltb, lt-ltb}
@@ -8,7 +8,7 @@ use Rattle.std.proofs.lemmas.Option.{slice_get_within}
 use Rattle.module_meaning.proofs.FunctionNumbers.{entry_point_among, function_among, which_function}
 use Rattle.module_meaning.proofs.FunctionNumbers.{IsNumbered, OfEntryPoint, OfFunction}
 use Rattle.module_meaning.specs.DeclarationForms.{DeclarationsHaveForms, HeadHasForm, IsDeclaredType}
-use Rattle.module_meaning.specs.DeclarationForms.{IsInitialiser, IsMemberBinding}
+use Rattle.module_meaning.specs.DeclarationForms.{IsInitialiser, IsMemberBinding, IsPassed}
 use Rattle.module_meaning.specs.DeclarationForms.{binding_has_form, entry_point_numbered, stage_has_form}
 use Rattle.module_meaning.specs.DeclarationForms.IsDeclaredType.{OfConstant as ConstantType, OfMember as MemberType}
 use Rattle.module_meaning.specs.DeclarationForms.IsDeclaredType.{OfOverride as OverrideType, OfVariable as VariableType}
@@ -24,11 +24,14 @@ use Rattle.naga_info.specs.declared.info.TypeResolution.TheVariants.{Handle}
 use Rattle.naga_ir.specs.declared.binding.Binding.{Binding}
 use Rattle.naga_ir.specs.declared.binding.Binding.TheVariants as binding
 use Rattle.naga_ir.specs.declared.binding.BuiltIn.{BuiltIn}
+use Rattle.naga_ir.specs.declared.module.Constant.{Constant}
 use Rattle.naga_ir.specs.declared.module.EntryPoint.{EntryPoint}
 use Rattle.naga_ir.specs.declared.module.Function.{Function}
 use Rattle.naga_ir.specs.declared.module.FunctionArgument.{FunctionArgument}
 use Rattle.naga_ir.specs.declared.module.FunctionResult.{FunctionResult}
+use Rattle.naga_ir.specs.declared.module.GlobalVariable.{GlobalVariable}
 use Rattle.naga_ir.specs.declared.module.Module.{Module}
+use Rattle.naga_ir.specs.declared.module.Override.{Override}
 use Rattle.naga_ir.specs.declared.types.StructMember.{StructMember}
 use Rattle.naga_ir.specs.declared.types.Type_.{Type_}
 use Rattle.naga_ir.specs.declared.types.TypeInner.TheVariants as inner
@@ -45,7 +48,8 @@ use Rattle.naga_scope.specs.declared.declarations.FormlessHead.TheVariants as he
 use Rattle.naga_scope.specs.Declarations.{BindingHasForm, ConstantHasForm, ConstantsHaveForms, Each, EntryPointHasForm, Finds, FindsFirst, FunctionsHaveForms, HaveFormsBefore, IsFormlessBinding}
 use Rattle.naga_scope.specs.Declarations.{IsFormlessConstant, IsFormlessDeclaration, IsFormlessEntryPoint, IsFormlessHead}
 use Rattle.naga_scope.specs.Declarations.{IsFormlessFunction, IsFormlessIn, IsFormlessPassed, IsFormlessType, IsFormlessValue, OverridesHaveForms, PassedHasForm, TypeHasForm, TypesHaveForms, VariablesHaveForms}
-use Rattle.naga_scope.specs.Declarations.{FindsMember, IsFormlessStruct, IsOtherStride, StructHasForm, ValueHasForm, concerned_among}
+use Rattle.naga_scope.specs.Declarations.{FindsMember, FindsStride, IsFormlessStruct, IsOtherStride, StructHasForm, ValueHasForm, concerned_among}
+use Rattle.naga_scope.proofs.FirstMisplaced.{first_misplaced}
 use Rattle.wgsl_layout.proofs.FirstFaults.{fault_stands, none_kept}
 use Rattle.wgsl_layout.specs.Faults.{StandsAmong, first_fault}
 use Rattle.wgsl_layout.specs.Members.{is_concerned}
@@ -95,14 +99,24 @@ module _ (m : Module) where
         subst (λ p. IsTrue (stage_has_form p p.stage)) entry_point formed.stage;
   }
 
+  -- what it takes or gives is bound to a value without a word
+  passed_lacks : (f : Function) (v : BuiltIn) → IsFormlessPassed f v →
+      IsPassed f (binding.BuiltIn v) × (binding_has_form (binding.BuiltIn v) ≡ false)
+  passed_lacks f v (inl (i, a, at, earlier, (bound, lacks))) = (OfArgument i a (binding.BuiltIn v) at bound, lacks)
+  passed_lacks f v (inr (formed, (r, is, (bound, lacks)))) = (OfResult r (binding.BuiltIn v) is bound, lacks)
+
   pub function_lacks : (h : ℕ) (f : Function) → slice_get m.functions h ≡ Some f → (v : BuiltIn) → IsFormlessPassed f v →
       IsFormlessHead m h (head.BuiltIn v)
-  function_lacks h f there v lacks = (f, function_among m h f there, lacks.0, lacks.1)
+  function_lacks h f there v lacks =
+      let passed = passed_lacks f v lacks in
+      (f, function_among m h f there, passed.0, passed.1)
 
   pub entry_point_lacks : (j : ℕ) (p : EntryPoint) → slice_get m.entry_points.items j ≡ Some p → (it : FormlessHead) →
       IsFormlessEntryPoint p it → IsFormlessHead m (length m.functions + j) it
-  entry_point_lacks j p there (head.BuiltIn v) lacks = (p.function, entry_point_among m j p there, lacks.0, lacks.1)
-  entry_point_lacks j p there head.Stage lacks = (p, numbered j ∙ there, lacks)
+  entry_point_lacks j p there (head.BuiltIn v) lacks =
+      let passed = passed_lacks p.function v lacks in
+      (p.function, entry_point_among m j p there, passed.0, passed.1)
+  entry_point_lacks j p there head.Stage lacks = (p, numbered j ∙ there, lacks.1)
 
   -- ---- an entry point, by whether something of it lacks a form
   module _ (j : ℕ) (p : EntryPoint) (there : slice_get m.entry_points.items j ≡ Some p) where
@@ -146,54 +160,50 @@ module _ (m : Module) where
       other = other.1;
     }
 
-  pub types_lack : (it : FormlessDeclaration) → Finds m.types (TypeHasForm m) (IsFormlessType m) (Some it) →
-      IsFormlessDeclaration m it
-  types_lack (declaration.Type_ ty) (h, t, at, (declared, (i, s, there, (same, lacks)))) =
+  types_lack : (h : ℕ) (t : Type_) → slice_get m.types h ≡ Some t → (it : FormlessDeclaration) →
+      IsFormlessType m h t it → IsFormlessDeclaration m it
+  types_lack h t at (declaration.Type_ ty) (declared, (i, s, there, earlier, (same, lacks))) =
       (subst (IsDeclaredType m) (sym same) (MemberType h i t s at declared there), lacks)
-  types_lack (declaration.Initialiser handle) (h, t, at, (declared, (i, s, there, lacks))) = absurd lacks
-  types_lack (declaration.BuiltIn v) (h, t, at, (declared, (i, s, there, (bound, lacks)))) =
+  types_lack h t at (declaration.Initialiser handle) (declared, (i, s, there, earlier, lacks)) = absurd lacks
+  types_lack h t at (declaration.BuiltIn v) (declared, (i, s, there, earlier, (typed, (bound, lacks)))) =
       (MemberBinding h i t s (binding.BuiltIn v) at declared there bound, lacks)
-  types_lack (declaration.Head it) (h, t, at, (declared, (i, s, there, lacks))) = absurd lacks
-  types_lack (declaration.Misplaced fault) (h, t, at, (declared, (ks, concerned, stands))) =
+  types_lack h t at (declaration.Head it) (declared, (i, s, there, earlier, lacks)) = absurd lacks
+  types_lack h t at (declaration.Misplaced fault) (declared, (formed, (ks, concerned, stands, first))) =
       (h, misplaced_in h t at declared fault ks concerned stands)
-  types_lack (declaration.Stride ty) (h, t, at, (declared, (ks, concerned, (i, s, there, other)))) =
+  types_lack h t at (declaration.Stride ty) (declared, (formed, (ks, concerned, kept, (i, s, there, earlier, other)))) =
       (h, stride_in h t at declared ty ks concerned i s there other)
 
-  pub constants_lack : (it : FormlessDeclaration) → Finds m.constants (λ i. ConstantHasForm m) (λ i. IsFormlessConstant m) (Some it) →
-      IsFormlessDeclaration m it
-  constants_lack (declaration.Type_ ty) (i, k, at, (is_named, (same, lacks))) =
+  constants_lack : (i : ℕ) (k : Constant) → slice_get m.constants i ≡ Some k → (it : FormlessDeclaration) →
+      IsFormlessConstant m k it → IsFormlessDeclaration m it
+  constants_lack i k at (declaration.Type_ ty) (is_named, (same, lacks)) =
       (subst (IsDeclaredType m) (sym same) (ConstantType i k at is_named), lacks)
-  constants_lack (declaration.Initialiser h) (i, k, at, (is_named, (same, lacks))) =
+  constants_lack i k at (declaration.Initialiser h) (is_named, (typed, same, lacks)) =
       let handle : k.init ≡ h = cc in
       (subst (IsInitialiser m) handle (ConstantInitialiser i k at is_named), lacks)
-  constants_lack (declaration.BuiltIn v) (i, k, at, (is_named, lacks)) = absurd lacks
-  constants_lack (declaration.Head it) (i, k, at, (is_named, lacks)) = absurd lacks
-  constants_lack (declaration.Misplaced fault) (i, k, at, (is_named, lacks)) = absurd lacks
-  constants_lack (declaration.Stride ty) (i, k, at, (is_named, lacks)) = absurd lacks
+  constants_lack i k at (declaration.BuiltIn v) (is_named, lacks) = absurd lacks
+  constants_lack i k at (declaration.Head it) (is_named, lacks) = absurd lacks
+  constants_lack i k at (declaration.Misplaced fault) (is_named, lacks) = absurd lacks
+  constants_lack i k at (declaration.Stride ty) (is_named, lacks) = absurd lacks
 
-  pub overrides_lack : (it : FormlessDeclaration) →
-      Finds m.overrides (λ i o. ValueHasForm m o.ty o.init) (λ i o. IsFormlessValue m o.ty o.init) (Some it) →
-      IsFormlessDeclaration m it
-  overrides_lack (declaration.Type_ ty) (i, o, at, (same, lacks)) =
+  overrides_lack : (i : ℕ) (o : Override) → slice_get m.overrides i ≡ Some o → (it : FormlessDeclaration) →
+      IsFormlessValue m o.ty o.init it → IsFormlessDeclaration m it
+  overrides_lack i o at (declaration.Type_ ty) (same, lacks) =
       (subst (IsDeclaredType m) (sym same) (OverrideType i o at), lacks)
-  overrides_lack (declaration.Initialiser h) (i, o, at, (same, lacks)) =
-      (OverrideInitialiser i o h at same, lacks)
-  overrides_lack (declaration.BuiltIn v) (i, o, at, lacks) = absurd lacks
-  overrides_lack (declaration.Head it) (i, o, at, lacks) = absurd lacks
-  overrides_lack (declaration.Misplaced fault) (i, o, at, lacks) = absurd lacks
-  overrides_lack (declaration.Stride ty) (i, o, at, lacks) = absurd lacks
+  overrides_lack i o at (declaration.Initialiser h) (typed, same, lacks) = (OverrideInitialiser i o h at same, lacks)
+  overrides_lack i o at (declaration.BuiltIn v) lacks = absurd lacks
+  overrides_lack i o at (declaration.Head it) lacks = absurd lacks
+  overrides_lack i o at (declaration.Misplaced fault) lacks = absurd lacks
+  overrides_lack i o at (declaration.Stride ty) lacks = absurd lacks
 
-  pub variables_lack : (it : FormlessDeclaration) →
-      Finds m.global_variables (λ i g. ValueHasForm m g.ty g.init) (λ i g. IsFormlessValue m g.ty g.init) (Some it) →
-      IsFormlessDeclaration m it
-  variables_lack (declaration.Type_ ty) (i, g, at, (same, lacks)) =
+  variables_lack : (i : ℕ) (g : GlobalVariable) → slice_get m.global_variables i ≡ Some g → (it : FormlessDeclaration) →
+      IsFormlessValue m g.ty g.init it → IsFormlessDeclaration m it
+  variables_lack i g at (declaration.Type_ ty) (same, lacks) =
       (subst (IsDeclaredType m) (sym same) (VariableType i g at), lacks)
-  variables_lack (declaration.Initialiser h) (i, g, at, (same, lacks)) =
-      (VariableInitialiser i g h at same, lacks)
-  variables_lack (declaration.BuiltIn v) (i, g, at, lacks) = absurd lacks
-  variables_lack (declaration.Head it) (i, g, at, lacks) = absurd lacks
-  variables_lack (declaration.Misplaced fault) (i, g, at, lacks) = absurd lacks
-  variables_lack (declaration.Stride ty) (i, g, at, lacks) = absurd lacks
+  variables_lack i g at (declaration.Initialiser h) (typed, same, lacks) = (VariableInitialiser i g h at same, lacks)
+  variables_lack i g at (declaration.BuiltIn v) lacks = absurd lacks
+  variables_lack i g at (declaration.Head it) lacks = absurd lacks
+  variables_lack i g at (declaration.Misplaced fault) lacks = absurd lacks
+  variables_lack i g at (declaration.Stride ty) lacks = absurd lacks
 
   functions_lack : (h : ℕ) (f : Function) → slice_get m.functions h ≡ Some f → (it : FormlessDeclaration) →
       IsFormlessFunction f it → IsFormlessDeclaration m it
@@ -223,25 +233,25 @@ module _ (m : Module) where
   pub of_types : (found : DeclarationPlace × FormlessDeclaration) →
       FindsFirst m.types (TypeHasForm m) (λ h. place.Struct h) (IsFormlessType m) (Some found) → IsFound found
   of_types (at, it) (h, t, there, same, earlier, lacks) =
-      at_place at (place.Struct h) it same (types_lack it (h, t, there, lacks)) (t, there, lacks) earlier
+      at_place at (place.Struct h) it same (types_lack h t there it lacks) (t, there, lacks) earlier
 
   module _ (types : TypesHaveForms m) where
     pub of_constants : (found : DeclarationPlace × FormlessDeclaration) →
         FindsFirst m.constants (λ i. ConstantHasForm m) (λ h. place.Constant h) (λ i. IsFormlessConstant m) (Some found) → IsFound found
     of_constants (at, it) (h, c, there, same, earlier, lacks) =
-        at_place at (place.Constant h) it same (constants_lack it (h, c, there, lacks)) (c, there, lacks) (types, earlier)
+        at_place at (place.Constant h) it same (constants_lack h c there it lacks) (c, there, lacks) (types, earlier)
 
     module _ (constants : ConstantsHaveForms m) where
       pub of_overrides : (found : DeclarationPlace × FormlessDeclaration) →
           FindsFirst m.overrides (λ i o. ValueHasForm m o.ty o.init) (λ h. place.Override h) (λ i o. IsFormlessValue m o.ty o.init) (Some found) → IsFound found
       of_overrides (at, it) (h, o, there, same, earlier, lacks) =
-          at_place at (place.Override h) it same (overrides_lack it (h, o, there, lacks)) (o, there, lacks) (types, constants, earlier)
+          at_place at (place.Override h) it same (overrides_lack h o there it lacks) (o, there, lacks) (types, constants, earlier)
 
       module _ (overrides : OverridesHaveForms m) where
         pub of_variables : (found : DeclarationPlace × FormlessDeclaration) →
             FindsFirst m.global_variables (λ i g. ValueHasForm m g.ty g.init) (λ h. place.GlobalVariable h) (λ i g. IsFormlessValue m g.ty g.init) (Some found) → IsFound found
         of_variables (at, it) (h, g, there, same, earlier, lacks) =
-            at_place at (place.GlobalVariable h) it same (variables_lack it (h, g, there, lacks)) (g, there, lacks) (types, constants, overrides, earlier)
+            at_place at (place.GlobalVariable h) it same (variables_lack h g there it lacks) (g, there, lacks) (types, constants, overrides, earlier)
 
         module _ (variables : VariablesHaveForms m) where
           pub of_functions : (found : DeclarationPlace × FormlessDeclaration) →
@@ -335,8 +345,8 @@ module _ (m : Module) where
 module _ (f : Function) (arguments : List FunctionArgument) (are : arguments ≡ f.arguments.items) where
   pub argument_lacks : (v : BuiltIn) →
       Finds arguments (λ i a. BindingHasForm a.binding) (λ i a. IsFormlessBinding a.binding) (Some v) → IsFormlessPassed f v
-  argument_lacks v (i, a, at, (bound, lacks)) =
-      (OfArgument i a (binding.BuiltIn v) (ap (λ xs. slice_get xs i) (sym are) ∙ at) bound, lacks)
+  argument_lacks v finds =
+      inl (subst (λ xs. Finds xs (λ i a. BindingHasForm a.binding) (λ i a. IsFormlessBinding a.binding) (Some v)) are finds)
 
   -- by whether the result lacks a form, where no argument does
   pub by_result : Finds arguments (λ i a. BindingHasForm a.binding) (λ i a. IsFormlessBinding a.binding) None →
@@ -351,7 +361,8 @@ module _ (f : Function) (arguments : List FunctionArgument) (are : arguments ≡
           let both : Some r ≡ Some q = sym is ∙ found in
           let same : r ≡ q = cc in
           has b (ap (λ r. r.binding) same ∙ bound)
-  by_result formed r is (Some v) lacks = (OfResult r (binding.BuiltIn v) is lacks.0, lacks.1)
+  by_result formed r is (Some v) lacks =
+      inr (subst (λ xs. Each xs (λ i a. BindingHasForm a.binding)) are formed, (r, is, lacks))
 
 -- ---- the members of a struct
 -- one of them has no form
@@ -361,8 +372,8 @@ of_members m members (declaration.Type_ ty) finds = finds
 of_members m members (declaration.Initialiser h) finds = finds
 of_members m members (declaration.BuiltIn v) finds = finds
 of_members m members (declaration.Head it) finds = finds
-of_members m members (declaration.Misplaced fault) (i, s, there, lacks) = absurd lacks
-of_members m members (declaration.Stride ty) (i, s, there, lacks) = absurd lacks
+of_members m members (declaration.Misplaced fault) (i, s, there, earlier, lacks) = absurd lacks
+of_members m members (declaration.Stride ty) (i, s, there, earlier, lacks) = absurd lacks
 
 module _ (m : Module) (members : List StructMember) where
   -- all that are placed are concerned, or not
@@ -386,16 +397,17 @@ module _ (m : Module) (members : List StructMember) where
       ap (option_and_then concerned_only) are ∙ ap (λ b. if b then Some ks else None) is
 
   -- a fault is found
-  pub by_fault : (fault : Misplaced) → Some fault ≡ option_and_then (first_fault None None) (placed_members (layout_in m) members) →
+  pub by_fault : (fault : Misplaced) → FindsMember m members None →
+      Some fault ≡ option_and_then (first_fault None None) (placed_members (layout_in m) members) →
       IsFormlessStruct m members (declaration.Misplaced fault)
-  by_fault fault found = by (placed_members (layout_in m) members) refl (sym found)
+  by_fault fault formed found = by (placed_members (layout_in m) members) refl (sym found)
     where
       by : (o : Option (List Placed)) → placed_members (layout_in m) members ≡ o →
           option_and_then (first_fault None None) o ≡ Some fault → IsFormlessStruct m members (declaration.Misplaced fault)
       by None are found = absurd cc
       by (Some ks) are found =
           let stands = fault_stands ks fault found in
-          (ks, from_placed ks are stands.0, stands.1)
+          (formed, (ks, from_placed ks are stands.0, stands.1, first_misplaced ks fault found))
 
   -- none is found
   module _ (finds : FindsMember m members None)
@@ -409,7 +421,7 @@ module _ (m : Module) (members : List StructMember) where
         none_stands ks (none_kept ks found.1 (first_none ks found.0)) fault stands
 
     -- by whether an array has another stride, and whether the struct has a layout
-    pub by_strides : Finds members (λ i s. IsTrue (arrays_are_kept (module_rule m) m.types s.ty)) (λ i s. IsOtherStride m s) None →
+    pub by_strides : FindsStride m members None →
         StructHasForm m members
     by_strides kept = record {
       each = finds;
@@ -427,11 +439,12 @@ module _ (m : Module) (members : List StructMember) where
             absurd (false≢true (unlaid ∙ concerned_laid (layout_in m) (all_aligned (module_rule m) m.types) members span ks found.0 found.1 (first_none ks found.0)));
       }
 
-  pub by_other : (span ty : ℕ) → Finds members (λ i s. IsTrue (arrays_are_kept (module_rule m) m.types s.ty)) (λ i s. IsOtherStride m s) (Some ty) →
-      true ≡ is_some (kept_struct (layout_in m) members span) → IsFormlessStruct m members (declaration.Stride ty)
-  by_other span ty (i, s, there, other) laid =
-      let placed = laid_concerned (layout_in m) members span (sym laid) in
-      (placed.placed, from_placed placed.placed placed.are placed.concerned, (i, s, there, other))
+    pub by_other : (span ty : ℕ) → FindsStride m members (Some ty) →
+        true ≡ is_some (kept_struct (layout_in m) members span) → IsFormlessStruct m members (declaration.Stride ty)
+    by_other span ty stride laid =
+        let placed = laid_concerned (layout_in m) members span (sym laid) in
+        let concerned = from_placed placed.placed placed.are placed.concerned in
+        (finds, (placed.placed, concerned, no_fault placed.placed concerned, stride))
 
 -- ---- a struct that a text declares
 pub by_members : (m : Module) (ty : ℕ) (t : Type_) (members : Vec StructMember Global) (span : ℕ) (found : Option FormlessDeclaration) →

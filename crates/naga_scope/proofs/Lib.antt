@@ -10,6 +10,7 @@ pub mod Logs
 pub mod Marking
 pub mod Offsets
 pub mod FilledTables
+pub mod FirstMisplaced
 pub mod FirstValues
 pub mod Planned
 pub mod KeptPoints

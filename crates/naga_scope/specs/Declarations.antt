@@ -6,7 +6,8 @@
 -- expression, s a member, c a constant, o an override, g a variable, a an argument, i is the place
 -- of an item in its list, fault is why members can't stay where they are, ks are the members of a
 -- struct as the module places them, and it is what is found.
-use Rattle.std.specs.Prelude.{◌≡◌, ◌<◌, ℕ, Option, Some, None, IsFalse, IsTrue, List, slice_get}
+use Rattle.std.specs.Prelude.{◌≡◌, ◌<◌, ◌⊎◌, ℕ, zero, suc, Option, Some, None, IsFalse, IsTrue}
+use Rattle.std.specs.Prelude.{List, slice_get}
 use Rattle.std.specs.Option.{is_some, option_and_then}
 use Rattle.module_meaning.specs.DeclarationForms.{IsDeclaredType, IsInitialiser, IsMemberBinding}
 use Rattle.module_meaning.specs.DeclarationForms.{IsPassed, binding_has_form, entry_point_numbered}
@@ -23,6 +24,7 @@ use Rattle.naga_ir.specs.declared.binding.BuiltIn.{BuiltIn}
 use Rattle.naga_ir.specs.declared.module.Constant.{Constant}
 use Rattle.naga_ir.specs.declared.module.EntryPoint.{EntryPoint}
 use Rattle.naga_ir.specs.declared.module.Function.{Function}
+use Rattle.naga_ir.specs.declared.module.FunctionResult.{FunctionResult}
 use Rattle.naga_ir.specs.declared.module.GlobalVariable.{GlobalVariable}
 use Rattle.naga_ir.specs.declared.module.Module.{Module}
 use Rattle.naga_ir.specs.declared.module.Override.{Override}
@@ -36,7 +38,7 @@ use Rattle.naga_scope.specs.declared.declarations.FormlessDeclaration.{FormlessD
 use Rattle.naga_scope.specs.declared.declarations.FormlessDeclaration.TheVariants as declaration
 use Rattle.naga_scope.specs.declared.declarations.FormlessHead.{FormlessHead}
 use Rattle.naga_scope.specs.declared.declarations.FormlessHead.TheVariants as head
-use Rattle.wgsl_layout.specs.Faults.{StandsAmong}
+use Rattle.wgsl_layout.specs.Faults.{StandsAmong, own_fault}
 use Rattle.wgsl_layout.specs.declared.layouts.Placed.{Placed}
 use Rattle.wgsl_layout.specs.declared.members.Misplaced.{Misplaced}
 
@@ -66,16 +68,16 @@ IsFormlessDeclaration m (declaration.Stride found) = (ty : ℕ) × HasOtherStrid
 abbrev pub Each : {X : Type 0} → List X → (HasForm : (i : ℕ) → X → Type 0) → Type 0
 Each {X} xs HasForm = (i : ℕ) (x : X) → slice_get xs i ≡ Some x → HasForm i x
 
--- Each item of a list has a form, or this one has none, as is told of each item by its place.
-abbrev pub Finds : {X F : Type 0} → List X → (HasForm : (i : ℕ) → X → Type 0) →
-    (IsFormless : (i : ℕ) → X → F → Type 0) → Option F → Type 0
-Finds {X} xs HasForm IsFormless None = Each xs HasForm
-Finds {X} xs HasForm IsFormless (Some it) =
-    (i : ℕ) × (x : X) × (slice_get xs i ≡ Some x) × IsFormless i x it
-
 -- each in front of this place has one
 abbrev pub EachBefore : {X : Type 0} → List X → (n : ℕ) → (HasForm : (i : ℕ) → X → Type 0) → Type 0
 EachBefore {X} xs n HasForm = (i : ℕ) (x : X) → i < n → slice_get xs i ≡ Some x → HasForm i x
+
+-- Each item of a list has a form, or the first that has none is told so, by its place.
+abbrev pub Finds : {X F : Type 0} → List X → (HasForm : (i : ℕ) → X → Type 0) →
+    (IsFormless : (i : ℕ) → X → F → Type 0) → Option F → Type 0
+Finds xs HasForm IsFormless None = Each xs HasForm
+Finds {X} xs HasForm IsFormless (Some it) =
+    (i : ℕ) × (x : X) × (slice_get xs i ≡ Some x) × EachBefore xs i HasForm × IsFormless i x it
 
 -- Each item of a list has a form, or this one is the first that has none, at which it is told so.
 abbrev pub FindsFirst : {X P F : Type 0} → List X → (HasForm : (i : ℕ) → X → Type 0) →
@@ -91,12 +93,12 @@ pub record ValueHasForm (m : Module) (ty : ℕ) (init : Option ℕ) : Type 0 whe
   pub type : IsTrue (is_spellable m (Handle ty))
   pub initialiser : (h : ℕ) → init ≡ Some h → IsTrue (global_is_written m h)
 
--- the one or the other has none
+-- the type has none, or the initialiser of one that has a form
 abbrev pub IsFormlessValue : Module → (ty : ℕ) → (init : Option ℕ) → FormlessDeclaration → Type 0
 IsFormlessValue m ty init (declaration.Type_ found) =
     (found ≡ ty) × IsFalse (is_spellable m (Handle found))
 IsFormlessValue m ty init (declaration.Initialiser h) =
-    (init ≡ Some h) × IsFalse (global_is_written m h)
+    IsTrue (is_spellable m (Handle ty)) × (init ≡ Some h) × IsFalse (global_is_written m h)
 IsFormlessValue m ty init _ = ⊥
 
 -- so it is with a constant that has a name: its declaration tells both
@@ -122,14 +124,15 @@ pub record MemberHasForm (m : Module) (s : StructMember) : Type 0 where
   pub type : IsTrue (is_spellable m (Handle s.ty))
   pub binding : BindingHasForm s.binding
 
--- the one or the other has none
+-- the type has none, or the binding where the type has one
 abbrev pub IsFormlessMember : Module → StructMember → FormlessDeclaration → Type 0
 IsFormlessMember m s (declaration.Type_ ty) =
     (ty ≡ s.ty) × IsFalse (is_spellable m (Handle ty))
-IsFormlessMember m s (declaration.BuiltIn v) = IsFormlessBinding s.binding v
+IsFormlessMember m s (declaration.BuiltIn v) =
+    IsTrue (is_spellable m (Handle s.ty)) × IsFormlessBinding s.binding v
 IsFormlessMember m s _ = ⊥
 
--- these members have forms, or one has none
+-- these members have forms, or the first that has none is told
 abbrev pub FindsMember : Module → List StructMember → Option FormlessDeclaration → Type 0
 FindsMember m members =
     Finds members (λ i s. MemberHasForm m s) (λ i s it. IsFormlessMember m s it)
@@ -144,6 +147,24 @@ IsOtherStride m s ty = (ty ≡ s.ty) × IsFalse (arrays_are_kept (module_rule m)
 abbrev pub concerned_among : Module → List StructMember → Option (List Placed)
 concerned_among m members = option_and_then concerned_only (placed_members (layout_in m) members)
 
+-- the type of each member has arrays of WGSL's stride, or the first that has others is told
+abbrev pub FindsStride : Module → List StructMember → (ty : Option ℕ) → Type 0
+FindsStride m members =
+    Finds members (λ i s. IsTrue (arrays_are_kept (module_rule m) m.types s.ty))
+    (λ i s. IsOtherStride m s)
+
+-- the member in front of this place, if there is one
+abbrev pub placed_before : List Placed → (place : ℕ) → Option Placed
+placed_before ks zero = None
+placed_before ks (suc i) = slice_get ks i
+
+-- each member can stay where it is, or the first fault is told: of a member that is off its
+-- alignment, or that begins inside the one in front of it
+abbrev pub FindsMisplaced : List Placed → Option Misplaced → Type 0
+FindsMisplaced ks =
+    Finds ks (λ i k. own_fault (placed_before ks i) k ≡ None)
+    (λ i k fault. own_fault (placed_before ks i) k ≡ Some fault)
+
 -- the members of a struct have forms, and if the struct is concerned, each can stay where it is and
 -- has arrays of WGSL's stride
 pub record StructHasForm (m : Module) (members : List StructMember) : Type 0 where
@@ -154,13 +175,17 @@ pub record StructHasForm (m : Module) (members : List StructMember) : Type 0 whe
       (i : ℕ) (s : StructMember) → slice_get members i ≡ Some s →
       IsTrue (arrays_are_kept (module_rule m) m.types s.ty)
 
--- a member can't stay where it is, or has an array of another stride, or has no form
+-- A member has no form; or all have one, and a member can't stay where it is; or all can, and one
+-- has an array of another stride. Of each the first is told.
 abbrev pub IsFormlessStruct : Module → List StructMember → FormlessDeclaration → Type 0
 IsFormlessStruct m members (declaration.Misplaced fault) =
-    (ks : List Placed) × (concerned_among m members ≡ Some ks) × StandsAmong fault ks
+    FindsMember m members None
+    × ((ks : List Placed) × (concerned_among m members ≡ Some ks) × StandsAmong fault ks
+    × FindsMisplaced ks (Some fault))
 IsFormlessStruct m members (declaration.Stride ty) =
-    (ks : List Placed) × (concerned_among m members ≡ Some ks)
-    × Finds members (λ i s. ⊥) (λ i s. IsOtherStride m s) (Some ty)
+    FindsMember m members None
+    × ((ks : List Placed) × (concerned_among m members ≡ Some ks)
+    × ((fault : Misplaced) → StandsAmong fault ks → ⊥) × FindsStride m members (Some ty))
 IsFormlessStruct m members it = FindsMember m members (Some it)
 
 -- so it is with a struct that a text declares
@@ -177,19 +202,29 @@ IsFormlessType m ty t it =
 abbrev pub PassedHasForm : Function → Type 0
 PassedHasForm f = (b : Binding) → IsPassed f b → IsTrue (binding_has_form b)
 
--- it takes or gives this built-in value, which has none
+-- each argument has a form, or the first that has none is bound to this value
+abbrev pub FindsArgument : Function → Option BuiltIn → Type 0
+FindsArgument f =
+    Finds f.arguments.items (λ i a. BindingHasForm a.binding) (λ i a. IsFormlessBinding a.binding)
+
+-- an argument is bound to this built-in value, which has none, and is the first that has none; or all
+-- have one, and the result is bound to it
 abbrev pub IsFormlessPassed : Function → BuiltIn → Type 0
 IsFormlessPassed f v =
-    IsPassed f (binding.BuiltIn v) × IsFalse (binding_has_form (binding.BuiltIn v))
+    FindsArgument f (Some v)
+    ⊎ (FindsArgument f None
+    × ((r : FunctionResult) × (f.result ≡ Some r) × IsFormlessBinding r.binding v))
 
 -- so it is with an entry point and its stage
 pub record EntryPointHasForm (p : EntryPoint) : Type 0 where
   pub passed : PassedHasForm p.function
   pub stage : IsTrue (stage_has_form p p.stage)
 
+-- what it takes or gives has none, or its stage where all that has one
 abbrev pub IsFormlessEntryPoint : EntryPoint → FormlessHead → Type 0
 IsFormlessEntryPoint p (head.BuiltIn v) = IsFormlessPassed p.function v
-IsFormlessEntryPoint p head.Stage = IsFalse (stage_has_form p p.stage)
+IsFormlessEntryPoint p head.Stage =
+    PassedHasForm p.function × IsFalse (stage_has_form p p.stage)
 
 -- ---- where it stands
 abbrev pub IsFormlessFunction : Function → FormlessDeclaration → Type 0

@@ -21,7 +21,7 @@ use Rattle.shader_runs.specs.ScopeRules.{ScopeHolds}
 use Rattle.shader_runs.specs.ScopeFaults.{HasScopeFault}
 use Rattle.module_meaning.specs.FunctionShapes.{function_shape}
 use Rattle.module_meaning.specs.Premises.{function_shape_at}
-use Rattle.module_meaning.specs.ExpressionLabels.{expression_labels}
+use Rattle.module_meaning.specs.ExpressionLabels.{SomeLabelIsFull, expression_labels}
 use Rattle.module_meaning.specs.Names.{expression_name}
 use Rattle.naga_names.specs.Naming.{HasNamed, Names}
 use Rattle.naga_scope.specs.ExpressionNames.{IsRefusalOfLabels}
@@ -95,34 +95,45 @@ IsFormedBefore m info f es =
     × ((x : ℕ) (e : Expression) → slice_get f.expressions x ≡ Some e → IsWrittenIn m info f es x →
     IsTrue (expression_has_form m es f.expressions e))
 
+-- the labels that front ends gave in it get names after all that the namer has named
+abbrev pub LabelsGetNames : Names → ir.Function → Type 0
+LabelsGetNames namer f = (earlier : List (List ℕ)) → HasNamed namer earlier →
+    SomeLabelIsFull namer earlier (expression_labels f) → ⊥
+
 -- A function is looked at by the labels that front ends gave in it, the rules of scope, its
 -- statements, what is written of it, the types that it declares and those that its `let`s tell. All
--- that is looked at before this error is found is without one.
-abbrev pub IsFirstToPlan : (explicit : Bool) → Module → ModuleInfo → ir.Function →
-    List ExpressionInfo → PlanError → Type 0
-IsFirstToPlan explicit m info f es (OutOfScope fault) =
-    check_function (function_naming (λ key. None) (λ number. []) m info 0 f es) ≡ Err fault
-IsFirstToPlan explicit m info f es (StatementWithoutForm n it) =
-    ScopeHolds (function_shape m info f es) × (number_block 0 f.body ≡ Err (n, it))
-IsFirstToPlan explicit m info f es (WithoutForm h) =
-    ScopeHolds (function_shape m info f es) × IsTrue (block_has_forms f.body)
+-- that is looked at before this error is found is without one; of the labels Labelled says it. In
+-- front of a label without a name, and of want of memory, nothing is told.
+abbrev pub IsFirstToPlan : (Labelled : Type 0) → (explicit : Bool) → Module → ModuleInfo →
+    ir.Function → List ExpressionInfo → PlanError → Type 0
+IsFirstToPlan Labelled explicit m info f es (OutOfScope fault) =
+    Labelled × (check_function (function_naming (λ key. None) (λ number. []) m info 0 f es)
+    ≡ Err fault)
+IsFirstToPlan Labelled explicit m info f es (StatementWithoutForm n it) =
+    Labelled × ScopeHolds (function_shape m info f es) × (number_block 0 f.body ≡ Err (n, it))
+IsFirstToPlan Labelled explicit m info f es (WithoutForm h) =
+    Labelled × ScopeHolds (function_shape m info f es) × IsTrue (block_has_forms f.body)
     × ((x : ℕ) (e : Expression) → h < x → slice_get f.expressions x ≡ Some e →
     IsWrittenIn m info f es x → IsTrue (expression_has_form m es f.expressions e))
-IsFirstToPlan explicit m info f es (TypeWithoutForm ty) =
-    IsFormedBefore m info f es × (declared_formless m f ≡ Some ty)
-IsFirstToPlan explicit m info f es (LetWithoutForm h) =
-    IsFormedBefore m info f es × (declared_formless m f ≡ None)
+IsFirstToPlan Labelled explicit m info f es (TypeWithoutForm ty) =
+    Labelled × IsFormedBefore m info f es × (declared_formless m f ≡ Some ty)
+IsFirstToPlan Labelled explicit m info f es (LetWithoutForm h) =
+    Labelled × IsFormedBefore m info f es × (declared_formless m f ≡ None)
     × (annotated_formless explicit m es (binds (function_shape m info f es)) f ≡ Some h)
-IsFirstToPlan explicit m info f es _ = ⊤
+IsFirstToPlan Labelled explicit m info f es (Unnamed error) = ⊤
+IsFirstToPlan Labelled explicit m info f es (Memory e) = ⊤
 
-abbrev pub IsFirstToPlanFor : (explicit : Bool) → KnownFunction → PlanError → Type 0
-IsFirstToPlanFor explicit k error =
-    IsFirstToPlan explicit k.shader.now k.module_info.now k.function.now k.info.now error
+-- so it is where the namer was this
+abbrev pub IsFirstToPlanFor : (explicit : Bool) → KnownFunction → Names → PlanError → Type 0
+IsFirstToPlanFor explicit k namer error =
+    IsFirstToPlan (LabelsGetNames namer k.function.now) explicit k.shader.now k.module_info.now
+    k.function.now k.info.now error
 
-abbrev pub IsFirstToPlanOf : (explicit : Bool) → Module → ModuleInfo → (number : ℕ) → PlanError →
-    Type 0
-IsFirstToPlanOf explicit m info number error =
-    OfFunctionAt m info number (λ f es. IsFirstToPlan explicit m info f es error)
+abbrev pub IsFirstToPlanOf : (explicit : Bool) → Module → ModuleInfo → (number : ℕ) → Names →
+    PlanError → Type 0
+IsFirstToPlanOf explicit m info number namer error =
+    OfFunctionAt m info number
+    (λ f es. IsFirstToPlan (LabelsGetNames namer f) explicit m info f es error)
 
 -- a plan of a function with what is known of it, and why there is none
 abbrev pub IsPlanFor : (explicit : Bool) → KnownFunction → Planned → Type 0

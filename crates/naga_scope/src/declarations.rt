@@ -1,21 +1,19 @@
 //! Which declaration of a module no text has a form for.
 
-ghost use Rattle.std.specs.Prelude.{◌≡◌, IfNone, IfSome, IsTrue, MatchOption};
+ghost use Rattle.std.specs.Prelude.{◌≡◌, IfNone, IfSome, MatchOption};
 ghost use Rattle.module_meaning.specs.DeclarationForms.{DeclarationsHaveForms, HeadHasForm};
 ghost use Rattle.module_meaning.specs.DeclarationForms.{stage_has_form};
 ghost use Rattle.module_meaning.specs.FunctionNumbers.{IsFunctionOf, function_number};
-ghost use Rattle.module_meaning.specs.Layouts.{module_rule};
-ghost use Rattle.naga_layout.specs.Types.{arrays_are_kept};
 ghost use Rattle.naga_scope.specs.Declarations.{BindingHasForm, ConstantHasForm};
 ghost use Rattle.naga_scope.specs.Declarations.{EntryPointHasForm, Finds, FindsFirst, FindsMember};
-ghost use Rattle.naga_scope.specs.Declarations.{HaveFormsBefore};
+ghost use Rattle.naga_scope.specs.Declarations.{FindsStride, HaveFormsBefore};
 ghost use Rattle.naga_scope.specs.Declarations.{IsFormlessBinding, IsFormlessConstant};
 ghost use Rattle.naga_scope.specs.Declarations.{IsFormlessDeclaration, IsFormlessEntryPoint};
 ghost use Rattle.naga_scope.specs.Declarations.{IsFormlessFunction, IsFormlessHead, IsFormlessIn};
 ghost use Rattle.naga_scope.specs.Declarations.{IsFormlessMember};
 ghost use Rattle.naga_scope.specs.Declarations.{IsFormlessStruct};
 ghost use Rattle.naga_scope.specs.Declarations.{IsFormlessPassed, IsFormlessType, IsFormlessValue};
-ghost use Rattle.naga_scope.specs.Declarations.{IsOtherStride, MemberHasForm, PassedHasForm};
+ghost use Rattle.naga_scope.specs.Declarations.{MemberHasForm, PassedHasForm};
 ghost use Rattle.naga_scope.specs.Declarations.{StructHasForm, TypeHasForm, ValueHasForm};
 ghost use Rattle.naga_scope.specs.Tables.{AreTablesOf};
 
@@ -206,9 +204,7 @@ fn other_stride(
     members: &[StructMember],
 ) -> Option<Handle<Type_>>
     requires tables { AreTablesOf «module».now tables.now }
-    ensures { Finds members.now
-        (λ i s. IsTrue (arrays_are_kept (module_rule «module».now) «module».now.types s.ty))
-        (λ i s. IsOtherStride «module».now s) result }
+    ensures { FindsStride «module».now members.now result }
 {
     for member in members {
         if !tables.keeps_arrays(module, member.ty) {

@@ -140,7 +140,8 @@ impl Plan {
             (IsRefusalToPlanOf explicit «module».now info.now (function_number «module».now ty)
             namer.old) }
         ensures first { IfErr result
-            (IsFirstToPlanOf explicit «module».now info.now (function_number «module».now ty)) }
+            (IsFirstToPlanOf explicit «module».now info.now (function_number «module».now ty)
+            namer.old) }
         ensures begun { OnErr result (HasBegunLabels namer.old
             (labels_named_in «module».now (function_number «module».now ty)) namer.new) }
     {
@@ -172,7 +173,7 @@ impl Plan {
         ensures named { IfOk result (λ p.
             NamesLabels namer.old [] (expression_labels known.now.function.now) namer.new p.named) }
         ensures err { IfErr result (IsRefusalToPlanFor explicit known.now namer.old) }
-        ensures first { IfErr result (IsFirstToPlanFor explicit known.now) }
+        ensures first { IfErr result (IsFirstToPlanFor explicit known.now namer.old) }
         ensures begun { OnErr result
             (HasBegunLabels namer.old (expression_labels known.now.function.now) namer.new) }
     {

@@ -1,12 +1,12 @@
 -- The names that front ends gave in a function, after labels that were named before.
 use Rattle.std.proofs.Common.{◌≡◌, ◌≤◌, ◌^◌, ◌∙◌, ◌++◌, ℕ, zero, suc, List, [], ◌∷◌, append-nil}
-use Rattle.std.proofs.Common.{append_assoc, ap, arith, get_or, refl, slice_get, subst, sym, take}
+use Rattle.std.proofs.Common.{append_assoc, ap, get_or, refl, slice_get, subst, sym, take}
 use Rattle.std.specs.Option.{option_map_or}
 use Rattle.naga_ir.specs.declared.module.Module.{Module}
-use Rattle.naga_names.specs.Naming.{HasNamed, Names, label_base, labels_with_base, name_after}
-use Rattle.naga_names.proofs.NameShapes.{counted_more}
-use Rattle.module_meaning.specs.ExpressionLabels.{SomeLabelIsFull, name_of_label}
+use Rattle.naga_names.specs.Naming.{HasNamed, Names, labels_with_base, name_after}
+use Rattle.module_meaning.specs.ExpressionLabels.{name_of_label}
 use Rattle.module_meaning.specs.Names.{labels_named_in, wgsl_names}
+use Rattle.naga_scope.proofs.ExpressionNames.{counted_none_full}
 use Rattle.naga_scope.specs.ExpressionNames.{HasOtherUses, names_behind}
 use Rattle.naga_wgsl_fns.specs.Refusals.{ExpressionNamesAreFullIn}
 
@@ -28,18 +28,6 @@ same_names : (new : Names) (earlier labels : List (List ℕ)) → HasOtherUses w
 same_names new earlier labels words k = ap (λ n. name_of_label n earlier labels k) words
 
 -- ---- counts
--- where labels are counted, none of them is full
-none_is_full : (earlier labels : List (List ℕ)) →
-    ((base : List ℕ) → labels_with_base wgsl_names (earlier ++ labels) base ≤ 2 ^ 32) →
-    SomeLabelIsFull wgsl_names earlier labels → ⊥
-none_is_full earlier labels few s =
-    let base : List ℕ = label_base wgsl_names s.label in
-    let split = ap (λ ls. earlier ++ ls) s.all ∙ sym (append_assoc earlier s.named (s.label ∷ s.left)) in
-    let more = ap (λ ls. labels_with_base wgsl_names ls base) split
-    ∙ counted_more wgsl_names (earlier ++ s.named) s.label s.left base refl in
-    let full = s.full in
-    omega (arith, few base, more, full)
-
 -- a namer with the words of WGSL counts its labels
 pub few_named : (labels : List (List ℕ)) (namer : Names) → HasOtherUses wgsl_names namer →
     HasNamed namer labels →
@@ -63,5 +51,5 @@ module _ (m : Module) (handle : ℕ) (earlier : List (List ℕ)) where
       HasNamed namer (earlier ++ labels_named_in m handle) →
       ExpressionNamesAreFullIn m earlier handle → ⊥
   none_full namer words has full =
-      none_is_full earlier (labels_named_in m handle)
+      counted_none_full wgsl_names earlier (labels_named_in m handle)
       (few_named (earlier ++ labels_named_in m handle) namer words has) full

@@ -22,8 +22,12 @@ use Rattle.naga_scope.specs.Marks.{GlobalsStandInOrder}
 use Rattle.naga_scope.specs.Tables.{AreRepresentatives, representative_at, representative_over}
 use Rattle.naga_wgsl_fns.specs.declared.error.Error.{Error}
 use Rattle.shader_runs.specs.Premises.{AllBelow}
-use Rattle.naga_wgsl_fns.specs.Refusals.{NamesConstant, NamesGlobal, is_operation}
+use Rattle.naga_wgsl_fns.specs.Carried.{CarriesOfConstant, CarriesOfGlobal, CarriesOfType, CarriesScalar}
+use Rattle.naga_wgsl_fns.specs.Carried.LacksScalar as lacking
+use Rattle.naga_wgsl_fns.specs.Refusals.{NamesConstant, NamesGlobal, is_operation, made_type}
 use Rattle.naga_wgsl_fns.specs.Refusals.NamesGlobal.{OfConstant}
+use Rattle.naga_wgsl_fns.specs.declared.construct.Construct.{Construct}
+use Rattle.naga_wgsl_fns.specs.declared.construct.Construct.TheVariants as construct
 
 pub as_it_is : (xs : List ℕ) → map (λ (x : ℕ). x) xs ≡ xs
 as_it_is [] = refl
@@ -131,6 +135,38 @@ module _ (m : Module) (ordered : GlobalsStandInOrder m) (h : ℕ)
               let same : y ≡ x = cc in subst (λ z. z < h) same below.0
           inside (y ∷ ys) below (suc i) at = inside ys below.1 i at
 
+-- ---- what a construct carries
+-- one that carries no scalar carries that of any expression
+pub no_scalar : (m : Module) (h : ℕ) (it : Construct) → CarriesScalar None it → CarriesOfGlobal m h it
+no_scalar m h (construct.ScalarType s) none = absurd cc
+no_scalar m h _ none = tt
+
+-- the scalar of a type
+pub of_type : (m : Module) (h ty : ℕ) (e : Expression) → slice_get m.global_expressions h ≡ Some e → made_type e ≡ Some ty →
+    list_all (global_is_written m) (expression_operands e) ≡ true → (it : Construct) → CarriesOfType m (Handle ty) it →
+    CarriesOfGlobal m h it
+of_type m h ty e at made all (construct.ScalarType s) lacks = lacking.OfType h ty e at made all lacks
+of_type m h ty e at made all _ lacks = tt
+
+-- that of the first operand without a form
+pub of_operand : (m : Module) (h x : ℕ) (e : Expression) → slice_get m.global_expressions h ≡ Some e → is_operation e ≡ false →
+    find (λ x. not (global_is_written m x)) (expression_operands e) ≡ Some x → (it : Construct) → CarriesOfGlobal m x it →
+    CarriesOfGlobal m h it
+of_operand m h x e at made first (construct.ScalarType s) lacks = lacking.OfOperand h x e at made first lacks
+of_operand m h x e at made first _ lacks = tt
+
+-- that of the initialiser of a constant without a name
+pub initialiser_carries : (m : Module) (h c : ℕ) (k : Constant) → slice_get m.global_expressions h ≡ Some (expression.Constant c) →
+    slice_get m.constants c ≡ Some k → is_none k.name ≡ true → (it : Construct) → CarriesOfGlobal m k.init it →
+    CarriesOfGlobal m h it
+initialiser_carries m h c k at there unnamed (construct.ScalarType s) lacks = lacking.OfConstant h c k at there unnamed lacks
+initialiser_carries m h c k at there unnamed _ lacks = tt
+
+pub constant_carries : (m : Module) (it : Construct) (c : ℕ) (k : Constant) → slice_get m.constants c ≡ Some k →
+    CarriesOfGlobal m k.init it → CarriesOfConstant m c it
+constant_carries m it c k there carried =
+    subst (λ o. IsSomeAnd o (λ k. CarriesOfGlobal m k.init it)) (sym there) carried
+
 -- ---- representatives
 -- The representative of one without a form has none and does not stand after it, and what names why it
 -- has none names why that one has none.
@@ -139,6 +175,7 @@ pub record IsFormless (m : Module) (h representative : ℕ) : Type 0 where
   pub formless : global_is_written m representative ≡ false
   pub before : representative ≤ h
   pub names : (error : Error) → NamesGlobal m error representative → NamesGlobal m error h
+  pub carries : (it : Construct) → CarriesOfGlobal m representative it → CarriesOfGlobal m h it
 
 module _ (m : Module) (ordered : GlobalsStandInOrder m) (known : List ℕ)
     (are : AreRepresentatives m known) where
@@ -149,6 +186,7 @@ module _ (m : Module) (ordered : GlobalsStandInOrder m) (known : List ℕ)
     formless = formless;
     before = omega arith;
     names = λ error named. named;
+    carries = λ it carried. carried;
   }
 
   -- it is so for one by those before it
@@ -168,6 +206,7 @@ module _ (m : Module) (ordered : GlobalsStandInOrder m) (known : List ℕ)
             formless = of.formless;
             before = let lt = fails.0 in let le = of.before in omega (arith, lt, le);
             names = λ error named. OfConstant h c k at there fails.2 (of.names error named);
+            carries = λ it carried. initialiser_carries m h c k at there fails.2 it (of.carries it carried);
           }
 
       named : (k : Constant) → slice_get m.constants c ≡ Some k → (b : Bool) →

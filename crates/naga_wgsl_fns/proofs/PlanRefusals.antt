@@ -254,7 +254,7 @@ names_no_sink m known es
 names_no_sink m known es
     (ImageSample image sampler gather coordinate array_index offset level depth_ref clamp) reason
     (inr named) =
-    named.1
+    named.2
 names_no_sink m known es (ImageLoad image coordinate array_index sample level) reason named =
     named
 names_no_sink m known es (ZeroValue ty) reason named = no_type_sink m (Handle ty) reason named
@@ -348,6 +348,18 @@ module _ (explicit : Bool) (m : Module) (info : ModuleInfo) (accepted : IsTrue (
       all = sym labels_are ∙ full.all;
       full = sym (ap (λ (n : Names). labels_with_base n (earlier ++ full.named)
           (label_base n full.label)) words) ∙ full.full;
+    }
+
+    -- and the other way round
+    pub is_full : (namer : Names) → HasOtherUses wgsl_names namer →
+        ExpressionNamesAreFullIn m earlier i → SomeLabelIsFull namer earlier (expression_labels f)
+    is_full namer words full = record {
+      named = full.named;
+      label = full.label;
+      left = full.left;
+      all = labels_are ∙ full.all;
+      full = ap (λ (n : Names). labels_with_base n (earlier ++ full.named)
+          (label_base n full.label)) words ∙ full.full;
     }
 
     for_names : (namer : Names) → HasOtherUses wgsl_names namer → (error : NamerError) (reported : Error) →

@@ -22,6 +22,7 @@ use Rattle.naga_scope.specs.declared.declarations.FormlessHead.{FormlessHead}
 use Rattle.naga_scope.specs.declared.declarations.FormlessHead.TheVariants as head
 use Rattle.naga_wgsl_fns.specs.Errors.{IsCustom, IsUnsupported}
 use Rattle.naga_wgsl_fns.specs.Refusals.{NamesGlobal, NamesType}
+use Rattle.naga_wgsl_fns.specs.Carried.{CarriesOfDeclaration}
 use Rattle.naga_wgsl_fns.specs.Constructs.{IsToldAs, Tells}
 use Rattle.naga_wgsl_fns.specs.declared.construct.Construct.{Construct}
 use Rattle.naga_wgsl_fns.specs.declared.error.Error.{Error}
@@ -63,7 +64,8 @@ NamesFormlessDeclaration m (declaration.Stride ty) error = NamesStride error
 -- an error names it as a construct
 abbrev pub IsToldOfDeclaration : Module → FormlessDeclaration → Error → Type 0
 IsToldOfDeclaration m lack error =
-    (it : Construct) × Tells it (NamesFormlessDeclaration m lack) × IsToldAs it error
+    (it : Construct) × Tells it (NamesFormlessDeclaration m lack)
+    × CarriesOfDeclaration m lack it × IsToldAs it error
 
 -- What a function takes or gives, or its stage, has no form, and is named.
 pub data NamesHead (m : Module) (number : ℕ) (error : Error) : Type 0 where

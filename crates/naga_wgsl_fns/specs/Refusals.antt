@@ -157,12 +157,12 @@ pointed_scalar types es pointer =
 abbrev pub NamesRayQuery : Error → Type 0
 NamesRayQuery error = IsUnimplemented (codes "ray query") error
 
--- An image is sampled in a way that has no form, or with an offset that applies an operator; where
--- both stand, either may be told.
+-- An image is sampled in a way that has no form; or in one that has, with an offset that applies an
+-- operator.
 abbrev pub NamesSampling : (sampling_is_written offset_is_written : Bool) → Error → Type 0
 NamesSampling sampling offset error =
     (IsFalse sampling × IsUnimplemented (codes "sampling form") error)
-    ⊎ (IsFalse offset × IsCustom (codes "operator in a constant") error)
+    ⊎ (IsTrue sampling × IsFalse offset × IsCustom (codes "operator in a constant") error)
 
 -- what no constant is made of
 abbrev pub is_operation : Expression → Bool

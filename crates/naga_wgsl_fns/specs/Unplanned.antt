@@ -9,6 +9,7 @@ use Rattle.naga_names.specs.declared.error.NamerError.TheVariants as namer_error
 use Rattle.naga_scope.specs.Plans.{IsFirstToPlanOf, IsRefusalToPlanOf}
 use Rattle.naga_scope.specs.declared.plan.PlanError.{PlanError}
 use Rattle.naga_scope.specs.declared.plan.PlanError.TheVariants as plan_error
+use Rattle.naga_wgsl_fns.specs.Carried.{CarriesOfPlan}
 use Rattle.naga_wgsl_fns.specs.Constructs.{IsToldAs, Tells}
 use Rattle.naga_wgsl_fns.specs.Refusals.{TellsPlanError}
 use Rattle.naga_wgsl_fns.specs.declared.construct.Construct.{Construct}
@@ -45,8 +46,9 @@ pub record IsRefusedFor (explicit : Bool) (m : Module) (info : ModuleInfo) (numb
     (namer : Names) (it : Construct) (at : FunctionPart) : Type 0 where
   pub error : PlanError
   pub refused : IsRefusalToPlanOf explicit m info number namer error
-  pub first : IsFirstToPlanOf explicit m info number error
+  pub first : IsFirstToPlanOf explicit m info number namer error
   pub told : OfFunctionAt m info number (λ f known. Tells it (TellsPlanError m f known error))
+  pub carries : OfFunctionAt m info number (λ f known. CarriesOfPlan m f known error it)
   pub part : at ≡ part_of error
   pub other : IsFalse (is_want error)
 

@@ -5,6 +5,7 @@ ghost use Rattle.std.specs.List.{find};
 ghost use Rattle.module_meaning.specs.ExpressionForms.{constant_is_written, global_is_written};
 ghost use Rattle.naga_scope.specs.Marks.{GlobalsStandInOrder};
 ghost use Rattle.naga_scope.specs.Tables.{AreTablesOf};
+ghost use Rattle.naga_wgsl_fns.specs.Carried.{CarriesOfConstant, CarriesOfGlobal};
 ghost use Rattle.naga_wgsl_fns.specs.Constructs.{Tells};
 ghost use Rattle.naga_wgsl_fns.specs.Refusals.{NamesConstant, NamesGlobal};
 
@@ -26,7 +27,8 @@ pub(crate) fn formless_constant(
     requires tables { AreTablesOf «module».now tables.now }
     requires there { constant < length «module».now.constants }
     requires formless { IsFalse (constant_is_written «module».now constant) }
-    ensures { Tells result (NamesConstant «module».now constant) }
+    ensures names { Tells result (NamesConstant «module».now constant) }
+    ensures carries { CarriesOfConstant «module».now constant result }
 {
     formless_global(module, tables, module.constants[constant].init)
 }
@@ -43,7 +45,8 @@ pub(crate) fn formless_global(
     requires tables { AreTablesOf «module».now tables.now }
     requires there { handle < length «module».now.global_expressions }
     requires formless { IsFalse (global_is_written «module».now handle) }
-    ensures { Tells result (λ e. NamesGlobal «module».now e handle) }
+    ensures names { Tells result (λ e. NamesGlobal «module».now e handle) }
+    ensures carries { CarriesOfGlobal «module».now handle result }
 {
     formless_representative(module, tables, tables.representative(handle))
 }
@@ -76,7 +79,8 @@ fn formless_representative(
     requires tables { AreTablesOf «module».now tables.now }
     requires there { handle < length «module».now.global_expressions }
     requires formless { IsFalse (global_is_written «module».now handle) }
-    ensures { Tells result (λ e. NamesGlobal «module».now e handle) }
+    ensures names { Tells result (λ e. NamesGlobal «module».now e handle) }
+    ensures carries { CarriesOfGlobal «module».now handle result }
 {
     match &module.global_expressions[handle] {
         Expression::Literal(literal) => literal_without_form(literal),

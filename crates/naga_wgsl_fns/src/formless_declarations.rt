@@ -6,6 +6,7 @@ ghost use Rattle.naga_info.specs.declared.info.ModuleInfo.{ModuleInfo};
 ghost use Rattle.naga_ir.specs.declared.module.Module.{Module};
 ghost use Rattle.naga_scope.specs.Declarations.{IsFormlessDeclaration, IsFormlessHead};
 ghost use Rattle.naga_scope.specs.Tables.{AreTablesOf};
+ghost use Rattle.naga_wgsl_fns.specs.Carried.{CarriesOfDeclaration, CarriesOfHead};
 ghost use Rattle.naga_wgsl_fns.specs.Constructs.{Tells};
 ghost use Rattle.naga_wgsl_fns.specs.DeclarationRefusals.{NamesDeclaration, NamesFormlessDeclaration};
 ghost use Rattle.naga_wgsl_fns.specs.DeclarationRefusals.{IsToldOfDeclaration, NamesHead};
@@ -49,7 +50,8 @@ pub fn formless_construct(
     requires accepted { (info : ModuleInfo) × IsTrue (is_accepted «module».now info) }
     requires tables { AreTablesOf «module».now tables.now }
     requires formless { IsFormlessDeclaration «module».now declaration }
-    ensures { Tells result (NamesFormlessDeclaration «module».now declaration) }
+    ensures names { Tells result (NamesFormlessDeclaration «module».now declaration) }
+    ensures carries { CarriesOfDeclaration «module».now declaration result }
 {
     match declaration {
         FormlessDeclaration::Type_(ty) => {
@@ -84,7 +86,8 @@ pub fn head_without_form(alloc: Global, head: FormlessHead) -> Error
 
 /// What has no form of what a function takes or gives, or of its stage.
 fn head_construct(head: FormlessHead) -> Construct
-    ensures { Tells result (NamesFormlessHead head) }
+    ensures names { Tells result (NamesFormlessHead head) }
+    ensures carries { CarriesOfHead head result }
 {
     match head {
         FormlessHead::BuiltIn(value) => Construct::BuiltIn(value),

@@ -1,6 +1,6 @@
 //! The constructs for which expressions, statements and types have no form.
 
-ghost use Rattle.std.specs.Prelude.{Bool, IsFalse, List, ◌&&◌};
+ghost use Rattle.std.specs.Prelude.{Bool, IsFalse, List, None, ◌&&◌};
 ghost use Rattle.module_meaning.specs.ExpressionForms.{expression_has_form, is_written_literal};
 ghost use Rattle.module_meaning.specs.ExpressionForms.{known_passes};
 ghost use Rattle.module_meaning.specs.ExpressionOperators.{has_parts, scalar_behind};
@@ -10,6 +10,8 @@ ghost use Rattle.naga_ir.specs.declared.expression.Expression.{Expression};
 ghost use Rattle.naga_scope.specs.Forms.{AreKnownIn};
 ghost use Rattle.naga_scope.specs.Marks.{GlobalsStandInOrder};
 ghost use Rattle.naga_scope.specs.Tables.{AreTablesOf};
+ghost use Rattle.naga_wgsl_fns.specs.Carried.{CarriesOfConversion, CarriesOfExpression};
+ghost use Rattle.naga_wgsl_fns.specs.Carried.{CarriesOfType, CarriesScalar};
 ghost use Rattle.naga_wgsl_fns.specs.Constructs.{Tells};
 ghost use Rattle.naga_wgsl_fns.specs.Refusals.{NamesConversion, NamesExpression};
 ghost use Rattle.naga_wgsl_fns.specs.Refusals.{NamesLiteral, NamesSampling};
@@ -41,9 +43,10 @@ pub(crate) fn without_form(
     requires named { NamesItemsOf «module».now expression.now }
     requires formless { (es : List Expression) ×
         IsFalse (expression_has_form «module».now info.now es expression.now) }
-    ensures { (es : List Expression) →
+    ensures names { (es : List Expression) →
         IsFalse (expression_has_form «module».now info.now es expression.now) →
         Tells result (NamesExpression «module».now info.now es expression.now) }
+    ensures carries { CarriesOfExpression «module».now info.now expression.now result }
 {
     let types = &module.types;
     match expression {
@@ -96,7 +99,8 @@ pub(crate) fn type_without_form(
     ty: &TypeResolution,
 ) -> Construct
     requires tables { AreTablesOf «module».now tables.now }
-    ensures { Tells result (NamesType «module».now ty.now) }
+    ensures names { Tells result (NamesType «module».now ty.now) }
+    ensures carries { CarriesOfType «module».now ty.now result }
 {
     if tables.names_undeclared(module, ty) {
         return Construct::PredeclaredStruct;
@@ -132,7 +136,10 @@ fn conversion_without_form(
     convert: Option<u8>,
 ) -> Construct
     requires known { AreKnownIn types.now info.now }
-    ensures { Tells result (NamesConversion (converted types.now info.now operand kind convert)) }
+    ensures names { Tells result
+        (NamesConversion (converted types.now info.now operand kind convert)) }
+    ensures carries { CarriesOfConversion (converted types.now info.now operand kind convert)
+        result }
 {
     match info.expressions.get(operand.index()) {
         Some(known) => type_without_conversion(known.ty.inner_with(types), kind, convert),
@@ -141,7 +148,8 @@ fn conversion_without_form(
 }
 
 fn type_without_conversion(inner: &TypeInner, kind: ScalarKind, convert: Option<u8>) -> Construct
-    ensures { Tells result (NamesConversion (conversion_target inner.now kind convert)) }
+    ensures names { Tells result (NamesConversion (conversion_target inner.now kind convert)) }
+    ensures carries { CarriesOfConversion (conversion_target inner.now kind convert) result }
 {
     match inner {
         TypeInner::Scalar(scalar)
@@ -160,7 +168,8 @@ fn load_without_form(
     pointer: Handle<Expression>,
 ) -> Construct
     requires known { AreKnownIn types.now info.now }
-    ensures { Tells result (NamesMatrix (pointed_scalar types.now info.now pointer)) }
+    ensures names { Tells result (NamesMatrix (pointed_scalar types.now info.now pointer)) }
+    ensures carries { CarriesScalar (pointed_scalar types.now info.now pointer) result }
 {
     match info.expressions.get(pointer.index()) {
         Some(known) => matrix_without_form(types, known.ty.inner_with(types)),
@@ -169,7 +178,8 @@ fn load_without_form(
 }
 
 fn matrix_without_form(types: &UniqueArena<Type_>, pointer: &TypeInner) -> Construct
-    ensures { Tells result (NamesMatrix (scalar_behind types.now pointer.now)) }
+    ensures names { Tells result (NamesMatrix (scalar_behind types.now pointer.now)) }
+    ensures carries { CarriesScalar (scalar_behind types.now pointer.now) result }
 {
     match scalar_behind(types, pointer) {
         Some(scalar) => Construct::ScalarType(scalar),
@@ -198,7 +208,8 @@ fn sampling_without_form(
 /// What a literal that has no form is.
 pub(crate) fn literal_without_form(literal: &Literal) -> Construct
     requires formless { IsFalse (is_written_literal literal.now) }
-    ensures { Tells result (NamesLiteral literal.now) }
+    ensures names { Tells result (NamesLiteral literal.now) }
+    ensures carries { CarriesScalar None result }
 {
     match literal {
         Literal::F64(_)

@@ -16,6 +16,7 @@ ghost use Rattle.naga_scope.specs.Plans.{IsPlanOf};
 ghost use Rattle.naga_scope.specs.Tables.{AreTablesOf};
 ghost use Rattle.naga_back.specs.Flags.{annotates_types};
 ghost use Rattle.naga_wgsl_fns.specs.Refusals.{IsOfPlan, IsPlanRefusal, NamesItemsOf};
+ghost use Rattle.naga_wgsl_fns.specs.Carried.{CarriesOfPlan};
 ghost use Rattle.naga_wgsl_fns.specs.Constructs.{Tells};
 ghost use Rattle.naga_wgsl_fns.specs.Refusals.{IsErrorOfNames, TellsPlanError};
 ghost use Rattle.naga_wgsl_fns.specs.Unplanned.{IsToldOfUnplanned, IsUnplanned, TellsUnplanned};
@@ -194,6 +195,7 @@ fn construct_of_plan(
     requires formless { IsOfPlan «module».now function.now info.now error }
     ensures ok { IfOk result (λ it.
         Tells it (TellsPlanError «module».now function.now info.now error)) }
+    ensures carries { IfOk result (CarriesOfPlan «module».now function.now info.now error) }
     ensures refused { OnOk result (IsFalse (is_want error)) }
     ensures err { IfErr result (λ e.
         TellsPlanError «module».now function.now info.now error (Memory e)) }

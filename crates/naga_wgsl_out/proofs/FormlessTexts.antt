@@ -143,7 +143,7 @@ module _ (error : Error) (tells : TellsOfModule error) where
   of_expression m known es
       (expression.ImageSample
       image sampler gather coordinate array_index offset level depth_ref clamp) (inr named) =
-      of_operation named.1
+      of_operation named.2
   of_expression m known es
       (expression.ImageLoad image coordinate array_index sample level) named =
       by_custom error (codes "image load with sample and level") (2, (omega arith, refl)) named

@@ -21,11 +21,12 @@ use Rattle.naga_names.specs.Naming.{Names}
 use Rattle.naga_names.specs.Refusal.{IsResetRefusal}
 use Rattle.naga_names.specs.declared.error.NamerError.{NamerError}
 use Rattle.naga_names.specs.declared.error.NamerError.TheVariants as namer_error
-use Rattle.naga_scope.specs.Plans.{IsRefusalToPlan}
+use Rattle.naga_scope.specs.Plans.{IsFirstToPlan, IsRefusalToPlan, LabelsGetNames}
 use Rattle.naga_scope.specs.declared.plan.PlanError.{PlanError}
 use Rattle.naga_scope.specs.declared.plan.PlanError.TheVariants as plan_error
-use Rattle.naga_wgsl_fns.proofs.PlanRefusals.{full_is}
+use Rattle.naga_wgsl_fns.proofs.PlanRefusals.{full_is, is_full}
 use Rattle.naga_wgsl_fns.specs.Appends.{Appends, StoppedWithin}
+use Rattle.naga_wgsl_fns.specs.Carried.{CarriesOfExpression, CarriesOfPlan, CarriesOfType}
 use Rattle.naga_wgsl_fns.specs.Constructs.{Tells}
 use Rattle.naga_wgsl_fns.specs.Refusals.{IsErrorOfNames, NamesExpression, NamesType, TellsOfModule, TellsPlanError}
 use Rattle.naga_wgsl_fns.specs.Unplanned.{IsRefusedFor, IsToldOfUnplanned, IsUnplanned, is_names_want, is_want, part_of}
@@ -43,7 +44,7 @@ use Rattle.naga_back.specs.declared.flags.WriterFlags.{WriterFlags}
 use Rattle.naga_wgsl_out.proofs.Faithful.{want_tells_nothing}
 use Rattle.naga_wgsl_out.proofs.Functions.{IsUpTo}
 use Rattle.naga_wgsl_out.specs.ModuleRefusals.{HasAllNames, HasNamedBefore, IsNamesRefusal, NamerIsFull, NothingIsRefused}
-use Rattle.naga_wgsl_out.specs.Unwritable.{AreWritableBefore, IsFirst, IsFoundOf, IsRefusalOf, IsUnspelled, IsWritable, StandsAt}
+use Rattle.naga_wgsl_out.specs.Unwritable.{AreWritableBefore, IsFirst, IsFoundOf, IsRefusalOf, IsUnspelled, IsWritable, LabelsGetNamesIn, StandsAt}
 use Rattle.naga_wgsl_out.specs.Unwritable.{StandsAtPart, StandsIn, StandsInFunction, StandsInLabels, TellsFirst, TellsRefusalOf, place_at}
 use Rattle.naga_wgsl_out.specs.declared.unwritable.Refusal.{Refusal}
 use Rattle.naga_wgsl_out.specs.declared.unwritable.RefusalPlace.TheVariants as place
@@ -58,36 +59,54 @@ module _ (explicit : Bool) (m : Module) (info : ModuleInfo) (accepted : IsTrue (
     (namer : Names) (named : HasNamedBefore m number namer) where
   -- what stands there by an error of a plan
   by_error : (error : PlanError) (it : Construct) → IsRefusalToPlan explicit m info f known namer error →
-      Tells it (TellsPlanError m f known error) → is_want error ≡ false →
+      Tells it (TellsPlanError m f known error) → CarriesOfPlan m f known error it → is_want error ≡ false →
       StandsAtPart explicit m info number f known (part_of error) it
-  by_error (plan_error.OutOfScope fault) it refused told other = (refused, told)
-  by_error (plan_error.StatementWithoutForm n statement) it refused told other = (statement, refused.1, told)
-  by_error (plan_error.WithoutForm h) it refused told other =
-      (refused.0, written (slice_get f.expressions h) refused.1 told)
+  by_error (plan_error.OutOfScope fault) it refused told carries other = (refused, told)
+  by_error (plan_error.StatementWithoutForm n statement) it refused told carries other = (statement, refused.1, told)
+  by_error (plan_error.WithoutForm h) it refused told carries other =
+      (refused.0, written (slice_get f.expressions h) refused.1 told carries)
     where
       written : (o : Option Expression) → IsSomeAnd o (λ e. IsFalse (expression_has_form m known f.expressions e)) →
           Tells it (λ reported. IsSomeAnd o (λ e. NamesExpression m known f.expressions e reported)) →
-          IsSomeAnd o (λ e. IsFalse (expression_has_form m known f.expressions e) × Tells it (NamesExpression m known f.expressions e))
-      written None lacks told = lacks
-      written (Some e) lacks told = (lacks, told)
-  by_error (plan_error.TypeWithoutForm ty) it refused told other = (refused.0, refused.1, told)
-  by_error (plan_error.LetWithoutForm h) it refused told other = let_ (slice_get known h) refused told
+          IsSomeAnd o (λ e. CarriesOfExpression m known e it) →
+          IsSomeAnd o (λ e. IsFalse (expression_has_form m known f.expressions e) × Tells it (NamesExpression m known f.expressions e) × CarriesOfExpression m known e it)
+      written None lacks told carries = lacks
+      written (Some e) lacks told carries = (lacks, told, carries)
+  by_error (plan_error.TypeWithoutForm ty) it refused told carries other = (refused.0, refused.1, told, carries)
+  by_error (plan_error.LetWithoutForm h) it refused told carries other = let_ (slice_get known h) refused told carries
     where
       let_ : (o : Option ExpressionInfo) →
           IsSomeAnd o (λ k. IsSpelledIn explicit m info f known k.ty × IsFalse (is_spellable m k.ty)) →
           Tells it (λ reported. IsSomeAnd o (λ k. NamesType m k.ty reported)) →
+          IsSomeAnd o (λ k. CarriesOfType m k.ty it) →
           IsSomeAnd o (λ k. IsUnspelled explicit m info f known k.ty it)
-      let_ None lacks told = lacks
-      let_ (Some k) lacks told = (lacks.0, lacks.1, told)
-  by_error (plan_error.Unnamed namer_error.Full) it refused told other = (
+      let_ None lacks told carries = lacks
+      let_ (Some k) lacks told carries = (lacks.0, lacks.1, told, carries)
+  by_error (plan_error.Unnamed namer_error.Full) it refused told carries other = (
     full_is explicit m info accepted number f stands (labels_before m number) namer named.words
         (refused (labels_before m number) named.labels),
     told,
   )
-  by_error (plan_error.Unnamed namer_error.KeyFull) it refused told other =
+  by_error (plan_error.Unnamed namer_error.KeyFull) it refused told carries other =
       absurd (refused (labels_before m number) named.labels)
-  by_error (plan_error.Unnamed (namer_error.Memory e)) it refused told other = absurd cc
-  by_error (plan_error.Memory e) it refused told other = absurd cc
+  by_error (plan_error.Unnamed (namer_error.Memory e)) it refused told carries other = absurd cc
+  by_error (plan_error.Memory e) it refused told carries other = absurd cc
+
+  -- its labels get names after all in front of it
+  named_labels : LabelsGetNames namer f → LabelsGetNamesIn m number
+  named_labels get full =
+      get (labels_before m number) named.labels
+      (is_full explicit m info accepted number f stands (labels_before m number) namer named.words full)
+
+  first_in : (error : PlanError) → IsFirstToPlan (LabelsGetNames namer f) explicit m info f known error →
+      IsFirstToPlan (LabelsGetNamesIn m number) explicit m info f known error
+  first_in (plan_error.OutOfScope fault) (labelled, found) = (named_labels labelled, found)
+  first_in (plan_error.StatementWithoutForm n statement) (labelled, holds, found) = (named_labels labelled, holds, found)
+  first_in (plan_error.WithoutForm h) (labelled, holds, formed, later) = (named_labels labelled, holds, formed, later)
+  first_in (plan_error.TypeWithoutForm ty) (labelled, formed, found) = (named_labels labelled, formed, found)
+  first_in (plan_error.LetWithoutForm h) (labelled, formed, none, found) = (named_labels labelled, formed, none, found)
+  first_in (plan_error.Unnamed e) first = tt
+  first_in (plan_error.Memory e) first = tt
 
   pub stands_in : (it : Construct) (at : FunctionPart) → IsRefusedFor explicit m info number namer it at →
       StandsInFunction explicit m info number (it, at)
@@ -97,8 +116,8 @@ module _ (explicit : Bool) (m : Module) (info : ModuleInfo) (accepted : IsTrue (
     stands = stands;
     is_known = is_known;
     at = subst (λ at. StandsAtPart explicit m info number f known at it) (sym r.part)
-        (by_error r.error it (r.refused f known stands is_known) (r.told f known stands is_known) r.other);
-    first = (r.error, r.part, r.first f known stands is_known);
+        (by_error r.error it (r.refused f known stands is_known) (r.told f known stands is_known) (r.carries f known stands is_known) r.other);
+    first = (r.error, r.part, first_in r.error (r.first f known stands is_known));
   }
 
   -- so what is found where there is no plan

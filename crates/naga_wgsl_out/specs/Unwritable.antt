@@ -29,6 +29,7 @@ use Rattle.naga_scope.specs.declared.declarations.DeclarationPlace.{DeclarationP
 use Rattle.naga_scope.specs.declared.declarations.FormlessDeclaration.{FormlessDeclaration}
 use Rattle.naga_scope.specs.declared.plan.PlanError.{PlanError}
 use Rattle.naga_scope.specs.declared.statements.FormlessStatement.{FormlessStatement}
+use Rattle.naga_wgsl_fns.specs.Carried.{CarriesOfDeclaration, CarriesOfExpression, CarriesOfType}
 use Rattle.naga_wgsl_fns.specs.Constructs.{IsToldAs, Tells}
 use Rattle.naga_wgsl_fns.specs.DeclarationRefusals.{NamesFormlessDeclaration}
 use Rattle.naga_wgsl_fns.specs.Errors.{IsCustom}
@@ -56,7 +57,8 @@ TellsCustom it message = Tells it (IsCustom message)
 abbrev pub IsUnspelled : (explicit : Bool) → Module → ModuleInfo → Function →
     (known : List ExpressionInfo) → TypeResolution → Construct → Type 0
 IsUnspelled explicit m info f known ty it =
-    IsSpelledIn explicit m info f known ty × IsFalse (is_spellable m ty) × Tells it (NamesType m ty)
+    IsSpelledIn explicit m info f known ty × IsFalse (is_spellable m ty)
+    × Tells it (NamesType m ty) × CarriesOfType m ty it
 
 -- It stands at this part of the function with this number: a fault of scope, a statement or a written
 -- expression without a form, a type without one that the function declares or that a `let` tells, or
@@ -73,7 +75,7 @@ StandsAtPart explicit m info number f known (part.Expression h) it =
     IsWrittenIn m info f known h
     × IsSomeAnd (slice_get f.expressions h) (λ e.
     IsFalse (expression_has_form m known f.expressions e)
-    × Tells it (NamesExpression m known f.expressions e))
+    × Tells it (NamesExpression m known f.expressions e) × CarriesOfExpression m known e it)
 StandsAtPart explicit m info number f known (part.Type_ ty) it =
     IsUnspelled explicit m info f known (Handle ty) it
 StandsAtPart explicit m info number f known (part.Let h) it =
@@ -81,6 +83,11 @@ StandsAtPart explicit m info number f known (part.Let h) it =
 StandsAtPart explicit m info number f known part.Labels it =
     ExpressionNamesAreFullIn m (labels_before m number) number
     × TellsCustom it (codes "namer is full")
+
+-- the labels that front ends gave in the function with this number get names after all labels in
+-- front of the function
+abbrev pub LabelsGetNamesIn : Module → (number : ℕ) → Type 0
+LabelsGetNamesIn m number = ExpressionNamesAreFullIn m (labels_before m number) number → ⊥
 
 -- so it is with a function that there is, and nothing in front of it keeps the function from having a
 -- plan
@@ -92,14 +99,14 @@ pub record StandsInFunction (explicit : Bool) (m : Module) (info : ModuleInfo) (
   pub is_known : slice_get (all_infos info) number ≡ Some known
   pub at : StandsAtPart explicit m info number function known found.1 found.0
   pub first : (error : PlanError) × (found.1 ≡ part_of error)
-      × IsFirstToPlan explicit m info function known error
+      × IsFirstToPlan (LabelsGetNamesIn m number) explicit m info function known error
 
 -- ---- declarations
 -- it is what has no form in this declaration
 abbrev pub StandsInDeclaration : Module → DeclarationPlace → Construct → Type 0
 StandsInDeclaration m at it =
     (lack : FormlessDeclaration) × IsFormlessIn m at lack
-    × Tells it (NamesFormlessDeclaration m lack)
+    × Tells it (NamesFormlessDeclaration m lack) × CarriesOfDeclaration m lack it
 
 -- ---- labels
 -- an item gets no name, or its key is out of range

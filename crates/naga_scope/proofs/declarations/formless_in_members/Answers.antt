@@ -5,6 +5,11 @@ use Rattle.naga_scope.specs.Declarations.{MemberHasForm}
 use Rattle.naga_ir.specs.declared.types.StructMember.{StructMember}
 use Rattle.naga_scope.proofs.declarations.formless_in_members.Goals as goal
 
+pub returns-in-Some : goal.returns-in-Some
+returns-in-Some c =
+    let here = slice_get_read c.args.members.now (length c.args.members.now) c.loop-member.member-index c.member-item.result refl c.loop-member-test.true c.member-item.is in
+    (c.loop-member.member-index, c.member-item.result, here, c.loop-member.invariant.formed, c.in-Some.ensures)
+
 pub loop-member-preserved : goal.loop-member-preserved
 loop-member-preserved c =
     let here = slice_get_read c.args.members.now (length c.args.members.now) c.loop-member.member-index c.member-item.result refl c.loop-member-test.true c.member-item.is in

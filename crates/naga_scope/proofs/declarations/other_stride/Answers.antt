@@ -7,6 +7,11 @@ use Rattle.naga_layout.specs.Types.{arrays_are_kept}
 use Rattle.naga_scope.proofs.Searching.{all_passed, one_passed}
 use Rattle.naga_scope.proofs.declarations.other_stride.Goals as goal
 
+pub returns-then-not-keeps_arrays : goal.returns-then-not-keeps_arrays
+returns-then-not-keeps_arrays c =
+    let here = slice_get_read c.args.members.now (length c.args.members.now) c.loop-member.member-index c.member-item.result refl c.loop-member-test.true c.member-item.is in
+    (c.loop-member.member-index, c.member-item.result, here, c.loop-member.invariant.formed, (refl, sym c.keeps_arrays.ensures ∙ c.if-not-keeps_arrays.true))
+
 pub loop-member-preserved : goal.loop-member-preserved
 loop-member-preserved c =
     let m = c.args.module.now in

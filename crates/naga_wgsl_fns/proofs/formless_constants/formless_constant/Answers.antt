@@ -1,4 +1,4 @@
-use Rattle.naga_wgsl_fns.proofs.FormlessConstants.{constant_named, initialiser_fails}
+use Rattle.naga_wgsl_fns.proofs.FormlessConstants.{constant_carries, constant_named, initialiser_fails}
 use Rattle.naga_wgsl_fns.proofs.formless_constants.formless_constant.Goals as goal
 
 pub formless_global-requires-clause-there : goal.formless_global-requires-clause-there
@@ -10,7 +10,12 @@ formless_global-requires-clause-formless c =
     initialiser_fails c.args.«module».now c.args.constant c.index.result.now c.index.ensures
     c.requires.formless
 
-pub returns : goal.returns
-returns c =
+pub returns-clause-names : goal.returns-clause-names
+returns-clause-names c =
     λ e told. constant_named c.args.«module».now e c.args.constant c.index.result.now c.index.ensures
-    (c.formless_global.ensures e told)
+    (c.formless_global.ensures.names e told)
+
+pub returns-clause-carries : goal.returns-clause-carries
+returns-clause-carries c =
+    constant_carries c.args.«module».now c.formless_global.result c.args.constant c.index.result.now c.index.ensures
+    c.formless_global.ensures.carries

@@ -6,8 +6,8 @@ use Rattle.naga_wgsl_fns.specs.Constructs.{Tells}
 use Rattle.naga_wgsl_fns.specs.Refusals.{NamesExpression, NamesSampling}
 use Rattle.naga_wgsl_fns.proofs.forms.without_form.Goals as goal
 
-pub returns-in-ImageSample : goal.returns-in-ImageSample
-returns-in-ImageSample c es formless error told =
+pub returns-in-ImageSample-clause-names : goal.returns-in-ImageSample-clause-names
+returns-in-ImageSample-clause-names c es formless error told =
     let m = c.args.«module».now in
     let info = c.args.info.now in
     let way = c.in-ImageSample in

@@ -7,6 +7,7 @@ use Rattle.naga_scope.proofs.Planned.{of_the_ok}
 use Rattle.naga_scope.proofs.WrittenConstants.{globals_in_order}
 use Rattle.naga_scope.specs.Plans.{IsPlanOf}
 use Rattle.naga_wgsl_fns.proofs.PlanRefusals.{is_of_plan, items_there}
+use Rattle.naga_wgsl_fns.specs.Carried.{CarriesOfPlan}
 use Rattle.naga_wgsl_fns.specs.Constructs.{Tells}
 use Rattle.naga_wgsl_fns.specs.Refusals.{TellsPlanError}
 use Rattle.naga_wgsl_fns.specs.Unplanned.{IsRefusedFor}
@@ -56,6 +57,12 @@ returns-in-Ok-construct_of_plan-clause-err c =
           (of_the_ok (λ f es it. Tells it (TellsPlanError m f es c.in-Err.error)) m info number
           c.function_of.result.0.now c.function_of.result.1.now c.function_of.ensures.function c.function_of.ensures.known
           c.construct_of_plan.result c.construct_of_plan.ensures.ok);
+      carries = subst
+          (λ r. IfOk r (λ it. OfFunctionAt m info number (λ f es. CarriesOfPlan m f es c.in-Err.error it)))
+          c.in-Ok-construct_of_plan.is
+          (of_the_ok (λ f es it. CarriesOfPlan m f es c.in-Err.error it) m info number
+          c.function_of.result.0.now c.function_of.result.1.now c.function_of.ensures.function c.function_of.ensures.known
+          c.construct_of_plan.result c.construct_of_plan.ensures.carries);
       part = c.part_of-part.ensures;
       other = c.in-Ok-construct_of_plan.ensures.refused;
     })

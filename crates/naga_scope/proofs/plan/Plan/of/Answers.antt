@@ -9,7 +9,7 @@ use Rattle.naga_form.proofs.AcceptedFunctions.{of_number, ranges_are}
 use Rattle.naga_form.proofs.Ordered.{operands_stand_before}
 use Rattle.std.specs.Prelude.{IfOk, OnErr}
 use Rattle.naga_scope.specs.ExpressionNames.{HasBegunLabels, NamesLabels}
-use Rattle.naga_scope.specs.Plans.{IsFirstToPlan, IsPlan, IsRefusalToPlan}
+use Rattle.naga_scope.specs.Plans.{IsFirstToPlan, IsPlan, IsRefusalToPlan, LabelsGetNames}
 use Rattle.naga_scope.proofs.Planned.{of_the_err, of_the_ok}
 use Rattle.naga_scope.proofs.plan.Plan.of.Goals as goal
 
@@ -48,7 +48,7 @@ returns c =
       err = of_the_err (λ f es. IsRefusalToPlan c.args.explicit m info f es c.args.namer.now) m info g f es
           c.function_of.ensures.function c.function_of.ensures.known c.of_function.result
           c.of_function.ensures.err;
-      first = of_the_err (IsFirstToPlan c.args.explicit m info) m info g f es
+      first = of_the_err (λ f es. IsFirstToPlan (LabelsGetNames c.args.namer.now f) c.args.explicit m info f es) m info g f es
           c.function_of.ensures.function c.function_of.ensures.known c.of_function.result
           c.of_function.ensures.first;
       begun = subst (λ ls. OnErr c.of_function.result (HasBegunLabels c.args.namer.now ls c.of_function.new.namer)) labels c.of_function.ensures.begun;

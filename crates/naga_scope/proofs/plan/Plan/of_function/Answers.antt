@@ -9,6 +9,7 @@ use Rattle.naga_scope.specs.KnownFunctions.{bound_in, expressions_of, has_form_i
 use Rattle.naga_scope.specs.Marks.{Sweeps}
 use Rattle.naga_scope.proofs.FormedStatements.{found_err, found_lacks, none_formless, none_found, one_found}
 use Rattle.naga_scope.proofs.SpelledTypes.{declared_lacks, let_lacks, spelled_formed}
+use Rattle.naga_scope.proofs.ExpressionNames.{none_full}
 use Rattle.naga_scope.proofs.Planned.{checked_fault, checked_holds}
 use Rattle.naga_names.proofs.Reset.{if_err}
 use Rattle.naga_scope.specs.FormlessStatements.{number_block}
@@ -45,8 +46,8 @@ pub returns-in_err-check_function-clause-first : goal.returns-in_err-check_funct
 returns-in_err-check_function-clause-first c =
     let fault = c.in_err-check_function.field-0.0 in
     if_err c.from_residual-in_err-check_function.result (OutOfScope fault)
-    (IsFirstToPlanFor c.args.explicit c.args.known.now) c.from_residual-in_err-check_function.ensures.1
-    (sym c.in_err-check_function.ensures.check)
+    (IsFirstToPlanFor c.args.explicit c.args.known.now c.args.namer.now) c.from_residual-in_err-check_function.ensures.1
+    (none_full c.in_ok-named.ensures.ok, sym c.in_err-check_function.ensures.check)
 
 -- there are as many names as labels
 few : {X : Type 0} (labels : List (List ℕ)) (names : List (String X)) → length (map string_bytes names) ≡ 0 + length labels → length names < 2 ^ 64 → length labels < 2 ^ 64
@@ -92,6 +93,7 @@ returns-in-Some-clause-first c =
     let k = c.args.known.now in
     let f = k.function.now in
     let is = sym c.formless_statement.ensures ∙ c.in-Some.is in (
+      none_full c.in_ok-named.ensures.ok,
       checked_holds k.shader.now k.module_info.now f k.info.now c.requires.ordered (sym c.in_ok-check_function.ensures.check),
       found_err (number_block 0 f.body) is,
     )
@@ -107,6 +109,7 @@ returns-in-Some-2-clause-first c =
     let k = c.args.known.now in
     let f = k.function.now in
     let swept = subst (Sweeps (has_form_in k) (expressions_of k) (function_roots (bound_in k) f)) c.in-Some-2.is c.in_ok-handle.ensures in (
+      none_full c.in_ok-named.ensures.ok,
       checked_holds k.shader.now k.module_info.now f k.info.now c.requires.ordered (sym c.in_ok-check_function.ensures.check),
       none_formless f.body (none_found f.body (sym c.formless_statement.ensures ∙ c.in_default.is)),
       swept.2,
@@ -116,6 +119,7 @@ pub returns-in-Some-declared_without_form-clause-first : goal.returns-in-Some-de
 returns-in-Some-declared_without_form-clause-first c =
     let k = c.args.known.now in
     let f = k.function.now in (
+      none_full c.in_ok-named.ensures.ok,
       (
         checked_holds k.shader.now k.module_info.now f k.info.now c.requires.ordered (sym c.in_ok-check_function.ensures.check),
         none_formless f.body (none_found f.body (sym c.formless_statement.ensures ∙ c.in_default.is)),
@@ -128,6 +132,7 @@ pub returns-in-Some-annotated_without_form-clause-first : goal.returns-in-Some-a
 returns-in-Some-annotated_without_form-clause-first c =
     let k = c.args.known.now in
     let f = k.function.now in (
+      none_full c.in_ok-named.ensures.ok,
       (
         checked_holds k.shader.now k.module_info.now f k.info.now c.requires.ordered (sym c.in_ok-check_function.ensures.check),
         none_formless f.body (none_found f.body (sym c.formless_statement.ensures ∙ c.in_default.is)),

@@ -86,9 +86,9 @@ returns-in-Some-clause-leaves g c =
     (declaration_tells_of_none m error c.declaration_without_form.ensures.names)
     (λ of. record {
       refusal = record { construct = told.0; place = place.Declaration _ };
-      stands = (c.in-Some.declaration, found.place, told.1);
+      stands = (c.in-Some.declaration, found.place, told.1, told.2);
       first = found.first;
-      told = told.2;
+      told = told.3;
     })
 
 pub returns-in_err-names-clause-leaves : goal.returns-in_err-names-clause-leaves
