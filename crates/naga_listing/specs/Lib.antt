@@ -1,3 +1,4 @@
 pub mod Choice
 pub mod Lines
 pub mod Named
+pub mod OneLine

@@ -13,6 +13,7 @@ mod lines;
 mod lookup;
 mod named;
 mod numbers;
+mod one_line;
 mod operands;
 mod places;
 mod statement_words;
@@ -20,5 +21,6 @@ mod text;
 mod types;
 
 pub use choice::listing;
+pub use one_line::on_one_line;
 pub use places::{Line, Listed, Place, Row, Spot, Title};
 pub use text::explain;

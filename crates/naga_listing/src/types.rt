@@ -1,5 +1,6 @@
 //! Types, as WGSL spells them under the labels of the module.
 
+use crate::one_line::on_one_line;
 use naga_info::{ToCtx, TypeResolution};
 use naga_ir::{Handle, Module, Type_, TypeInner};
 use naga_words::types::{type_fits, types_in_order};
@@ -30,7 +31,9 @@ pub(crate) fn push_type(
     let context = module.to_ctx();
     if handle.index() < context.types.len() {
         if types_in_order(context.types, context.overrides.len()) {
-            return spelled(context.write_type(alloc, handle, out));
+            let mut text = String::new(alloc);
+            spelled(context.write_type(alloc, handle, &mut text))?;
+            return push_on_one_line(alloc, text.as_str(), out);
         }
     }
     write!(out, "type {}", handle.index())
@@ -48,10 +51,17 @@ fn push_inner(
     let overrides = context.overrides.len();
     if type_fits(context.types.len(), overrides, inner) {
         if types_in_order(context.types, overrides) {
-            return spelled(context.write_type_inner(alloc, inner, out));
+            let mut text = String::new(alloc);
+            spelled(context.write_type_inner(alloc, inner, &mut text))?;
+            return push_on_one_line(alloc, text.as_str(), out);
         }
     }
     Ok(())
+}
+
+fn push_on_one_line(alloc: Global, text: &str, out: &mut String) -> Result<(), AllocError> {
+    let line = on_one_line(alloc, text)?;
+    out.push_str(line.as_str())
 }
 
 /// Want of memory alone: these contexts refuse no type, and a text does not fail otherwise.
