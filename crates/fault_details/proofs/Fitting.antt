@@ -1,5 +1,5 @@
--- A type that names types and overrides that there are fits the context of the module.
-use Rattle.std.proofs.Common.{List, length, refl, IsTrue}
+-- What a type names is there for the context of the module where it is one of so many.
+use Rattle.std.proofs.Common.{◌≡◌, ◌∙◌, ◌↔◌, ℕ, List, length, refl, slice_get, Some, sym}
 use Rattle.naga_ir.specs.declared.module.Override.{Override}
 use Rattle.naga_ir.specs.declared.types.Type_.{Type_}
 use Rattle.naga_ir.specs.declared.types.TypeInner.{TypeInner}
@@ -7,18 +7,30 @@ use Rattle.naga_ir.specs.declared.types.TypeInner.TheVariants as inner
 use Rattle.naga_ir.specs.declared.types.ArraySize.{ArraySize}
 use Rattle.naga_ir.specs.declared.types.ArraySize.TheVariants as size
 use Rattle.naga_words.specs.Contexts.{global_context}
-use Rattle.naga_words.specs.Spelling.{Fits, StandsBehind, knows_override, knows_size, length_within, size_within}
+use Rattle.naga_words.specs.Spelling.{Fits, IsInOrder, StandsBehind, knows_override, knows_size}
+use Rattle.naga_words.specs.Spelling.{length_within, size_within}
 
 module _ (types : List Type_) (overrides : List Override) where
-  knows_so_many : (it : ArraySize) → IsTrue (size_within (length overrides) it) → IsTrue (knows_size (global_context types overrides) it)
-  knows_so_many (size.Constant number) known = refl
-  knows_so_many (size.Pending handle) known = known
-  knows_so_many size.Dynamic known = refl
+  so_many : (it : ArraySize) → knows_size (global_context types overrides) it ≡ size_within (length overrides) it
+  so_many (size.Constant number) = refl
+  so_many (size.Pending handle) = refl
+  so_many size.Dynamic = refl
 
-  knows_length : (it : TypeInner) → IsTrue (length_within (length overrides) it) → IsTrue (knows_override (global_context types overrides) it)
-  knows_length (inner.Array base count stride) known = knows_so_many count known
-  knows_length (inner.BindingArray base count) known = knows_so_many count known
-  knows_length _ known = refl
+  pub known_within : (it : TypeInner) → knows_override (global_context types overrides) it ≡ length_within (length overrides) it
+  known_within (inner.Array base count stride) = so_many count
+  known_within (inner.BindingArray base count) = so_many count
+  known_within _ = refl
 
-  pub fits_behind : (it : TypeInner) → StandsBehind (length types) (length overrides) it → Fits (global_context types overrides) it
-  fits_behind it stands = record { in_range = stands.before; knows = knows_length it stands.known }
+  pub fits_behind : (it : TypeInner) → StandsBehind (length types) (length overrides) it ↔ Fits (global_context types overrides) it
+  fits_behind it = (
+    λ stands. record { in_range = stands.before; knows = known_within it ∙ stands.known },
+    λ fits. record { before = fits.in_range; known = sym (known_within it) ∙ fits.knows },
+  )
+
+  -- in order, each type stands after those that it names
+  pub behind_in_order : IsInOrder (global_context types overrides) → (handle : ℕ) (t : Type_) → slice_get types handle ≡ Some t →
+      StandsBehind handle (length overrides) t.inner
+  behind_in_order order handle t at = record {
+    before = order.before handle t at;
+    known = sym (known_within t.inner) ∙ order.known handle t at;
+  }

@@ -7,7 +7,7 @@ use Rattle.std.specs.Option.{IfSome, is_some, option_and_then, option_map, optio
 use Rattle.naga_ir.specs.StatementTree.{SimpleStatement, emit, break, continue, return, store}
 use Rattle.naga_ir.specs.StatementTree.{atomic, call, subgroup_ballot}
 use Rattle.naga_ir.specs.StatementTree.{subgroup_collective_operation, subgroup_gather}
-use Rattle.naga_ir.specs.StatementTree.{work_group_uniform_load, CaseTrees}
+use Rattle.naga_ir.specs.StatementTree.{work_group_uniform_load, CaseTrees, no_cases, case}
 use Rattle.naga_ir.specs.StatementTree.{StatementTree, simple, branch, switch, loop}
 use Rattle.naga_ir.specs.Operands.{expression_operands, own_operands, own_result}
 use Rattle.naga_ir.specs.declared.expression.Expression.{Expression}
@@ -17,7 +17,9 @@ use Rattle.naga_ir.specs.declared.module.Function.{Function}
 use Rattle.naga_ir.specs.declared.module.FunctionArgument.{FunctionArgument}
 use Rattle.naga_ir.specs.declared.module.FunctionResult.{FunctionResult}
 use Rattle.naga_ir.specs.declared.module.Module.{Module}
+use Rattle.naga_ir.specs.declared.statement.SwitchValue.{SwitchValue}
 use Rattle.naga_ir.specs.declared.statement.SwitchValue.TheVariants as label
+use Rattle.naga_ir.specs.declared.types.Scalar.{Scalar}
 use Rattle.naga_ir.specs.declared.types.ArraySize.{ArraySize}
 use Rattle.naga_ir.specs.declared.types.ArraySize.TheVariants as size
 use Rattle.naga_ir.specs.declared.types.TypeInner.{TypeInner}
@@ -36,12 +38,13 @@ use Rattle.naga_acceptance.specs.declared.faults.FunctionPlace.{FunctionPlace}
 use Rattle.naga_acceptance.specs.declared.faults.FunctionPlace.TheVariants as part
 use Rattle.module_meaning.specs.AlikeTypes.{are_alike}
 use Rattle.module_meaning.specs.ExpressionTypes.{WantedType, LikeThis, Anything, Nothing, wanted_type}
-use Rattle.module_meaning.specs.StatementsFit.{has_label, is_result, is_result_of, labels_are_of, labels_differ, last_falls_through}
+use Rattle.module_meaning.specs.StatementsFit.{has_label, is_result, is_result_of, is_signed, is_unsigned, labels_differ, last_falls_through}
 use Rattle.module_meaning.specs.TypeParts.{known_pointee}
 use Rattle.fault_details.specs.Holds.{IsReason, ReasonsHold}
 use Rattle.fault_details.specs.Reasons.{Reason, Absent, Later, OtherClass, OtherNumber, OtherType, PastParts, Unwanted}
 use Rattle.fault_details.specs.Reasons.{absent, class_reason, declared_reason, emitted_reason, first_reason, index_reason}
-use Rattle.fault_details.specs.Reasons.{initialiser_reason, item_reason, known_reason, label_reason, length_reason}
+use Rattle.fault_details.specs.Reasons.{initialiser_reason, item_reason, known_reason, label_reason, label_type_reason}
+use Rattle.fault_details.specs.Reasons.{label_types_reason, length_reason}
 use Rattle.fault_details.specs.Reasons.{name_reason, names_reason, need_unless, not_before, number_reason, operand_reason}
 use Rattle.fault_details.specs.Reasons.{own_name_reason, own_reason, own_type_reason, part_reason, passed_reason}
 use Rattle.fault_details.specs.Reasons.{return_reason, simple_name_reason, simple_reason, size_reason}
@@ -50,6 +53,7 @@ use Rattle.fault_details.specs.Reasons.{typeless_reason, unlike, wanted_reason, 
 use Rattle.fault_details.specs.Reasons.{expression_reason, entry_point_reason, order_reason, variables_reason, module_reason}
 use Rattle.fault_details.specs.Reasons.{made_reason, is_in_class, call_reason, class_wanted}
 use Rattle.fault_details.specs.Reasons.{answer_reason}
+use Rattle.fault_details.proofs.ScalarsApart.{signed_apart, unsigned_apart}
 use Rattle.fault_details.specs.declared.words.Counted.{Counted}
 use Rattle.fault_details.specs.declared.words.Counted.TheVariants as counted
 use Rattle.fault_details.specs.declared.words.ListName.{ListName}
@@ -104,11 +108,9 @@ module _ (m : Module) where
   two_needs : (a b : Bool) (x y : Need) → Holds (option_or (need_unless a x) (need_unless b y))
   two_needs a b x y = or_holds (IsReason m) (need_unless a x) (need_unless b y) (need_holds a x) (need_holds b y)
 
-  four_needs : (a b c d : Bool) (x y z w : Need) →
-      Holds (option_or (need_unless a x) (option_or (need_unless b y) (option_or (need_unless c z) (need_unless d w))))
-  four_needs a b c d x y z w =
-      or_holds (IsReason m) (need_unless a x) (option_or (need_unless b y) (option_or (need_unless c z) (need_unless d w))) (need_holds a x)
-      (or_holds (IsReason m) (need_unless b y) (option_or (need_unless c z) (need_unless d w)) (need_holds b y) (two_needs c d z w))
+  three_needs : (a b c : Bool) (x y z : Need) → Holds (option_or (need_unless a x) (option_or (need_unless b y) (need_unless c z)))
+  three_needs a b c x y z =
+      or_holds (IsReason m) (need_unless a x) (option_or (need_unless b y) (need_unless c z)) (need_holds a x) (two_needs b c y z)
 
   three_numbers : (o p q : Counted) (a b c d e g : ℕ) → Holds (option_or (number_reason o a b) (option_or (number_reason p c d) (number_reason q e g)))
   three_numbers o p q a b c d e g =
@@ -239,9 +241,20 @@ module _ (m : Module) where
 
   -- ---- statements
 
+  label_type_holds : (s : Scalar) (v : SwitchValue) → Holds (label_type_reason s v)
+  label_type_holds s (label.I32 number) = unless_holds (IsReason m) (is_signed s.kind) _ (signed_apart m.types s.width s.kind)
+  label_type_holds s (label.U32 number) = unless_holds (IsReason m) (is_unsigned s.kind) _ (unsigned_apart m.types s.width s.kind)
+  label_type_holds s label.Default = tt
+
+  label_types_hold : (s : Scalar) (cs : CaseTrees) → Holds (label_types_reason s cs)
+  label_types_hold s no_cases = tt
+  label_types_hold s (case v b falls cs) =
+      or_holds (IsReason m) (label_type_reason s v) (label_types_reason s cs) (label_type_holds s v) (label_types_hold s cs)
+
   label_holds : (cs : CaseTrees) (it : TypeInner) → Holds (label_reason cs it)
   label_holds cs (inner.Scalar s) =
-      four_needs (labels_are_of s cs) (labels_differ cs) (has_label label.Default cs) (not (last_falls_through false cs)) need.Labels need.DistinctLabels need.Default need.End
+      or_holds (IsReason m) (label_types_reason s cs) _ (label_types_hold s cs)
+      (three_needs (labels_differ cs) (has_label label.Default cs) (not (last_falls_through false cs)) need.DistinctLabels need.Default need.End)
   label_holds cs _ = tt
 
   stored_holds : (known : List TypeResolution) (value pointer : ℕ) (wanted : Option TypeResolution) → Holds (stored_reason m.types known value pointer wanted)

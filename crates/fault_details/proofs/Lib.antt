@@ -1,3 +1,7 @@
+pub mod Completing
 pub mod Fitting
 pub mod Holding
 pub mod Passing
+pub mod Reasoning
+pub mod ScalarsApart
+mod TextExamples

@@ -19,6 +19,8 @@ use Rattle.naga_ir.specs.StatementTree.{atomic, call, cooperative_store, subgrou
 use Rattle.naga_ir.specs.StatementTree.{subgroup_collective_operation, subgroup_gather}
 use Rattle.naga_ir.specs.StatementTree.{work_group_uniform_load}
 use Rattle.naga_ir.specs.StatementTree.{StatementTree, simple, branch, switch, loop, CaseTrees}
+use Rattle.naga_ir.specs.StatementTree.{no_cases, case}
+use Rattle.naga_ir.specs.Literals.{scalar_of}
 use Rattle.naga_ir.specs.declared.expression.Expression.{Expression}
 use Rattle.naga_ir.specs.declared.expression.Expression.TheVariants as expression
 use Rattle.naga_ir.specs.declared.module.EntryPoint.{EntryPoint}
@@ -27,9 +29,12 @@ use Rattle.naga_ir.specs.declared.module.FunctionArgument.{FunctionArgument}
 use Rattle.naga_ir.specs.declared.module.FunctionResult.{FunctionResult}
 use Rattle.naga_ir.specs.declared.module.Module.{Module}
 use Rattle.naga_ir.specs.declared.module.SpecialTypes.{SpecialTypes}
+use Rattle.naga_ir.specs.declared.statement.SwitchValue.{SwitchValue}
 use Rattle.naga_ir.specs.declared.statement.SwitchValue.TheVariants as label
 use Rattle.naga_ir.specs.declared.types.ArraySize.{ArraySize}
 use Rattle.naga_ir.specs.declared.types.ArraySize.TheVariants as size
+use Rattle.naga_ir.specs.declared.types.Scalar.{Scalar}
+use Rattle.naga_ir.specs.declared.types.ScalarKind.TheVariants as kind
 use Rattle.naga_ir.specs.declared.types.Type_.{Type_}
 use Rattle.naga_ir.specs.declared.types.TypeInner.{TypeInner}
 use Rattle.naga_ir.specs.declared.types.TypeInner.TheVariants as inner
@@ -53,7 +58,7 @@ use Rattle.module_meaning.specs.OperandDemands.{is_components, is_integer, is_po
 use Rattle.module_meaning.specs.OperandDemands.{points_to_components}
 use Rattle.module_meaning.specs.StatementsFit.{has_label, is_atomic_result, is_ballot_result}
 use Rattle.module_meaning.specs.StatementsFit.{is_result, is_result_of, is_subgroup_result}
-use Rattle.module_meaning.specs.StatementsFit.{is_uniform_load_result, labels_are_of}
+use Rattle.module_meaning.specs.StatementsFit.{is_signed, is_uniform_load_result, is_unsigned}
 use Rattle.module_meaning.specs.StatementsFit.{labels_differ, last_falls_through, selects}
 use Rattle.module_meaning.specs.TypeParts.{has_computed_parts, inner_at, known_inner}
 use Rattle.module_meaning.specs.TypeParts.{known_pointee, part_count, points_to_atomic}
@@ -281,10 +286,29 @@ operand_reason types known _ = None
 abbrev pub need_unless : (test : Bool) → Need → Option Reason
 need_unless test it = if test then None else Some (Needs it)
 
+-- a label is of another scalar than the selector
+abbrev pub scalar_unless : (test : Bool) → (wanted got : Scalar) → Option Reason
+scalar_unless test wanted got =
+    if test then None
+    else Some (OtherType (Value (inner.Scalar wanted)) (Value (inner.Scalar got)))
+
+abbrev pub label_type_reason : Scalar → SwitchValue → Option Reason
+label_type_reason s (label.I32 number) =
+    scalar_unless (is_signed s.kind) s (scalar_of kind.Sint 4)
+label_type_reason s (label.U32 number) =
+    scalar_unless (is_unsigned s.kind) s (scalar_of kind.Uint 4)
+label_type_reason s label.Default = None
+
+-- the first label of another scalar
+abbrev pub label_types_reason : Scalar → CaseTrees → Option Reason
+label_types_reason s no_cases = None
+label_types_reason s (case v b falls cs) =
+    option_or (label_type_reason s v) (label_types_reason s cs)
+
 -- labels of a selector that is this scalar
 abbrev pub label_reason : CaseTrees → TypeInner → Option Reason
 label_reason cs (inner.Scalar s) =
-    option_or (need_unless (labels_are_of s cs) need.Labels)
+    option_or (label_types_reason s cs)
     (option_or (need_unless (labels_differ cs) need.DistinctLabels)
     (option_or (need_unless (has_label label.Default cs) need.Default)
     (need_unless (not (last_falls_through false cs)) need.End)))

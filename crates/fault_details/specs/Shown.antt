@@ -1,6 +1,8 @@
 -- What the code's reasons and placed statements stand for.
 use Rattle.std.specs.Prelude.{ℕ, zero, suc, List, [], ◌∷◌, Result, Ok, Err}
 use Rattle.naga_ir.specs.StatementViews.{tree_of}
+use Rattle.naga_ir.specs.declared.types.TypeInner.TheVariants as inner
+use Rattle.naga_info.specs.declared.info.TypeResolution.TheVariants.{Value}
 use Rattle.naga_acceptance.specs.KnownTypes.{inferred}
 use Rattle.naga_acceptance.specs.TextOrder.{PlacedStatement}
 use Rattle.fault_details.specs.Reasons.{Reason as Told, OtherType, OtherClass, NoValue, Unwanted}
@@ -12,6 +14,8 @@ use Rattle.fault_details.specs.declared.walk.Placed.{Placed}
 -- a reason, with its types themselves
 abbrev pub shown : Reason → Told
 shown (code.OtherType wanted got) = OtherType (inferred wanted) got.now
+shown (code.OtherScalar wanted got) =
+    OtherType (Value (inner.Scalar wanted)) (Value (inner.Scalar got))
 shown (code.OtherClass class got) = OtherClass class got.now
 shown (code.NoValue wanted) = NoValue (inferred wanted)
 shown (code.Unwanted got) = Unwanted got.now

@@ -1,38 +1,74 @@
 -- What is told of a reason.
 --
 -- Throughout, m is a module, r a type that is wanted or known, and h is a handle.
-use Rattle.std.specs.Prelude.{◌≡◌, ⊤, ℕ, ◌++◌, ◌⊎◌, List, Option, Some, None, codes, string_bytes}
-use Rattle.std.specs.Prelude.{decimal}
+use Rattle.std.specs.Prelude.{◌≡◌, ◌≢◌, ⊤, ℕ, ◌⊎◌, List, Option, Some, None, codes, string_bytes}
+use Rattle.std.specs.Str.Iter.{HasSubslice}
 use Rattle.naga_ir.specs.declared.module.Module.{Module}
 use Rattle.naga_info.specs.declared.info.TypeResolution.{TypeResolution}
 use Rattle.naga_info.specs.declared.info.TypeResolution.TheVariants.{Handle, Value}
 use Rattle.naga_words.specs.Contexts.{global_context}
 use Rattle.naga_words.specs.Segments.{IsText}
-use Rattle.naga_words.specs.Spelling.{resolution_segments}
+use Rattle.naga_words.specs.Spelling.{Context, FitsResolution, IsInOrder, resolution_segments}
+use Rattle.naga_listing.specs.OneLine.{on_one_line}
 use Rattle.fault_details.specs.Reasons.{Reason, OtherType, OtherClass, NoValue, Unwanted, Absent}
 use Rattle.fault_details.specs.Reasons.{Later, OtherNumber, PastParts, Needs}
+use Rattle.fault_details.specs.Texts.{item_text}
+use Rattle.fault_details.specs.declared.words.ListName.TheVariants as list
 use Rattle.fault_details.specs.declared.wanted.Wanted.{Wanted}
 use Rattle.fault_details.specs.declared.wanted.Wanted.TheVariants as told
 
 -- a type by its place in the module
 abbrev pub place_text : (h : ℕ) → List ℕ
-place_text h = codes "types[" ++ decimal h ++ codes "]"
+place_text h = item_text list.Types h
 
 -- a type without a spelling: one of the module by its place, another not at all
 abbrev pub unspelled_text : TypeResolution → List ℕ
 unspelled_text (Handle h) = place_text h
 unspelled_text (Value it) = codes "a type that names what is not there"
 
--- The type is told as it is spelled by the labels of structs and overrides, or without a spelling.
+-- types and overrides by their labels
+abbrev pub labels_of : Module → Context
+labels_of m = global_context m.types m.overrides
+
+-- The type has no spelling: a type does not stand after those that it names, or what this one names
+-- is not there.
+abbrev pub HasNoOrder : Module → TypeResolution → Type 0
+HasNoOrder m r = (IsInOrder (labels_of m) → ⊥) ⊎ (FitsResolution (labels_of m) r → ⊥)
+
+-- the type is one of the module
+abbrev pub IsOfModule : TypeResolution → Type 0
+IsOfModule (Handle h) = ⊤
+IsOfModule (Value it) = ⊥
+
+-- The type is one of the module, and its spelling has braces, in which stands what has no form.
+abbrev pub HasBraces : Module → TypeResolution → Type 0
+HasBraces m r = IsOfModule r × ((spelled : List ℕ)
+    × IsText (resolution_segments (labels_of m) r) spelled × HasSubslice spelled (codes "{"))
+
+-- The type is told as it is spelled by the labels of structs and overrides, with what controls
+-- escaped; without a spelling only where it has none, or where that has braces.
 abbrev pub IsTold : Module → TypeResolution → (text : List ℕ) → Type 0
 IsTold m r text =
-    IsText (resolution_segments (global_context m.types m.overrides) r) text
-    ⊎ (text ≡ unspelled_text r)
+    ((spelled : List ℕ) × IsText (resolution_segments (labels_of m) r) spelled
+    × (text ≡ on_one_line spelled))
+    ⊎ ((HasNoOrder m r ⊎ HasBraces m r) × (text ≡ unspelled_text r))
+
+-- A type of the module is told by its place, and another one as ever.
+abbrev pub IsPlaced : Module → TypeResolution → (text : List ℕ) → Type 0
+IsPlaced m (Handle h) text = text ≡ place_text h
+IsPlaced m (Value it) text = IsTold m (Value it) text
+
+-- Two types are told by texts that differ, or by their places where one text would tell both.
+abbrev pub TellsBoth : Module → (wanted got : TypeResolution) → (text other : List ℕ) → Type 0
+TellsBoth m wanted got text other =
+    (IsTold m wanted text × IsTold m got other × (text ≢ other))
+    ⊎ (IsPlaced m wanted text × IsPlaced m got other
+    × ((both : List ℕ) × IsTold m wanted both × IsTold m got both))
 
 -- the reason is told, with its types and its numbers
 abbrev pub Tells : Module → Reason → Wanted → Type 0
 Tells m (OtherType wanted got) (told.Type wanted_text got_text) =
-    IsTold m wanted (string_bytes wanted_text) × IsTold m got (string_bytes got_text)
+    TellsBoth m wanted got (string_bytes wanted_text) (string_bytes got_text)
 Tells m (OtherClass class got) (told.Class told_class text) =
     (told_class ≡ class) × IsTold m got (string_bytes text)
 Tells m (NoValue wanted) (told.Value text) = IsTold m wanted (string_bytes text)

@@ -8,6 +8,7 @@
 mod items;
 pub mod laws;
 mod names;
+mod order;
 mod reasons;
 mod spelled;
 mod statements;

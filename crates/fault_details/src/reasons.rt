@@ -8,6 +8,7 @@ ghost use Rattle.fault_details.specs.Shown.{shown};
 use crate::words::{Counted, ListName, Need, TypeClass};
 use naga_acceptance::parts::InferredType;
 use naga_info::TypeResolution;
+use naga_ir::Scalar;
 
 /// What was wanted at a place, and what stands there.
 #[derive(Debug, Clone, Copy)]
@@ -16,6 +17,11 @@ pub(crate) enum Reason<'a> {
     OtherType {
         wanted: InferredType,
         got: &'a TypeResolution,
+    },
+    /// The same of two scalars, of which none is known of an expression.
+    OtherScalar {
+        wanted: Scalar,
+        got: Scalar,
     },
     /// A type of a class is wanted, and another stands there.
     OtherClass {

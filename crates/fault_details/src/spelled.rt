@@ -1,78 +1,59 @@
 //! What was wanted, with types as they are spelled.
 
-ghost use Rattle.std.specs.Prelude.{◌≡◌, IfOk, IsTrue, Some, string_bytes};
+ghost use Rattle.std.specs.Prelude.{◌≡◌, IfNone, IfOk, IsTrue, Some, codes, string_bytes};
 ghost use Rattle.std.specs.Option.{IfSome};
+ghost use Rattle.std.specs.Str.Iter.{HasSubslice};
+ghost use Rattle.naga_info.specs.declared.info.TypeResolution.TheVariants.{Value};
 ghost use Rattle.naga_acceptance.specs.KnownTypes.{inferred};
 ghost use Rattle.naga_words.specs.Contexts.{global_context};
 ghost use Rattle.naga_words.specs.Segments.{IsText};
-ghost use Rattle.naga_words.specs.Spelling.{FitsResolution, resolution_segments};
+ghost use Rattle.naga_words.specs.Spelling.{resolution_segments};
 ghost use Rattle.fault_details.specs.Reasons.{NoValue, OtherClass, OtherType, Unwanted};
 ghost use Rattle.fault_details.specs.Reasons.{fault_reason};
 ghost use Rattle.fault_details.specs.Shown.{shown};
-ghost use Rattle.fault_details.specs.Told.{IsTold, Tells, TellsOf, place_text, unspelled_text};
+ghost use Rattle.fault_details.specs.Told.{HasNoOrder, IsOfModule, IsPlaced, IsTold, Tells};
+ghost use Rattle.fault_details.specs.Told.{TellsOf, unspelled_text};
 
 use crate::items::fault_reason;
+use crate::order::{fits, is_in_order};
 use crate::reasons::Reason;
 use crate::wanted::Wanted;
-use crate::words::TypeClass;
+use crate::words::{ListName, Numbered, TypeClass};
 use naga_acceptance::Unaccepted;
 use naga_acceptance::parts::InferredType;
 use naga_info::{ModuleInfo, ToCtx, TypeResolution};
-use naga_ir::{Handle, Module, Type_, TypeInner};
-use naga_words::types::{type_fits, types_in_order};
+use naga_ir::{Module, Scalar, TypeInner};
+use naga_listing::on_one_line;
 use naga_words::{SinkError, TypeContext, TypeTextError};
 use std::alloc::{AllocError, Global};
-use std::fmt;
-
-/// A type by its place in the module.
-#[derive(Clone, Copy)]
-struct TypePlace(Handle<Type_>);
-
-impl fmt::Display for TypePlace {
-    ghost output = { λ t. Some (place_text t.0) };
-
-    fn fmt<W: fmt::Write>(&self, f: &mut fmt::Formatter<W>) -> fmt::Result {
-        write!(f, "types[{}]", self.0.index())
-    }
-}
 
 /// A type of the module by its place.
 fn unspelled(alloc: Global, ty: &TypeResolution) -> Result<String, AllocError>
     ensures { IfOk result (λ t. string_bytes t ≡ unspelled_text ty.now) }
 {
     match ty {
-        TypeResolution::Handle(handle) => format!(in alloc; "{}", TypePlace(*handle)),
+        TypeResolution::Handle(handle) => {
+            format!(in alloc; "{}", Numbered(ListName::Types, handle.index()))
+        }
         TypeResolution::Value(_) => {
             String::from_str(alloc, "a type that names what is not there")
         }
     }
 }
 
-/// Whether what a type names is there.
-#[tactic(auto, using(crate::proofs::Fitting::fits_behind))]
-fn fits(module: &Module, ty: &TypeResolution) -> bool
-    ensures { IsTrue result → FitsResolution
-        (global_context «module».now.types «module».now.overrides) ty.now }
-{
-    let types = module.types.len();
-    match ty {
-        TypeResolution::Handle(handle) => handle.index() < types,
-        TypeResolution::Value(inner) => type_fits(types, module.overrides.len(), inner),
-    }
-}
-
-/// A type as it is spelled, with what has no form in braces; none where types are out of order, so
-/// that there is no spelling.
+/// A type as it is spelled, with what has no form in braces; none where types are out of order, or
+/// where what it names is not there.
 fn spelling(
     alloc: Global,
     module: &Module,
     ty: &TypeResolution,
 ) -> Result<Option<String>, AllocError>
-    ensures { IfOk result (λ spelled. IfSome spelled (λ t. IsText (resolution_segments
+    ensures text { IfOk result (λ spelled. IfSome spelled (λ t. IsText (resolution_segments
         (global_context «module».now.types «module».now.overrides) ty.now) (string_bytes t))) }
+    ensures none { IfOk result (λ spelled. IfNone spelled (HasNoOrder «module».now ty.now)) }
 {
     let context = module.to_ctx();
-    if !types_in_order(context.types, context.overrides.len()) || !fits(module, ty) {
+    if !is_in_order(module) || !fits(module, ty) {
         return Ok(None);
     }
     match context.type_resolution_to_string(alloc, ty) {
@@ -83,24 +64,27 @@ fn spelling(
     }
 }
 
-/// Whether a type of the module has a part without a form, which its spelling has in braces.
-fn is_formless(ty: &TypeResolution, spelled: &str) -> bool {
+/// Whether the spelling of a type of the module has braces, in which stands what has no form.
+#[tactic(auto, using(std::proofs::lemmas::Str::Pattern::contains_text))]
+fn has_braces(ty: &TypeResolution, spelled: &str) -> bool
+    ensures { IsTrue result → IsOfModule ty.now × HasSubslice spelled.now (codes "{") }
+{
     match ty {
-        TypeResolution::Handle(_) => spelled.contains('{'),
+        TypeResolution::Handle(_) => spelled.contains("{"),
         TypeResolution::Value(_) => false,
     }
 }
 
-/// A type as it is told: as it is spelled, or by its place.
+/// A type as it is told: as it is spelled, on one line, or by its place.
 fn told(alloc: Global, module: &Module, ty: &TypeResolution) -> Result<String, AllocError>
     ensures { IfOk result (λ t. IsTold «module».now ty.now (string_bytes t)) }
 {
     match spelling(alloc, module, ty)? {
         Some(text) => {
-            if is_formless(ty, text.as_str()) {
+            if has_braces(ty, text.as_str()) {
                 unspelled(alloc, ty)
             } else {
-                Ok(text)
+                on_one_line(alloc, text.as_str())
             }
         }
         None => unspelled(alloc, ty),
@@ -109,7 +93,7 @@ fn told(alloc: Global, module: &Module, ty: &TypeResolution) -> Result<String, A
 
 /// A type by its place, if it is one of the module, or else as it is told.
 fn placed(alloc: Global, module: &Module, ty: &TypeResolution) -> Result<String, AllocError>
-    ensures { IfOk result (λ t. IsTold «module».now ty.now (string_bytes t)) }
+    ensures { IfOk result (λ t. IsPlaced «module».now ty.now (string_bytes t)) }
 {
     match ty {
         TypeResolution::Handle(_) => unspelled(alloc, ty),
@@ -174,6 +158,20 @@ fn other_type(
     })
 }
 
+/// Two scalars.
+fn other_scalar(
+    alloc: Global,
+    module: &Module,
+    wanted: Scalar,
+    got: Scalar,
+) -> Result<Wanted, AllocError>
+    ensures { IfOk result (Tells «module».now (OtherType (Value (TypeInner.Scalar wanted))
+        (Value (TypeInner.Scalar got)))) }
+{
+    let got = TypeResolution::Value(TypeInner::Scalar(got));
+    other_type(alloc, module, InferredType::Scalar(wanted), &got)
+}
+
 /// A type of which there is no value.
 fn no_value(alloc: Global, module: &Module, wanted: InferredType) -> Result<Wanted, AllocError>
     ensures { IfOk result (Tells «module».now (NoValue (inferred wanted))) }
@@ -214,6 +212,7 @@ fn told_reason(alloc: Global, module: &Module, reason: &Reason<'_>) -> Result<Wa
 {
     match reason {
         Reason::OtherType { wanted, got } => other_type(alloc, module, *wanted, *got),
+        Reason::OtherScalar { wanted, got } => other_scalar(alloc, module, *wanted, *got),
         Reason::OtherClass { class, got } => other_class(alloc, module, *class, *got),
         Reason::NoValue { wanted } => no_value(alloc, module, *wanted),
         Reason::Unwanted { got } => unwanted(alloc, module, *got),

@@ -7,7 +7,8 @@ ghost use Rattle.naga_acceptance.specs.KnownTypes.{known_types};
 ghost use Rattle.module_meaning.specs.StatementsFit.{is_atomic_result, is_ballot_result};
 ghost use Rattle.module_meaning.specs.StatementsFit.{is_subgroup_result, is_uniform_load_result};
 ghost use Rattle.fault_details.specs.Reasons.{answer_reason, call_reason, class_reason};
-ghost use Rattle.fault_details.specs.Reasons.{label_reason, own_reason, passed_reason};
+ghost use Rattle.fault_details.specs.Reasons.{label_reason, label_type_reason};
+ghost use Rattle.fault_details.specs.Reasons.{label_types_reason, own_reason, passed_reason};
 ghost use Rattle.fault_details.specs.Reasons.{result_reason, return_reason, store_reason};
 ghost use Rattle.fault_details.specs.Reasons.{statement_reason, switch_reason};
 ghost use Rattle.fault_details.specs.Shown.{placed, shown};
@@ -22,11 +23,11 @@ use naga_acceptance::expression_types::pointee_at;
 use naga_acceptance::parts::{InferredType, Known, known_inner, known_type};
 use naga_acceptance::statements::{
     has_label, is_atomic_result, is_ballot_result, is_call_result, is_subgroup_result,
-    is_uniform_load_result, labels_are_of, labels_differ, last_falls_through,
+    is_uniform_load_result, labels_differ, last_falls_through,
 };
 use naga_ir::{
-    Expression, Function, FunctionArgument, FunctionResult, Handle, Module, Scalar, Statement,
-    SwitchCase, SwitchValue, Type_, TypeInner, UniqueArena,
+    Expression, Function, FunctionArgument, FunctionResult, Handle, Module, Scalar, ScalarKind,
+    Statement, SwitchCase, SwitchValue, Type_, TypeInner, UniqueArena,
 };
 
 /// A condition that is no `bool`, if there is one.
@@ -46,12 +47,42 @@ fn condition_reason<'a>(
 
 // ---- switches
 
+/// A label of another type than the selector.
+fn label_type_reason<'a>(scalar: Scalar, label: SwitchValue) -> Option<Reason<'a>>
+    ensures { option_map shown result ≡ label_type_reason scalar label }
+{
+    let kind = match (label, scalar.kind) {
+        (SwitchValue::I32(_), ScalarKind::Sint) => return None,
+        (SwitchValue::U32(_), ScalarKind::Uint) => return None,
+        (SwitchValue::Default, _) => return None,
+        (SwitchValue::I32(_), _) => ScalarKind::Sint,
+        (SwitchValue::U32(_), _) => ScalarKind::Uint,
+    };
+    Some(Reason::OtherScalar {
+        wanted: scalar,
+        got: Scalar { kind, width: 4 },
+    })
+}
+
+fn label_types_reason<'a>(scalar: Scalar, cases: &[SwitchCase]) -> Option<Reason<'a>>
+    ensures { option_map shown result ≡ label_types_reason scalar (cases_of cases.now) }
+{
+    for case in cases {
+        let found = label_type_reason(scalar, case.value);
+        if found.is_some() {
+            return found;
+        }
+    }
+    None
+}
+
 fn scalar_label_reason<'a>(scalar: Scalar, cases: &[SwitchCase]) -> Option<Reason<'a>>
     ensures { option_map shown result
         ≡ label_reason (cases_of cases.now) (TypeInner.Scalar scalar) }
 {
-    if !labels_are_of(scalar, cases) {
-        return Some(Reason::Needs { need: Need::Labels });
+    let found = label_types_reason(scalar, cases);
+    if found.is_some() {
+        return found;
     }
     if !labels_differ(cases) {
         return Some(Reason::Needs {

@@ -1,11 +1,15 @@
 //! What was wanted where a module is not accepted, as it is told.
 
-use crate::words::{Counted, ListName, Many, Need, TypeClass};
+ghost use Rattle.std.specs.Prelude.{Some};
+ghost use Rattle.fault_details.specs.Texts.{wanted_text};
+
+use crate::words::{Counted, ListName, Many, Need, Numbered, There, TypeClass};
 use std::fmt;
 
 /// What was wanted where a module is not accepted, and what stands there. A type is told as WGSL
-/// spells it, structs and overrides by their labels; or, if it is one of the module, as `types[5]`,
-/// by its handle, where it has no such spelling, and where the other one is spelled alike.
+/// spells it, structs and overrides by their labels, with line breaks escaped; or, if it is one of
+/// the module, as `types[5]`, by its handle, where it has no such spelling or one with braces, and
+/// where the other one is spelled alike.
 #[derive(Debug, Drop)]
 pub enum Wanted {
     /// A value of one type is wanted, and one of another stands there:
@@ -74,6 +78,8 @@ pub enum Wanted {
 }
 
 impl fmt::Display for Wanted {
+    ghost output = { λ w. Some (wanted_text w) };
+
     fn fmt<W: fmt::Write>(&self, f: &mut fmt::Formatter<W>) -> fmt::Result {
         match self {
             Wanted::Type { wanted, got } => write!(f, "wanted {}, got {}", wanted, got),
@@ -81,23 +87,17 @@ impl fmt::Display for Wanted {
             Wanted::Value { wanted } => write!(f, "wanted {}, got nothing", wanted),
             Wanted::Nothing { got } => write!(f, "wanted nothing, got {}", got),
             Wanted::Item { list, index, count } => {
-                let verb = if *count == 1 { "is" } else { "are" };
-                write!(
-                    f,
-                    "names {}[{}], of which there {} {}",
-                    list, index, verb, count
-                )
+                let item = Numbered(*list, *index);
+                write!(f, "names {}, of which there {}", item, There(*count))
             }
             Wanted::EarlierItem {
                 list,
                 index,
                 before,
             } => {
-                write!(
-                    f,
-                    "names {}[{}], wanted one before {}[{}]",
-                    list, index, list, before
-                )
+                let item = Numbered(*list, *index);
+                let next = Numbered(*list, *before);
+                write!(f, "names {}, wanted one before {}", item, next)
             }
             Wanted::Number { of, wanted, got } => {
                 write!(f, "wanted {}, got {}", Many(*wanted, *of), got)

@@ -1,5 +1,9 @@
 //! What is told by a word: lists, classes of types, and what statements need.
 
+ghost use Rattle.std.specs.Prelude.{◌≡◌, Some};
+ghost use Rattle.fault_details.specs.Texts.{class_text, count_text, item_text, list_text};
+ghost use Rattle.fault_details.specs.Texts.{many_text, need_text, singular_text};
+
 use std::fmt;
 
 /// A list of a module or of a function, of which an item is named by its number. It is shown by its
@@ -21,6 +25,8 @@ pub enum ListName {
 }
 
 impl fmt::Display for ListName {
+    ghost output = { λ name. Some (list_text name) };
+
     fn fmt<W: fmt::Write>(&self, f: &mut fmt::Formatter<W>) -> fmt::Result {
         f.write_str(match self {
             ListName::Types => "types",
@@ -33,6 +39,31 @@ impl fmt::Display for ListName {
             ListName::Arguments => "arguments",
             ListName::LocalVariables => "local_variables",
         })
+    }
+}
+
+/// An item of a list, by its number: `expressions[41]`.
+#[derive(Clone, Copy)]
+pub(crate) struct Numbered(pub ListName, pub usize);
+
+impl fmt::Display for Numbered {
+    ghost output = { λ it. Some (item_text it.0 it.1) };
+
+    fn fmt<W: fmt::Write>(&self, f: &mut fmt::Formatter<W>) -> fmt::Result {
+        write!(f, "{}[{}]", self.0, self.1)
+    }
+}
+
+/// How many items a list has, with the verb: `is 1`, `are 12`.
+#[derive(Clone, Copy)]
+pub(crate) struct There(pub usize);
+
+impl fmt::Display for There {
+    ghost output = { λ there. Some (count_text there.0) };
+
+    fn fmt<W: fmt::Write>(&self, f: &mut fmt::Formatter<W>) -> fmt::Result {
+        let verb = if self.0 == 1 { "is" } else { "are" };
+        write!(f, "{} {}", verb, self.0)
     }
 }
 
@@ -53,7 +84,9 @@ pub enum Counted {
 
 impl Counted {
     /// What one of these is called.
-    fn singular(self) -> &'static str {
+    fn singular(self) -> &'static str
+        ensures { result.now ≡ singular_text self }
+    {
         match self {
             Counted::Arguments => "argument",
             Counted::Functions => "function",
@@ -69,6 +102,8 @@ impl Counted {
 pub(crate) struct Many(pub usize, pub Counted);
 
 impl fmt::Display for Many {
+    ghost output = { λ many. Some (many_text many.0 many.1) };
+
     fn fmt<W: fmt::Write>(&self, f: &mut fmt::Formatter<W>) -> fmt::Result {
         let ending = if self.0 == 1 { "" } else { "s" };
         write!(f, "{} {}{}", self.0, self.1.singular(), ending)
@@ -99,6 +134,8 @@ pub enum TypeClass {
 }
 
 impl fmt::Display for TypeClass {
+    ghost output = { λ any. Some (class_text any) };
+
     fn fmt<W: fmt::Write>(&self, f: &mut fmt::Formatter<W>) -> fmt::Result {
         f.write_str(match self {
             TypeClass::Bool => "bool",
@@ -121,8 +158,6 @@ pub enum Need {
     LoopOrSwitch,
     /// A `Continue` stands in a loop's body, and leaves no `continuing`.
     Loop,
-    /// The labels of a switch are of its selector's type.
-    Labels,
     /// No label of a switch stands twice.
     DistinctLabels,
     /// One label of a switch is the default.
@@ -136,11 +171,12 @@ pub enum Need {
 }
 
 impl fmt::Display for Need {
+    ghost output = { λ it. Some (need_text it) };
+
     fn fmt<W: fmt::Write>(&self, f: &mut fmt::Formatter<W>) -> fmt::Result {
         f.write_str(match self {
             Need::LoopOrSwitch => "a loop or a switch to leave",
             Need::Loop => "a loop to go on with",
-            Need::Labels => "labels of the selector's type",
             Need::DistinctLabels => "labels that differ",
             Need::Default => "a default label",
             Need::End => "a last case that does not fall through",

@@ -1,0 +1,87 @@
+-- What is displayed of what was wanted, and of what stands there instead.
+--
+-- Throughout, h is the number of an item in its list, and n counts several things.
+use Rattle.std.specs.Prelude.{ℕ, List, [], ◌++◌, ◌==◌, codes, decimal, if◌then◌else◌, string_bytes}
+use Rattle.fault_details.specs.declared.wanted.Wanted.{Wanted}
+use Rattle.fault_details.specs.declared.wanted.Wanted.TheVariants as wanted
+use Rattle.fault_details.specs.declared.words.Counted.{Counted}
+use Rattle.fault_details.specs.declared.words.Counted.TheVariants as counted
+use Rattle.fault_details.specs.declared.words.ListName.{ListName}
+use Rattle.fault_details.specs.declared.words.ListName.TheVariants as list
+use Rattle.fault_details.specs.declared.words.Need.{Need}
+use Rattle.fault_details.specs.declared.words.Need.TheVariants as need
+use Rattle.fault_details.specs.declared.words.TypeClass.{TypeClass}
+use Rattle.fault_details.specs.declared.words.TypeClass.TheVariants as class
+
+-- a list, by its name in the JSON of a module
+abbrev pub list_text : ListName → List ℕ
+list_text list.Types = codes "types"
+list_text list.Constants = codes "constants"
+list_text list.Overrides = codes "overrides"
+list_text list.GlobalVariables = codes "global_variables"
+list_text list.GlobalExpressions = codes "global_expressions"
+list_text list.Functions = codes "functions"
+list_text list.Expressions = codes "expressions"
+list_text list.Arguments = codes "arguments"
+list_text list.LocalVariables = codes "local_variables"
+
+-- an item of a list, as `expressions[41]`
+abbrev pub item_text : ListName → (h : ℕ) → List ℕ
+item_text name h = list_text name ++ codes "[" ++ decimal h ++ codes "]"
+
+-- what one thing is called
+abbrev pub singular_text : Counted → List ℕ
+singular_text counted.Arguments = codes "argument"
+singular_text counted.Functions = codes "function"
+singular_text counted.EntryPoints = codes "entry point"
+singular_text counted.Expressions = codes "expression"
+singular_text counted.GlobalExpressions = codes "global expression"
+
+-- so many of it: `1 argument`, `2 arguments`
+abbrev pub many_text : (n : ℕ) → Counted → List ℕ
+many_text n of =
+    decimal n ++ codes " " ++ singular_text of ++ (if n == 1 then [] else codes "s")
+
+-- the types of a class
+abbrev pub class_text : TypeClass → List ℕ
+class_text class.Bool = codes "bool"
+class_text class.Integer = codes "an integer"
+class_text class.Selector = codes "i32 or u32"
+class_text class.Components = codes "a scalar or a vector"
+class_text class.Vector = codes "a vector"
+class_text class.Composite = codes "a vector, a matrix, an array or a pointer to one of these"
+class_text class.Pointer = codes "a pointer"
+class_text class.ComponentsPointer = codes "a pointer to a scalar or a vector"
+class_text class.AtomicPointer = codes "a pointer to an atomic"
+
+-- what a statement needs beside types
+abbrev pub need_text : Need → List ℕ
+need_text need.LoopOrSwitch = codes "a loop or a switch to leave"
+need_text need.Loop = codes "a loop to go on with"
+need_text need.DistinctLabels = codes "labels that differ"
+need_text need.Default = codes "a default label"
+need_text need.End = codes "a last case that does not fall through"
+need_text need.CalleeResult = codes "a callee with a result"
+need_text need.OwnResult = codes "an expression that is its result"
+
+-- the number of items that a list has: `is 1`, `are 12`
+abbrev pub count_text : (n : ℕ) → List ℕ
+count_text n = (if n == 1 then codes "is" else codes "are") ++ codes " " ++ decimal n
+
+-- what was wanted and what stands there: `wanted vec4<f32>, got f32`
+abbrev pub wanted_text : Wanted → List ℕ
+wanted_text (wanted.Type ty got) =
+    codes "wanted " ++ string_bytes ty ++ codes ", got " ++ string_bytes got
+wanted_text (wanted.Class any got) =
+    codes "wanted " ++ class_text any ++ codes ", got " ++ string_bytes got
+wanted_text (wanted.Value ty) = codes "wanted " ++ string_bytes ty ++ codes ", got nothing"
+wanted_text (wanted.Nothing got) = codes "wanted nothing, got " ++ string_bytes got
+wanted_text (wanted.Item name h n) =
+    codes "names " ++ (item_text name h ++ (codes ", of which there " ++ count_text n))
+wanted_text (wanted.EarlierItem name h before) =
+    codes "names " ++ (item_text name h ++ (codes ", wanted one before " ++ item_text name before))
+wanted_text (wanted.Number of n got) =
+    codes "wanted " ++ many_text n of ++ codes ", got " ++ decimal got
+wanted_text (wanted.Part n got) =
+    codes "wanted an index below " ++ decimal n ++ codes ", got " ++ decimal got
+wanted_text (wanted.Need it) = codes "wanted " ++ need_text it
