@@ -1,0 +1,8 @@
+-- Want of memory in the place of an answer.
+use Rattle.std.specs.Prelude.{◌≡◌, ◌⊎◌, Err, IsErr, Result, alloc_error}
+use Rattle.naga_wgsl_fns.specs.declared.error.Error.{Error}
+use Rattle.naga_wgsl_fns.specs.declared.error.Error.TheVariants.{Memory}
+
+-- the answer, or where that is an error, that memory was wanting
+abbrev pub IsAnswerOrWant : (answer told : Result Unit Error) → Type 0
+IsAnswerOrWant answer told = (told ≡ answer) ⊎ (IsErr answer × (told ≡ Err (Memory alloc_error)))
