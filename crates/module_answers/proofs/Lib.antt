@@ -1,1 +1,2 @@
 pub mod Bounded
+mod PlaceExamples
