@@ -34,7 +34,7 @@ use Rattle.naga_info.specs.declared.info.TypeResolution.TheVariants.{Handle, Val
 use Rattle.module_meaning.specs.AlikeTypes.{are_alike}
 use Rattle.module_meaning.specs.ExpressionTypes.{WantedType, LikeThis, Anything, Nothing, argument_type, binary_type, has_its_type, if_any, is_bool, is_wanted, local_type}
 use Rattle.module_meaning.specs.ExpressionTypes.{logical_type, only, vector_of, wanted_type}
-use Rattle.module_meaning.specs.OperandDemands.{is_components, is_integer, is_swizzled, operand_is, operands_fit}
+use Rattle.module_meaning.specs.OperandDemands.{is_components, is_integer, operand_is, operands_fit}
 use Rattle.module_meaning.specs.InfoSizes.{all_known, all_paired, entry_point_size_fits, function_size_fits, sizes_fit, type_is_fit}
 use Rattle.module_meaning.specs.Initialisers.{constant_is_sound, global_is_sound, initialiser_fits, local_is_sound, override_is_sound}
 use Rattle.module_meaning.specs.Numbers.{fits_16_bits, resource_fits_32_bits, workgroup_fits_32_bits}

@@ -1,5 +1,5 @@
 -- Each reason is one: each comes from a test that fails.
-use Rattle.std.proofs.Common.{◌≡◌, ◌≢◌, ◌<◌, ◌==◌, ◌-◌, ℕ, Bool, true, false, List, [], ◌∷◌, arith, Option, Some, None}
+use Rattle.std.proofs.Common.{◌≡◌, ◌<◌, ◌==◌, ◌-◌, ℕ, Bool, true, false, List, [], ◌∷◌, arith, Option, Some, None}
 use Rattle.std.proofs.Common.{refl, length, nat_lt, nat_le, not, slice_get, true≢false, sym, eq-eqb, ◌∙◌}
 use Rattle.std.proofs.lemmas.Bool.{ltb-false, leb-false}
 use Rattle.std.specs.Prelude.{if◌then◌else◌}

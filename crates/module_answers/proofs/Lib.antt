@@ -1,2 +1,3 @@
 pub mod Bounded
 mod Wants
+mod PlaceExamples

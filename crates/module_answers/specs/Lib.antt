@@ -1,2 +1,4 @@
 pub mod Wants
+pub mod Faults
+pub mod Places
 pub mod Within

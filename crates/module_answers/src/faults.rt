@@ -1,5 +1,8 @@
 //! Where a module is not accepted, why, and what was wanted there.
 
+ghost use Rattle.std.specs.Prelude.{IfOk, string_bytes};
+ghost use Rattle.module_answers.specs.Faults.{TellsFault, TellsFaultAt};
+
 use crate::places::JsonPlace;
 use naga_info::ModuleInfo;
 use naga_wgsl_out::info::{Unaccepted, explain};
@@ -15,7 +18,10 @@ pub fn fault_line(
     module: &Module,
     info: &ModuleInfo,
     unaccepted: Unaccepted,
-) -> Result<String, AllocError> {
+) -> Result<String, AllocError>
+    ensures { IfOk result (λ line. TellsFaultAt «module».now info.now unaccepted
+        (string_bytes line)) }
+{
     let place = JsonPlace(unaccepted.item);
     let fault = fault_text(alloc, module, info, unaccepted)?;
     format!(in alloc; "{place}: {fault}")
@@ -27,7 +33,10 @@ pub fn fault_text(
     module: &Module,
     info: &ModuleInfo,
     unaccepted: Unaccepted,
-) -> Result<String, AllocError> {
+) -> Result<String, AllocError>
+    ensures { IfOk result (λ text. TellsFault «module».now info.now unaccepted
+        (string_bytes text)) }
+{
     let fault = unaccepted.fault;
     match explain(alloc, module, info, unaccepted)? {
         Some(wanted) => format!(in alloc; "{fault}: {wanted}"),

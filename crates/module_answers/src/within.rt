@@ -9,7 +9,7 @@ ghost use Rattle.module_meaning.specs.Accepted.{is_accepted};
 ghost use Rattle.naga_wgsl_out.specs.Checked.{IsCounted};
 ghost use Rattle.naga_back.specs.Flags.{annotates_types};
 ghost use Rattle.naga_wgsl_out.specs.Headline.{FaithfulWriting};
-ghost use Rattle.naga_wgsl_out.specs.Unwritable.{StandsIn};
+ghost use Rattle.naga_wgsl_out.specs.Unwritable.{IsFirst, StandsIn};
 ghost use Rattle.naga_wgsl_out.specs.Writing.{AppendsItsText};
 ghost use Rattle.told_floats.specs.Told.{IsToldModule};
 
@@ -57,6 +57,8 @@ pub fn write_within(
         (string_bytes w.sink)) }
     ensures refusal { IfOk result (λ w. IfSome w.refusal
         (StandsIn (annotates_types flags) «module».now info.new)) }
+    ensures first { IfOk result (λ w. IfSome w.refusal (λ refusal.
+        IsFirst (annotates_types flags) «module».now info.new refusal.place)) }
     ensures within { IfOk result (λ w. length (string_bytes w.sink) ≤ limits.text) }
     ensures unwritten { IfErr result (IsUnwritten flags limits «module».now «module».now info.old
         info.new) }
@@ -91,6 +93,8 @@ pub fn write_told_within(
         (string_bytes w.sink)) }
     ensures refusal { IfOk result (λ w. IfSome w.refusal
         (StandsIn (annotates_types flags) «module».new info.new)) }
+    ensures first { IfOk result (λ w. IfSome w.refusal (λ refusal.
+        IsFirst (annotates_types flags) «module».new info.new refusal.place)) }
     ensures within { IfOk result (λ w. length (string_bytes w.sink) ≤ limits.text) }
     ensures unwritten { IfErr result (IsUnwritten flags limits «module».old «module».new info.old
         info.new) }

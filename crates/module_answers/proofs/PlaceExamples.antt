@@ -1,0 +1,37 @@
+-- Places and refusals as they are told: lines that `docs/USING.md` has.
+use Rattle.std.proofs.Common.{◌≡◌, codes, refl, Some}
+use Rattle.std.specs.Fmt.{digits}
+use Rattle.module_answers.specs.Places.{json_place, json_refusal, json_refusal_place}
+use Rattle.naga_acceptance.specs.declared.faults.FunctionPlace.TheVariants as place
+use Rattle.naga_acceptance.specs.declared.faults.Item.TheVariants as item
+use Rattle.naga_scope.specs.declared.declarations.DeclarationPlace.TheVariants as declaration
+use Rattle.naga_scope.specs.declared.scope_faults.ScopeFault.TheVariants as scope
+use Rattle.naga_wgsl_fns.specs.declared.construct.Construct.TheVariants as construct
+use Rattle.naga_wgsl_fns.specs.declared.plans.FunctionPart.TheVariants as part
+use Rattle.naga_wgsl_out.specs.declared.unwritable.RefusalPlace.TheVariants as refused
+
+an_expression : json_place (item.Function 3 (place.Expression 41)) ≡ codes "module.functions[3].expressions[41]"
+unfolding digits
+an_expression = refl
+
+a_statement : json_place (item.EntryPoint 0 (place.Statement 3)) ≡ codes "module.entry_points[0].function, statement 3"
+unfolding digits
+a_statement = refl
+
+out_of_scope : json_refusal_place (refused.Function 0 (part.Scope (scope.Operand 12 41)))
+    ≡ codes "module.functions[0].expressions[41], operand of statement 12"
+unfolding digits
+out_of_scope = refl
+
+a_refusal : json_refusal (record { construct = construct.FloatLiteral; place = refused.Function 0 (part.Expression 3) })
+    ≡ Some (codes "float literal: module.functions[0].expressions[3]")
+unfolding digits
+a_refusal = refl
+
+a_declaration : json_refusal (record { construct = construct.Overlap; place = refused.Declaration (declaration.Struct 5) })
+    ≡ Some (codes "members overlap: module.types[5]")
+unfolding digits
+a_declaration = refl
+
+labels_of_items : json_refusal (record { construct = construct.FullNamer; place = refused.Labels }) ≡ Some (codes "namer is full: module")
+labels_of_items = refl

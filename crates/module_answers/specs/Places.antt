@@ -1,0 +1,119 @@
+-- How places in a module are told to one who holds it as JSON: by the path in the JSON that has it
+-- as the member `module`, as `module.functions[3].expressions[41]`. A statement is told by its
+-- number, after its function: `module.functions[3], statement 12`.
+--
+-- Throughout, h is a handle or an index, and n the number of a statement.
+use Rattle.std.specs.Prelude.{ℕ, List, [], ◌++◌, codes, decimal, Option, Some}
+use Rattle.std.specs.Fmt.{◌++?◌}
+use Rattle.naga_acceptance.specs.declared.faults.FunctionPlace.{FunctionPlace}
+use Rattle.naga_acceptance.specs.declared.faults.FunctionPlace.TheVariants as place
+use Rattle.naga_acceptance.specs.declared.faults.Item.{Item}
+use Rattle.naga_acceptance.specs.declared.faults.Item.TheVariants as item
+use Rattle.naga_scope.specs.declared.declarations.DeclarationPlace.{DeclarationPlace}
+use Rattle.naga_scope.specs.declared.declarations.DeclarationPlace.TheVariants as declaration
+use Rattle.naga_scope.specs.declared.scope_faults.ScopeFault.{ScopeFault}
+use Rattle.naga_scope.specs.declared.scope_faults.ScopeFault.TheVariants as scope
+use Rattle.naga_wgsl_fns.specs.Constructs.{construct_text}
+use Rattle.naga_wgsl_fns.specs.declared.plans.FunctionPart.{FunctionPart}
+use Rattle.naga_wgsl_fns.specs.declared.plans.FunctionPart.TheVariants as part
+use Rattle.naga_wgsl_out.specs.declared.unwritable.Refusal.{Refusal}
+use Rattle.naga_wgsl_out.specs.declared.unwritable.RefusalPlace.{RefusalPlace}
+use Rattle.naga_wgsl_out.specs.declared.unwritable.RefusalPlace.TheVariants as refused
+
+-- an item of a list: the list's name, and its number in brackets
+abbrev pub listed : (name : List ℕ) → (h : ℕ) → List ℕ
+listed name h = name ++ codes "[" ++ decimal h ++ codes "]"
+
+-- an expression of a function, after the function
+abbrev pub expression_text : (h : ℕ) → List ℕ
+expression_text h = listed (codes ".expressions") h
+
+-- a statement, after its function
+abbrev pub statement_text : (n : ℕ) → List ℕ
+statement_text n = codes ", statement " ++ decimal n
+
+-- functions and entry points, after the module
+abbrev pub function_text : (h : ℕ) → List ℕ
+function_text h = listed (codes ".functions") h
+
+abbrev pub entry_point_text : (h : ℕ) → List ℕ
+entry_point_text h = listed (codes ".entry_points") h
+
+-- the function of an entry point, after the module
+abbrev pub entry_function_text : (h : ℕ) → List ℕ
+entry_function_text h = entry_point_text h ++ codes ".function"
+
+-- ---- where a module is not accepted
+
+-- a part of a function, after the function; nothing of the whole
+abbrev pub part_place : FunctionPlace → List ℕ
+part_place place.Whole = []
+part_place (place.Local h) = listed (codes ".local_variables") h
+part_place (place.Expression h) = expression_text h
+part_place (place.Statement n) = statement_text n
+
+-- an item, after the module; nothing of the module itself
+abbrev pub item_in_module : Item → List ℕ
+item_in_module item.Module = []
+item_in_module (item.Type h) = listed (codes ".types") h
+item_in_module (item.Constant h) = listed (codes ".constants") h
+item_in_module (item.Override h) = listed (codes ".overrides") h
+item_in_module (item.GlobalVariable h) = listed (codes ".global_variables") h
+item_in_module (item.GlobalExpression h) = listed (codes ".global_expressions") h
+item_in_module (item.Function h at) = function_text h ++ part_place at
+item_in_module (item.EntryPoint h at) = entry_function_text h ++ part_place at
+
+-- an item
+abbrev pub json_place : Item → List ℕ
+json_place at = codes "module" ++ item_in_module at
+
+-- ---- where it is refused
+
+-- what is out of scope, after the function: the expression, and the local or the statement that
+-- uses it, or the statement that gives it
+abbrev pub scope_place : ScopeFault → List ℕ
+scope_place (scope.FirstValue local value) =
+    expression_text value ++ (codes ", first value of " ++ listed (codes "local_variables") local)
+scope_place (scope.Operand statement operand) =
+    expression_text operand ++ (codes ", operand of statement " ++ decimal statement)
+scope_place (scope.EmittedOperand statement expression operand) =
+    expression_text operand ++ (codes ", operand of "
+    ++ (listed (codes "expressions") expression ++ (codes " in statement " ++ decimal statement)))
+scope_place (scope.GivenBefore statement expression) =
+    expression_text expression ++ (codes ", given again by statement " ++ decimal statement)
+scope_place (scope.NeedsNoEmit statement expression) =
+    expression_text expression
+    ++ (codes ", which needs no Emit, in statement " ++ decimal statement)
+
+-- a part of a function, after the function
+abbrev pub refused_part : FunctionPart → List ℕ
+refused_part part.Labels = codes ".named_expressions"
+refused_part (part.Scope fault) = scope_place fault
+refused_part (part.Statement n) = statement_text n
+refused_part (part.Expression h) = expression_text h
+refused_part (part.Type_ h) = codes ", of " ++ listed (codes "module.types") h
+refused_part (part.Let h) = expression_text h ++ codes ", the type of its let"
+
+-- a declaration, after the module
+abbrev pub declaration_in_module : DeclarationPlace → List ℕ
+declaration_in_module (declaration.Struct h) = listed (codes ".types") h
+declaration_in_module (declaration.Constant h) = listed (codes ".constants") h
+declaration_in_module (declaration.Override h) = listed (codes ".overrides") h
+declaration_in_module (declaration.GlobalVariable h) = listed (codes ".global_variables") h
+declaration_in_module (declaration.Function h) = function_text h
+declaration_in_module (declaration.EntryPoint h) = entry_point_text h
+
+-- what is refused, after the module; nothing where it is the labels of items
+abbrev pub refused_in_module : RefusalPlace → List ℕ
+refused_in_module refused.Labels = []
+refused_in_module (refused.Declaration at) = declaration_in_module at
+refused_in_module (refused.Function h at) = function_text h ++ refused_part at
+refused_in_module (refused.EntryPoint h at) = entry_function_text h ++ refused_part at
+
+abbrev pub json_refusal_place : RefusalPlace → List ℕ
+json_refusal_place at = codes "module" ++ refused_in_module at
+
+-- a refusal, by its construct and its place: `float literal: module.constants[0]`. Nothing is said
+-- of a construct of whose text nothing is known
+abbrev pub json_refusal : Refusal → Option (List ℕ)
+json_refusal r = construct_text r.construct ++? Some (codes ": " ++ json_refusal_place r.place)
