@@ -55,4 +55,5 @@ def main():
         print(json.dumps(module_of(rng, index), separators=(",", ":")))
 
 
-main()
+if __name__ == "__main__":
+    main()

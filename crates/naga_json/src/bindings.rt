@@ -2,8 +2,8 @@
 
 use crate::error::ReadError;
 use crate::shape::{FromJson, Variants, expect_members, member, read_variant, unit, word};
+use json::Value;
 use naga_ir::{Binding, BuiltIn, Interpolation, ResourceBinding, Sampling};
-use serde_json::Value;
 use std::alloc::Global;
 
 /// The variants of [`BuiltIn`].

@@ -4,16 +4,17 @@ use crate::error::{Problem, ReadError, Wanted};
 use crate::let_be;
 use crate::shape::{
     FromJson, expect_members, expect_members_beside, expect_null, fill, in_item, in_member,
-    item_of, items_of, member, mistyped, word,
+    item_of, items_of, member, members_of, mistyped, word,
 };
 use indexmap::IndexMap;
+use json::Value;
 use naga_ir::{
     Constant, EntryPoint, Expression, Function, FunctionArgument, FunctionResult, GlobalVariable,
     Handle, LocalVariable, MeshStageInfo, Module, Override, Place, PredeclaredType, ShaderStage,
     SpecialTypes, Type_,
 };
-use serde_json::Value;
 use std::alloc::Global;
+use std::collections::BTreeMap;
 
 /// The words of [`ShaderStage`].
 const SHADER_STAGE_WORDS: &[(&str, ShaderStage)] = &[
@@ -163,10 +164,10 @@ impl FromJson for EntryPoint {
 
 /// Refuses a workgroup's size of which an override sets some part.
 fn expect_no_overrides(alloc: Global, value: &Value) -> Result<(), ReadError> {
-    if !value.is_array() {
+    let Value::Array(items) = value else {
         return expect_null(alloc, value);
-    }
-    match items_of(alloc, value)? {
+    };
+    match items.as_slice() {
         [x, y, z] => {
             in_item(alloc, 0, expect_null(alloc, x))?;
             in_item(alloc, 1, expect_null(alloc, y))?;
@@ -178,7 +179,7 @@ fn expect_no_overrides(alloc: Global, value: &Value) -> Result<(), ReadError> {
 
 impl FromJson for [u32; 3] {
     fn from_json(alloc: Global, value: &Value) -> Result<[u32; 3], ReadError> {
-        match items_of(alloc, value)? {
+        match items_of(alloc, value)?.as_slice() {
             [x, y, z] => Ok([
                 item_of(alloc, x, 0)?,
                 item_of(alloc, y, 1)?,
@@ -201,16 +202,15 @@ impl FromJson for IndexMap<Handle<Expression>, String> {
         alloc: Global,
         value: &Value,
     ) -> Result<IndexMap<Handle<Expression>, String>, ReadError> {
-        let Some(members) = value.as_object() else {
-            return Err(mistyped(alloc, Wanted::Object));
-        };
-        let mut named = Vec::new(alloc);
-        for (key, label) in members.iter() {
-            named.push(in_member(
-                alloc,
-                key.as_str(),
-                named_expression(alloc, key.as_str(), label),
-            )?)?;
+        // of a name that comes twice, the last value stays
+        let mut labels = BTreeMap::new(alloc);
+        for member in members_of(alloc, value)? {
+            labels.insert(member.0, &member.1)?;
+        }
+        let mut named = Vec::with_capacity(alloc, labels.len())?;
+        for (key, label) in labels.iter() {
+            let key = *key;
+            named.push(in_member(alloc, key, named_expression(alloc, key, *label))?)?;
         }
         // the members' order is that of texts: "10" stands before "2"
         named.sort_unstable_by_key(|named| named.index);
@@ -252,7 +252,12 @@ impl FromJson for IndexMap<PredeclaredType, Handle<Type_>> {
         value: &Value,
     ) -> Result<IndexMap<PredeclaredType, Handle<Type_>>, ReadError> {
         let mut read = IndexMap::new(alloc);
-        for (index, pair) in pairs_of(alloc, value)?.iter().enumerate() {
+        // a map whose keys are no texts is a list of pairs, or an object without members
+        if is_empty_object(value) {
+            return Ok(read);
+        }
+        let pairs = items_of(alloc, value)?;
+        for (index, pair) in pairs.iter().enumerate() {
             let pair = in_item(alloc, index, predeclared_pair(alloc, pair))?;
             if read.insert(pair.key, pair.ty)?.is_some() {
                 return in_item(alloc, index, Err(ReadError::at(alloc, Problem::Doubled)));
@@ -271,7 +276,7 @@ struct PredeclaredPair {
 
 /// A pair of a map: a list of two.
 fn predeclared_pair(alloc: Global, value: &Value) -> Result<PredeclaredPair, ReadError> {
-    match items_of(alloc, value)? {
+    match items_of(alloc, value)?.as_slice() {
         [key, ty] => Ok(PredeclaredPair {
             key: item_of(alloc, key, 0)?,
             ty: item_of(alloc, ty, 1)?,
@@ -280,11 +285,11 @@ fn predeclared_pair(alloc: Global, value: &Value) -> Result<PredeclaredPair, Rea
     }
 }
 
-/// The pairs of a map whose keys are no texts: a list of them, or an object without members.
-fn pairs_of(alloc: Global, value: &Value) -> Result<&[Value], ReadError> {
-    match value.as_object() {
-        Some(members) if members.is_empty() => Ok(&[]),
-        _ => items_of(alloc, value),
+/// Whether the value is an object without members.
+fn is_empty_object(value: &Value) -> bool {
+    match value {
+        Value::Object(members) => members.is_empty(),
+        _ => false,
     }
 }
 

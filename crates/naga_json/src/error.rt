@@ -1,6 +1,5 @@
 //! Why nothing was read.
 
-use serde_json::error::Category;
 use std::alloc::{AllocError, AllocFailed, Global};
 use std::error::Error;
 use std::fmt;
@@ -187,18 +186,6 @@ fn joined(alloc: Global, step: &str, place: &str) -> Result<String, AllocError> 
         format!(in alloc; "{step}{place}")
     } else {
         format!(in alloc; "{step}.{place}")
-    }
-}
-
-impl From<serde_json::Error> for ReadError {
-    fn from(error: serde_json::Error) -> ReadError {
-        match error.classify() {
-            Category::Memory => ReadError::OutOfMemory,
-            _ => ReadError::NoJson {
-                line: error.line(),
-                column: error.column(),
-            },
-        }
     }
 }
 

@@ -2,13 +2,13 @@
 
 use crate::error::{Problem, ReadError, Wanted};
 use crate::shape::{
-    FromJson, Variants, expect_members, item_of, items_of, member, mistyped, read_variant, unit,
-    word,
+    FromJson, Variants, expect_members, is_object, item_of, items_of, member, mistyped,
+    read_variant, unit, word,
 };
 use float_numerals::Decimal;
+use json::Value;
 use naga_ir::{CooperativeData, Expression, ImageQuery, Literal, SampleLevel, SwizzleComponent};
 use ryu::Buffer;
-use serde_json::Value;
 use std::alloc::Global;
 use std::num::nearest_f64_to_f32_with_nan;
 
@@ -670,7 +670,7 @@ fn told_bits<T: FromJson>(alloc: Global, value: &Value) -> Result<T, ReadError> 
 
 /// The bits of a number of eight bytes.
 fn double_bits(alloc: Global, value: &Value) -> Result<u64, ReadError> {
-    if value.is_object() {
+    if is_object(value) {
         return told_bits(alloc, value);
     }
     match value.as_f64() {
@@ -681,7 +681,7 @@ fn double_bits(alloc: Global, value: &Value) -> Result<u64, ReadError> {
 
 /// The bits of a number of four bytes.
 fn single_bits(alloc: Global, value: &Value) -> Result<u32, ReadError> {
-    if value.is_object() {
+    if is_object(value) {
         return told_bits(alloc, value);
     }
     match value.as_f64() {
@@ -724,7 +724,7 @@ fn tells(single: f32, number: f64) -> bool {
 
 /// The bits of a number of two bytes, which stand for it.
 fn half_bits(alloc: Global, value: &Value) -> Result<u16, ReadError> {
-    if value.is_object() {
+    if is_object(value) {
         told_bits(alloc, value)
     } else {
         u16::from_json(alloc, value)
@@ -733,7 +733,7 @@ fn half_bits(alloc: Global, value: &Value) -> Result<u16, ReadError> {
 
 impl FromJson for [SwizzleComponent; 4] {
     fn from_json(alloc: Global, value: &Value) -> Result<[SwizzleComponent; 4], ReadError> {
-        match items_of(alloc, value)? {
+        match items_of(alloc, value)?.as_slice() {
             [x, y, z, w] => Ok([
                 item_of(alloc, x, 0)?,
                 item_of(alloc, y, 1)?,

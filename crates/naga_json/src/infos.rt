@@ -2,9 +2,9 @@
 
 use crate::error::{ReadError, Wanted};
 use crate::shape::{FromJson, Variants, expect_known, fill, member, mistyped, read_variant};
+use json::Value;
 use naga_info::{ExpressionInfo, FunctionInfo, ModuleInfo, TypeResolution};
 use naga_ir::Place;
-use serde_json::Value;
 use std::alloc::Global;
 
 /// The variants of [`TypeResolution`].
@@ -23,12 +23,10 @@ const TYPE_RESOLUTION_NAMES: &[(&str, TypeResolutionName)] = &[
 /// A number by itself is the handle of a type.
 impl FromJson for TypeResolution {
     fn from_json(alloc: Global, value: &Value) -> Result<TypeResolution, ReadError> {
-        if value.is_number() {
-            Ok(TypeResolution::Handle(Place::from_json(alloc, value)?))
-        } else if value.is_object() {
-            read_variant(alloc, value)
-        } else {
-            Err(mistyped(alloc, Wanted::Resolution))
+        match value {
+            Value::Number(_) => Ok(TypeResolution::Handle(Place::from_json(alloc, value)?)),
+            Value::Object(_) => read_variant(alloc, value),
+            _ => Err(mistyped(alloc, Wanted::Resolution)),
         }
     }
 }
@@ -76,7 +74,7 @@ impl FromJson for ExpressionInfo {
 /// A list by itself is that of the expressions.
 impl FromJson for FunctionInfo {
     fn from_json(alloc: Global, value: &Value) -> Result<FunctionInfo, ReadError> {
-        if value.is_array() {
+        if matches!(value, Value::Array(_)) {
             return Ok(FunctionInfo {
                 expressions: FromJson::from_json(alloc, value)?,
             });

@@ -44,7 +44,9 @@ mod modules;
 mod operators;
 mod shape;
 mod statements;
+mod text;
 mod types;
 
 pub use error::{Problem, ReadError, Wanted};
 pub use modules::{Known, info_of, known_of, module_of, read_info, read_known, read_module};
+pub use text::{parse, parse_bytes};

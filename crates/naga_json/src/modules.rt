@@ -2,9 +2,10 @@
 
 use crate::error::ReadError;
 use crate::shape::{FromJson, member};
+use crate::text::parse;
+use json::{Scratch, Value};
 use naga_info::ModuleInfo;
 use naga_ir::Module;
-use serde_json::Value;
 use std::alloc::Global;
 
 /// Reads a module: `read_module(alloc, r#"{"functions": [{"name": "f"}]}"#)`. A refusal leaves
@@ -12,14 +13,16 @@ use std::alloc::Global;
 /// refused, [`ReadError::NoJson`] where the text is no JSON or nests more than 127 deep, and
 /// [`ReadError::Misfit`] where the JSON is no module, or says what the module here would lose.
 pub fn read_module(alloc: Global, text: &str) -> Result<Module, ReadError> {
-    let value = Value::from_str(alloc, text)?;
+    let mut scratch = Scratch::new(alloc);
+    let value = parse(alloc, text, &mut scratch)?;
     module_of(alloc, &value)
 }
 
 /// Reads what is known of a module: `read_info(alloc, r#"{"functions": [[0, 0]]}"#)`. It fails as
 /// [`read_module`] does. Whether it fits a module is not asked.
 pub fn read_info(alloc: Global, text: &str) -> Result<ModuleInfo, ReadError> {
-    let value = Value::from_str(alloc, text)?;
+    let mut scratch = Scratch::new(alloc);
+    let value = parse(alloc, text, &mut scratch)?;
     info_of(alloc, &value)
 }
 
@@ -35,7 +38,8 @@ pub struct Known {
 /// Reads an object with a module and what is known of it, as its members `module` and `info`. It
 /// fails as [`read_module`] does. Members beside these two are let be.
 pub fn read_known(alloc: Global, text: &str) -> Result<Known, ReadError> {
-    let value = Value::from_str(alloc, text)?;
+    let mut scratch = Scratch::new(alloc);
+    let value = parse(alloc, text, &mut scratch)?;
     known_of(alloc, &value)
 }
 

@@ -2,11 +2,11 @@
 
 use crate::error::ReadError;
 use crate::shape::{FromJson, Variants, expect_members, member, read_variant, unit, word};
+use json::Value;
 use naga_ir::{
     AtomicFunction, BinaryOperator, CollectiveOperation, DerivativeAxis, DerivativeControl,
     Direction, GatherMode, MathFunction, RelationalFunction, SubgroupOperation, UnaryOperator,
 };
-use serde_json::Value;
 use std::alloc::Global;
 
 /// The words of [`UnaryOperator`].

@@ -2,8 +2,8 @@
 //! variant is a text or the only member of an object.
 
 use crate::error::{Problem, ReadError, Wanted, told_name};
+use json::Value;
 use naga_ir::{Arena, Item, Place};
-use serde_json::Value;
 use std::alloc::Global;
 
 /// What is read from a JSON value.
@@ -67,7 +67,7 @@ pub(crate) fn member<T: FromJson>(
     value: &Value,
     name: &str,
 ) -> Result<T, ReadError> {
-    if !value.is_object() {
+    if !is_object(value) {
         return Err(mistyped(alloc, Wanted::Object));
     }
     let read = match value.get(name) {
@@ -97,7 +97,7 @@ pub(crate) fn fill<T: FromJson>(
     name: &str,
     slot: &mut T,
 ) -> Result<(), ReadError> {
-    if !value.is_object() {
+    if !is_object(value) {
         return Err(mistyped(alloc, Wanted::Object));
     }
     if let Some(found) = value.get(name) {
@@ -122,15 +122,32 @@ pub(crate) fn expect_members_beside(
     names: &[&str],
     let_be: &[&str],
 ) -> Result<(), ReadError> {
-    let Some(members) = value.as_object() else {
-        return Err(mistyped(alloc, Wanted::Object));
-    };
-    for (name, _) in members.iter() {
-        if !is_among(name.as_str(), names) && !is_among(name.as_str(), let_be) {
-            return Err(unknown_member(alloc, name.as_str()));
+    let members = members_of(alloc, value)?;
+    for member in members {
+        if !is_among(member.0, names) && !is_among(member.0, let_be) {
+            let least = least_unknown(members, names, let_be, member.0);
+            return Err(unknown_member(alloc, least));
         }
     }
     Ok(())
+}
+
+/// The least of the members' names that are neither these nor let be, of which `found` is one.
+#[cold]
+fn least_unknown<'a>(
+    members: &Vec<Member<'a>>,
+    names: &[&str],
+    let_be: &[&str],
+    found: &'a str,
+) -> &'a str {
+    let mut least = found;
+    for member in members {
+        let is_known = is_among(member.0, names) || is_among(member.0, let_be);
+        if !is_known && member.0 < least {
+            least = member.0;
+        }
+    }
+    least
 }
 
 /// Whether the name is one of these.
@@ -149,9 +166,7 @@ pub(crate) fn expect_null(alloc: Global, value: &Value) -> Result<(), ReadError>
 
 /// Refuses an object that has members, but none of these: it is another thing than was meant.
 pub(crate) fn expect_known(alloc: Global, value: &Value, names: &[&str]) -> Result<(), ReadError> {
-    let Some(members) = value.as_object() else {
-        return Err(mistyped(alloc, Wanted::Object));
-    };
+    let members = members_of(alloc, value)?;
     if members.is_empty() || names.iter().any(|name| value.get(*name).is_some()) {
         Ok(())
     } else {
@@ -159,35 +174,56 @@ pub(crate) fn expect_known(alloc: Global, value: &Value, names: &[&str]) -> Resu
     }
 }
 
+/// A member of an object: its name and its value.
+pub(crate) type Member<'a> = (&'a str, Value<'a>);
+
+/// The members of an object, in the order of the text. Of a name that comes twice, the last counts.
+pub(crate) fn members_of<'v, 'a>(
+    alloc: Global,
+    value: &'v Value<'a>,
+) -> Result<&'v Vec<Member<'a>>, ReadError> {
+    match value {
+        Value::Object(members) => Ok(members),
+        _ => Err(mistyped(alloc, Wanted::Object)),
+    }
+}
+
 /// The variant of an enum: its name, and its content where it has some.
 #[derive(Clone, Copy)]
-pub(crate) struct Variant<'a> {
+pub(crate) struct Variant<'v, 'a> {
     /// Its name.
     pub name: &'a str,
     /// Its content; where there is only a name, null.
-    pub content: &'a Value,
+    pub content: &'v Value<'a>,
 }
 
 /// The variant that a value names; where there is only a name, with null for its content.
-pub(crate) fn named_variant<'a>(value: &'a Value, null: &'a Value) -> Option<Variant<'a>> {
+pub(crate) fn named_variant<'v, 'a>(
+    value: &'v Value<'a>,
+    null: &'v Value<'a>,
+) -> Option<Variant<'v, 'a>> {
     match value {
         Value::String(name) => Some(Variant {
-            name: name.as_str(),
+            name: *name,
             content: null,
         }),
-        Value::Object(members) => {
-            let (name, content) = members.iter().next()?;
-            if members.len() == 1 {
-                Some(Variant {
-                    name: name.as_str(),
-                    content,
-                })
-            } else {
-                None
-            }
-        }
+        Value::Object(members) => only_member(members),
         _ => None,
     }
+}
+
+/// The one member of an object, as a variant. A name that comes twice is one member.
+fn only_member<'v, 'a>(members: &'v Vec<Member<'a>>) -> Option<Variant<'v, 'a>> {
+    let last = members.last()?;
+    for member in members {
+        if member.0 != last.0 {
+            return None;
+        }
+    }
+    Some(Variant {
+        name: last.0,
+        content: &last.1,
+    })
 }
 
 /// The variant of an enum, read.
@@ -266,14 +302,25 @@ const BEYOND_WHOLE_NUMBERS: f64 = 9223372036854775808.0;
 
 /// The error of a value that is no whole number of the wanted type.
 fn no_such_number(alloc: Global, value: &Value) -> ReadError {
-    if !value.is_number() {
-        return mistyped(alloc, Wanted::Number);
-    }
     match value.as_f64() {
-        Some(number) if value.is_f64() && number.abs() < BEYOND_WHOLE_NUMBERS => {
+        Some(number) if is_fraction(value) && number.abs() < BEYOND_WHOLE_NUMBERS => {
             mistyped(alloc, Wanted::WholeNumber)
         }
-        _ => ReadError::at(alloc, Problem::OutOfRange),
+        Some(_) => ReadError::at(alloc, Problem::OutOfRange),
+        None => mistyped(alloc, Wanted::Number),
+    }
+}
+
+/// Whether a number is none of the whole ones that 64 bits have.
+fn is_fraction(value: &Value) -> bool {
+    value.as_u64().is_none() && signed(value).is_none()
+}
+
+/// The whole number of 64 bits with a sign that this is. `-0` is none: it is a float.
+fn signed(value: &Value) -> Option<i64> {
+    match value.as_number() {
+        Some("-0") => None,
+        _ => value.as_i64(),
     }
 }
 
@@ -301,7 +348,7 @@ impl FromJson for u64 {
 
 impl FromJson for i64 {
     fn from_json(alloc: Global, value: &Value) -> Result<i64, ReadError> {
-        match value.as_i64() {
+        match signed(value) {
             Some(number) => Ok(number),
             None => Err(no_such_number(alloc, value)),
         }
@@ -328,7 +375,7 @@ impl FromJson for u32 {
 
 impl FromJson for i32 {
     fn from_json(alloc: Global, value: &Value) -> Result<i32, ReadError> {
-        match value.as_i64().and_then(|n| i32::try_from(n).ok()) {
+        match signed(value).and_then(|n| i32::try_from(n).ok()) {
             Some(number) => Ok(number),
             None => Err(no_such_number(alloc, value)),
         }
@@ -346,7 +393,7 @@ impl FromJson for u16 {
 
 impl FromJson for i16 {
     fn from_json(alloc: Global, value: &Value) -> Result<i16, ReadError> {
-        match value.as_i64().and_then(|n| i16::try_from(n).ok()) {
+        match signed(value).and_then(|n| i16::try_from(n).ok()) {
             Some(number) => Ok(number),
             None => Err(no_such_number(alloc, value)),
         }
@@ -395,7 +442,7 @@ impl<T: FromJson> FromJson for Option<T> {
 impl<T: FromJson> FromJson for Vec<T> {
     fn from_json(alloc: Global, value: &Value) -> Result<Vec<T>, ReadError> {
         let items = items_of(alloc, value)?;
-        let mut read = Vec::new(alloc);
+        let mut read = Vec::with_capacity(alloc, items.len())?;
         for (index, item) in items.iter().enumerate() {
             read.push(item_of(alloc, item, index)?)?;
         }
@@ -414,11 +461,19 @@ impl<T: FromJson + Item> FromJson for Arena<T> {
     }
 }
 
+/// Whether the value is an object.
+pub(crate) fn is_object(value: &Value) -> bool {
+    matches!(value, Value::Object(_))
+}
+
 /// The items of a list.
-pub(crate) fn items_of(alloc: Global, value: &Value) -> Result<&[Value], ReadError> {
-    match value.as_array() {
-        Some(items) => Ok(items),
-        None => Err(mistyped(alloc, Wanted::List)),
+pub(crate) fn items_of<'v, 'a>(
+    alloc: Global,
+    value: &'v Value<'a>,
+) -> Result<&'v Vec<Value<'a>>, ReadError> {
+    match value {
+        Value::Array(items) => Ok(items),
+        _ => Err(mistyped(alloc, Wanted::List)),
     }
 }
 

@@ -6,8 +6,8 @@ use crate::shape::{
     FromJson, Variants, expect_members, expect_members_beside, in_item, in_member, items_of,
     meaning, member, missing, mistyped, named_variant, read_variant, unit,
 };
+use json::Value;
 use naga_ir::{Block, Range, RayPipelineFunction, Statement, SwitchCase, SwitchValue};
-use serde_json::Value;
 use std::alloc::Global;
 
 /// The variants of [`SwitchValue`].
@@ -375,7 +375,7 @@ fn block(alloc: Global, value: &Value, levels: u32) -> Result<Block, ReadError> 
 #[cycle(statements)]
 fn statement(alloc: Global, value: &Value, levels: u32) -> Result<Statement, ReadError> {
     let null = Value::Null;
-    let Some(found) = named_variant(value, &null) else {
+    let Some(found) = named_variant(&*value, &null) else {
         return Err(mistyped(alloc, Wanted::Variant));
     };
     let name = meaning(alloc, found.name, STATEMENT_NAMES)?;

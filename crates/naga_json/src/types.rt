@@ -6,12 +6,12 @@ use crate::shape::{
     unit, unknown, word,
 };
 use bitflags::{Flags, parser};
+use json::Value;
 use naga_ir::{
     AddressSpace, ArraySize, Barrier, CooperativeRole, CooperativeSize, ImageClass, ImageDimension,
     MemoryDecorations, PredeclaredType, Scalar, ScalarKind, StorageAccess, StorageFormat,
     StructMember, Type_, TypeInner, UniqueArena, VectorSize,
 };
-use serde_json::Value;
 use std::alloc::Global;
 use std::num::NonZeroU32;
 

@@ -4,24 +4,25 @@ ghost use Rattle.std.specs.Prelude.{IsTrue};
 ghost use Rattle.module_meaning.specs.Accepted.{is_accepted};
 
 use bitflags::Flags;
+use json::{Scratch, Value};
 use module_answers::JsonRefusalPlace;
-use naga_json::{Known, known_of};
+use naga_json::{Known, known_of, parse};
 use naga_wgsl_out::info::{Unaccepted, count, explain, unaccepted};
 use naga_wgsl_out::wgsl::{Writer, WriterFlags, unwritable};
-use serde_json::Value;
 use std::alloc::{AllocError, Global};
 use std::io;
 use std::io::Write;
 
 /// Tells what becomes of the case in this line.
 pub fn answer_line<W: Write>(alloc: Global, line: &str, out: &mut W) -> io::Result<()> {
-    match Value::from_str(alloc, line) {
+    let mut scratch = Scratch::new(alloc);
+    match parse(alloc, line, &mut scratch) {
         Ok(case) => answer_case(alloc, &case, out),
-        Err(error) => writeln!(out, "no JSON: {error}"),
+        Err(error) => writeln!(out, "{error}"),
     }
 }
 
-fn answer_case<W: Write>(alloc: Global, case: &Value, out: &mut W) -> io::Result<()> {
+fn answer_case<W: Write>(alloc: Global, case: &Value<'_>, out: &mut W) -> io::Result<()> {
     let Some(name) = case.get("name").and_then(Value::as_str) else {
         return writeln!(out, "no name");
     };
@@ -32,7 +33,7 @@ fn answer_case<W: Write>(alloc: Global, case: &Value, out: &mut W) -> io::Result
 }
 
 /// Whether a member of the case is `true`.
-fn is_told(case: &Value, member: &str) -> bool {
+fn is_told(case: &Value<'_>, member: &str) -> bool {
     case.get(member).and_then(Value::as_bool) == Some(true)
 }
 
@@ -40,7 +41,7 @@ fn answer_known<W: Write>(
     alloc: Global,
     name: &str,
     known: &mut Known,
-    case: &Value,
+    case: &Value<'_>,
     out: &mut W,
 ) -> io::Result<()> {
     if let Some(fault) = unaccepted(&known.module, &known.info) {

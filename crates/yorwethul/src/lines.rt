@@ -3,8 +3,9 @@
 use crate::failure::Failure;
 use crate::progress::{Outcome, Progress};
 use crate::texts::{Style, write_in};
+use json::Scratch;
 use module_answers::{JsonPlace, JsonRefusalPlace, Unwritten, Written, label_at};
-use naga_json::{Known, ReadError, known_of};
+use naga_json::{Known, ReadError, known_of, parse_bytes};
 use naga_wgsl_out::info::{Unaccepted, explain};
 use naga_wgsl_out::ir::Module;
 use naga_wgsl_out::wgsl::{Error, Limits, Refusal};
@@ -62,9 +63,10 @@ type Members = Map<String, Value>;
 /// The answer to a line, and what became of its module.
 fn line_answer(alloc: Global, line: &[u8], style: Style) -> Result<(String, Outcome), AllocError> {
     let mut members = Map::new(alloc);
-    match Value::from_slice(alloc, line) {
-        Ok(mut request) => answer_request(alloc, &mut request, style, &mut members)?,
-        Err(error) => tell_unread(alloc, ReadError::from(error), &mut members)?,
+    let mut scratch = Scratch::new(alloc);
+    match parse_bytes(alloc, line, &mut scratch) {
+        Ok(request) => answer_request(alloc, &request, style, line, &mut members)?,
+        Err(error) => tell_unread(alloc, error, &mut members)?,
     }
     let outcome = outcome_in(&members);
     let text = Value::Object(members).to_string(alloc)?;
@@ -87,23 +89,52 @@ fn outcome_in(members: &Members) -> Outcome {
 /// Tells what becomes of the module that is asked for, under the id that came with it.
 fn answer_request(
     alloc: Global,
-    request: &mut Value,
+    request: &json::Value<'_>,
     style: Style,
+    line: &[u8],
     members: &mut Members,
 ) -> Result<(), AllocError> {
     match style_in(request, style) {
         Ok(style) => answer_module(alloc, request, style, members)?,
         Err(error) => tell(alloc, "error", error, members)?,
     }
-    if let Some(id) = request.get_mut("id") {
-        put(alloc, "id", id.take(), members)?;
+    if let Some(id) = request.get("id") {
+        put(alloc, "id", owned_id(alloc, id, line)?, members)?;
     }
     Ok(())
 }
 
+/// The id that came in this line, as a value that can stand in an answer.
+fn owned_id(alloc: Global, id: &json::Value<'_>, line: &[u8]) -> Result<Value, AllocError> {
+    match id {
+        json::Value::Null => Ok(Value::Null),
+        json::Value::Bool(truth) => Ok(Value::Bool(*truth)),
+        json::Value::String(text) => Value::try_from_str(alloc, text),
+        json::Value::Number(numeral) => reread(Value::from_str(alloc, numeral)),
+        json::Value::Array(_) | json::Value::Object(_) => id_in(alloc, line),
+    }
+}
+
+/// The id that comes in this line.
+fn id_in(alloc: Global, line: &[u8]) -> Result<Value, AllocError> {
+    let mut request = reread(Value::from_slice(alloc, line))?;
+    match request.get_mut("id") {
+        Some(id) => Ok(id.take()),
+        None => Ok(Value::Null),
+    }
+}
+
+/// What is read of a text that was read before, so that only memory may be wanting.
+fn reread(read: Result<Value, serde_json::Error>) -> Result<Value, AllocError> {
+    match read {
+        Ok(value) => Ok(value),
+        Err(_) => Err(AllocError),
+    }
+}
+
 /// The style that is asked for: what the request doesn't tell is as in this one. It is an error
 /// where what tells it is no truth value, or of the limits no number of 32 bits.
-fn style_in(request: &Value, style: Style) -> Result<Style, &'static str> {
+fn style_in(request: &json::Value<'_>, style: Style) -> Result<Style, &'static str> {
     let Some(explicit_types) = truth_in(request, "explicit_types", style.explicit_types) else {
         return Err("explicit_types: no truth value");
     };
@@ -119,7 +150,7 @@ fn style_in(request: &Value, style: Style) -> Result<Style, &'static str> {
 }
 
 /// The limits that are asked for.
-fn limits_in(request: &Value, limits: Limits) -> Result<Limits, &'static str> {
+fn limits_in(request: &json::Value<'_>, limits: Limits) -> Result<Limits, &'static str> {
     let Some(nesting) = number_in(request, "nesting", limits.nesting) else {
         return Err("nesting: no number of 32 bits");
     };
@@ -130,7 +161,7 @@ fn limits_in(request: &Value, limits: Limits) -> Result<Limits, &'static str> {
 }
 
 /// The number that a member has, or this one where there is no such member.
-fn number_in(request: &Value, name: &str, absent: usize) -> Option<usize> {
+fn number_in(request: &json::Value<'_>, name: &str, absent: usize) -> Option<usize> {
     match request.get(name) {
         Some(told) => match u32::try_from(told.as_u64()?) {
             Ok(number) => Some(number as usize),
@@ -141,7 +172,7 @@ fn number_in(request: &Value, name: &str, absent: usize) -> Option<usize> {
 }
 
 /// The truth value that a member has, or this one where there is no such member.
-fn truth_in(request: &Value, name: &str, absent: bool) -> Option<bool> {
+fn truth_in(request: &json::Value<'_>, name: &str, absent: bool) -> Option<bool> {
     match request.get(name) {
         Some(told) => told.as_bool(),
         None => Some(absent),
@@ -150,7 +181,7 @@ fn truth_in(request: &Value, name: &str, absent: bool) -> Option<bool> {
 
 fn answer_module(
     alloc: Global,
-    request: &Value,
+    request: &json::Value<'_>,
     style: Style,
     members: &mut Members,
 ) -> Result<(), AllocError> {
