@@ -1,5 +1,5 @@
 #!/bin/sh
-# How fast `read_known` reads the JSON of a small module, of one of four hundred functions, and of that one with all that naga
+# How fast `read_known` reads the JSON of a small module, of one of seven hundred functions, and of that one with all that naga
 # tells in an info: nanoseconds of processor time of the shortest of many calls, and megabytes a second. Run it at the top of
 # the repository; it works on a copy, with the proofs that earlier checks kept.
 set -- times/reading_times float_numerals naga_info naga_json

@@ -1,6 +1,6 @@
 """Writes to a folder modules with what is known of them, as JSON: texts.py FOLDER. They are read, and make no sense else.
 
-small.json is one of the modules of `bench/times/json_lines`, large.json has four hundred functions with each common shape of an
+small.json is one of the modules of `bench/times/json_lines`, large.json has seven hundred functions with each common shape of an
 expression and of a statement, and whole_info.json is that one with all members of an info that naga tells.
 """
 
@@ -74,7 +74,7 @@ def main():
         (folder / f"{name}.json").write_text(json.dumps(value, separators=(",", ":")))
 
     write("small", module_of(rng, 0))
-    functions, types = zip(*(function_of(rng, index) for index in range(400)))
+    functions, types = zip(*(function_of(rng, index) for index in range(700)))
     module = {"types": [I32, VECTOR], "functions": functions}
     write("large", {"module": module, "info": {"functions": types}})
     whole = {"type_flags": ["DATA", "DATA"], "functions": [function_info(each) for each in types], "entry_points": []}

@@ -1,22 +1,23 @@
 //! The listing of a case.
 
+use json::{Scratch, Value};
 use naga_ir::Place as Handle;
-use naga_json::{Known, known_of};
+use naga_json::{Known, known_of, parse};
 use naga_listing::{Listed, Place, Spot, explain};
-use serde_json::Value;
 use std::alloc::Global;
 use std::io;
 use std::io::Write;
 
 /// Prints the listing of the case in this line.
 pub fn answer_line<W: Write>(alloc: Global, line: &str, out: &mut W) -> io::Result<()> {
-    match Value::from_str(alloc, line) {
+    let mut scratch = Scratch::new(alloc);
+    match parse(alloc, line, &mut scratch) {
         Ok(case) => answer_case(alloc, &case, out),
-        Err(error) => writeln!(out, "no JSON: {error}"),
+        Err(error) => writeln!(out, "{error}"),
     }
 }
 
-fn answer_case<W: Write>(alloc: Global, case: &Value, out: &mut W) -> io::Result<()> {
+fn answer_case<W: Write>(alloc: Global, case: &Value<'_>, out: &mut W) -> io::Result<()> {
     let name = text_in(case, "name").unwrap_or("");
     match known_of(alloc, case) {
         Ok(known) => answer_known(alloc, name, &known, place_in(case), out),
@@ -35,7 +36,7 @@ fn answer_known<W: Write>(
     write!(out, "== {name}\n{listing}")
 }
 
-fn place_in(case: &Value) -> Place {
+fn place_in(case: &Value<'_>) -> Place {
     Place {
         listed: listed_in(case),
         spot: spot_of(text_in(case, "spot"), number_in(case, "index")),
@@ -46,7 +47,7 @@ fn place_in(case: &Value) -> Place {
     }
 }
 
-fn listed_in(case: &Value) -> Listed {
+fn listed_in(case: &Value<'_>) -> Listed {
     let number = number_in(case, "number");
     match text_in(case, "listed") {
         Some("function") => Listed::Function(Handle::from_index(number)),
@@ -69,12 +70,12 @@ fn spot_of(kind: Option<&str>, index: usize) -> Spot {
     }
 }
 
-fn text_in<'a>(case: &'a Value, member: &str) -> Option<&'a str> {
+fn text_in<'a>(case: &Value<'a>, member: &str) -> Option<&'a str> {
     case.get(member).and_then(Value::as_str)
 }
 
 /// The number that a member has, and 0 where there is no such member.
-fn number_in(case: &Value, member: &str) -> usize {
+fn number_in(case: &Value<'_>, member: &str) -> usize {
     match case.get(member).and_then(Value::as_u64) {
         Some(number) => usize::try_from(number).unwrap_or(0),
         None => 0,
