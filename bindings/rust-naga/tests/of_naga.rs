@@ -170,7 +170,7 @@ fn a_refusal_tells_the_construct_and_its_place() {
     let place = "module.functions[0].expressions[0]";
     assert_eq!(error.place(), Some(place));
     assert_eq!(error.to_string(), format!("refused: float literal: {place}"));
-    let text = "fn half() -> f32 {\n    return 0.5f;\n}\n\n";
+    let text = "fn half(x: f32) -> f32 {\n    return 0.5f;\n}\n\n";
     let told = write(&module, &known(&module), Flags::TELL_FLOATS);
     assert_eq!(told.as_deref(), Ok(text));
     fn is_an_error<E: std::error::Error + Send + Sync + 'static>(_: &E) {}
