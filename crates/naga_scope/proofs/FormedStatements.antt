@@ -1,5 +1,5 @@
 -- The first statement without a form is there where not all have one.
-use Rattle.std.proofs.Common.{◌≡◌, ◌⊎◌, inl, inr, ℕ, zero, suc, ◌<◌, ◌^◌, Bool, true, false, List, [], ◌∷◌}
+use Rattle.std.proofs.Common.{◌≡◌, ◌⊎◌, inl, inr, ℕ, zero, suc, ◌+◌, ◌*◌, ◌%◌, ◌<◌, ◌^◌, Bool, true, false, List, [], ◌∷◌}
 use Rattle.std.proofs.Common.{Option, Some, None, ◌&&◌, ◌||◌, refl, sym, subst, ap, ◌∙◌, arith, slice_get}
 use Rattle.std.proofs.lemmas.Nat.{mod-mul-add}
 use Rattle.std.specs.Prelude.{IsTrue, IsFalse, not}
@@ -98,16 +98,22 @@ first_is (x ∷ sts) (suc i) st it at before is =
 
 case_falls : (cs : CaseTrees) (it : FormlessStatement) → formless_case cs ≡ Some it → SomeCaseFalls cs it
 case_falls no_cases it is = absurd cc
-case_falls (case v b falls cs) it is = by (falls_formless falls (has_no_statements b)) is
+case_falls (case v b falls cs) it is = by (falls_formless falls (has_no_statements b)) is (case_falls cs it)
   where
-    by : (o : Option FormlessStatement) → option_or o (formless_case cs) ≡ Some it → (o ≡ Some it) ⊎ SomeCaseFalls cs it
-    by None is = inr (case_falls cs it is)
-    by (Some x) is = inl is
+    by : (o : Option FormlessStatement) → option_or o (formless_case cs) ≡ Some it → (formless_case cs ≡ Some it → SomeCaseFalls cs it) →
+        (o ≡ Some it) ⊎ SomeCaseFalls cs it
+    by None is further = inr (further is)
+    by (Some x) is further = inl is
 
 lacks_form : (st : StatementTree) (it : FormlessStatement) → own_formless st ≡ Some it → LacksForm st it
 lacks_form (simple st) it is = is
 lacks_form (switch s cs) it is = case_falls cs it is
 lacks_form _ it is = absurd cc
+
+small_number : (n : ℕ) → n < 2 ^ 64 → n ≡ n % 2 ^ 64
+small_number n lt =
+    let whole : 0 * 2 ^ 64 + n ≡ n = omega arith in
+    sym (ap (λ k. k % 2 ^ 64) (sym whole) ∙ mod-mul-add 0 (2 ^ 64) n lt)
 
 module _ (sts : List StatementTree) (b : BlockTree) (trees : sts ≡ trees_in b) where
   pub none_found : FindsFormless sts None → formless_statement b ≡ None
@@ -123,4 +129,4 @@ module _ (sts : List StatementTree) (b : BlockTree) (trees : sts ≡ trees_in b)
     pub found_lacks : n < 2 ^ 64 → IsFormlessAt b n it
     found_lacks small =
         (found.0, found.1, subst (λ ts. slice_get ts found.0 ≡ Some found.1) trees found.2,
-        found.3 ∙ sym (mod-mul-add 0 (2 ^ 64) found.0 (subst (λ k. k < 2 ^ 64) found.3 small)), lacks_form found.1 it found.5)
+        found.3 ∙ small_number found.0 (subst (λ k. k < 2 ^ 64) found.3 small), lacks_form found.1 it found.5)

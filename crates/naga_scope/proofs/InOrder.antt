@@ -82,7 +82,7 @@ module _ {A : Type 0} (m : Monoid A) (each : List StatementTree → A) (own told
         joined (trees_in b) (case_trees cs) ∙ (λ i. m.op (gathered b i) (in_cases cs i)) ∙ sym (g.case_is v b falls cs)
 
 -- ---- lists
-lists : {X : Type 0} → Monoid (List X)
+abbrev lists : {X : Type 0} → Monoid (List X)
 lists {X} = record { unit = []; op = λ xs ys. xs ++ ys; left = λ xs. refl; right = append-nil; assoc = append_assoc }
 
 pub labels_in_order : (f : Function) (b : BlockTree) → flat_map (own_labels f) (trees_in b) ≡ block_labels f b
@@ -120,18 +120,21 @@ lets_in_order binds = gathered lists (flat_map (own_lets binds)) (own_lets binds
 })
 
 -- ---- numbers
-sums : Monoid ℕ
-sums = record { unit = 0; op = λ x y. x + y; left = λ x. refl; right = λ x. omega arith; assoc = λ x y z. omega arith }
+none_more : (x : ℕ) → 0 + x ≡ x
+none_more x = omega arith
+
+abbrev sums : Monoid ℕ
+sums = record { unit = 0; op = λ x y. x + y; left = none_more; right = λ x. omega arith; assoc = λ x y z. omega arith }
 
 pub changes_in_order : (b : BlockTree) → sum_by own_changes (trees_in b) ≡ block_changes b
 changes_in_order = gathered sums (sum_by own_changes) own_changes statement_changes block_changes cases_changes (record {
   none = refl;
   next = sum_by-cons own_changes;
   simple_is = λ st. refl;
-  block_is = λ b. refl;
-  branch_is = λ c x y. refl;
-  switch_is = λ s cs. refl;
-  loop_is = λ x y e. refl;
+  block_is = λ b. sym (none_more (block_changes b));
+  branch_is = λ c x y. sym (none_more (block_changes x + block_changes y));
+  switch_is = λ s cs. sym (none_more (cases_changes cs));
+  loop_is = λ x y e. sym (none_more (block_changes x + block_changes y));
   no_statements_is = refl;
   statement_is = λ st b. refl;
   no_cases_is = refl;
@@ -158,18 +161,18 @@ last_first false true false = refl
 last_first false false true = refl
 last_first false false false = refl
 
-some_of : Monoid Bool
+abbrev some_of : Monoid Bool
 some_of = record { unit = false; op = λ x y. x || y; left = λ x. refl; right = or_right; assoc = or_assoc }
 
-and_right : (a : Bool) → (a && true) ≡ a
+pub and_right : (a : Bool) → (a && true) ≡ a
 and_right true = refl
 and_right false = refl
 
-and_assoc : (a b c : Bool) → ((a && b) && c) ≡ (a && (b && c))
+pub and_assoc : (a b c : Bool) → ((a && b) && c) ≡ (a && (b && c))
 and_assoc true b c = refl
 and_assoc false b c = refl
 
-pub all_of : Monoid Bool
+abbrev pub all_of : Monoid Bool
 all_of = record { unit = true; op = λ x y. x && y; left = λ x. refl; right = and_right; assoc = and_assoc }
 
 module _ (binds : ℕ → Bool) (h : ℕ) where
@@ -209,3 +212,13 @@ module _ (binds : ℕ → Bool) (h : ℕ) where
 pub first_tree : (ss : List (Bor Statement)) (i : ℕ) (x : Bor Statement) → i < length ss → x ≡ slice_index_or ss i x →
     trees_of (drop i ss) ≡ tree_of x.now ∷ trees_of (drop (i + 1) ss)
 first_tree ss i x lt is = ap trees_of (drop_first i ss x lt ∙ ap (λ y. y ∷ drop (i + 1) ss) (sym is))
+
+-- what one of them is seen as
+pub tree_at : (ss : List (Bor Statement)) (i n : ℕ) (x : Bor Statement) → n ≡ i → i < length ss → x ≡ slice_index_or ss i x →
+    slice_get (trees_of ss) n ≡ Some (tree_of x.now)
+tree_at ss i n x same lt is = ap (slice_get (trees_of ss)) same ∙ at ss i lt is
+  where
+    at : (ss : List (Bor Statement)) (i : ℕ) → i < length ss → x ≡ slice_index_or ss i x → slice_get (trees_of ss) i ≡ Some (tree_of x.now)
+    at [] i lt is = absurd (omega (arith, lt))
+    at (s ∷ ss) zero lt is = ap (λ y. Some (tree_of y.now)) (sym is)
+    at (s ∷ ss) (suc i) lt is = at ss i (omega (arith, lt)) is

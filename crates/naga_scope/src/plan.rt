@@ -178,21 +178,24 @@ impl Plan {
         ensures begun { OnErr result
             (HasBegunLabels namer.old (expression_labels known.now.function.now) namer.new) }
     {
-        let statements = statements_in(alloc, &known.function.body)?;
-        let named = expression_names(alloc, known.function, &statements, namer)?;
-        let changes = count_changes(&statements).ok_or(AllocError)?;
+        let found = statements_in(alloc, &known.function.body)?;
+        let statements = found.as_slice();
+        let named = expression_names(alloc, known.function, statements, namer)?;
+        let Some(changes) = count_changes(statements) else {
+            return Err(PlanError::Memory(AllocError));
+        };
         let mut scope = Scope::start(alloc, known.function, changes)?;
         check_function(&mut scope, known)?;
-        if let Some((number, formless)) = formless_statement(&statements) {
+        if let Some((number, formless)) = formless_statement(statements) {
             return Err(PlanError::StatementWithoutForm(number, formless));
         }
-        if let Some(handle) = written_without_form(alloc, known, &statements, names)? {
+        if let Some(handle) = written_without_form(alloc, known, statements, names)? {
             return Err(PlanError::WithoutForm(handle));
         }
         if let Some(ty) = declared_without_form(known.shader, known.tables, known.function) {
             return Err(PlanError::TypeWithoutForm(ty));
         }
-        if let Some(handle) = annotated_without_form(known, &statements, explicit) {
+        if let Some(handle) = annotated_without_form(known, statements, explicit) {
             return Err(PlanError::LetWithoutForm(handle));
         }
         scope.restart(known.function);
