@@ -1,7 +1,8 @@
 -- The first statement without a form is there where not all have one.
 use Rattle.std.proofs.Common.{◌≡◌, ◌⊎◌, inl, inr, ℕ, zero, suc, ◌+◌, ◌*◌, ◌%◌, ◌<◌, ◌^◌, Bool, true, false, List, [], ◌∷◌}
-use Rattle.std.proofs.Common.{Option, Some, None, ◌&&◌, ◌||◌, refl, sym, subst, ap, ◌∙◌, arith, slice_get}
+use Rattle.std.proofs.Common.{Option, Some, None, ◌&&◌, ◌||◌, refl, sym, subst, ap, ◌∙◌, arith, length, slice_get}
 use Rattle.std.proofs.lemmas.Nat.{mod-mul-add}
+use Rattle.std.proofs.lemmas.Option.{slice_get_within}
 use Rattle.std.specs.Prelude.{IsTrue, IsFalse, not}
 use Rattle.std.specs.Option.{is_none, is_some, option_or}
 use Rattle.module_meaning.specs.OperatorTable.{collective_word, texel_change_word}
@@ -126,7 +127,8 @@ module _ (sts : List StatementTree) (b : BlockTree) (trees : sts ≡ trees_in b)
     pub found_before : FormedBefore (trees_in b) n
     found_before = subst (λ ts. FormedBefore ts n) trees (subst (FormedBefore sts) (sym found.3) found.4)
 
-    pub found_lacks : n < 2 ^ 64 → IsFormlessAt b n it
+    pub found_lacks : length sts < 2 ^ 64 → IsFormlessAt b n it
     found_lacks small =
+        let within = slice_get_within sts found.0 found.1 found.2 in
         (found.0, found.1, subst (λ ts. slice_get ts found.0 ≡ Some found.1) trees found.2,
-        found.3 ∙ small_number found.0 (subst (λ k. k < 2 ^ 64) found.3 small), lacks_form found.1 it found.5)
+        found.3 ∙ small_number found.0 (omega (arith, within, small)), lacks_form found.1 it found.5)

@@ -3,6 +3,7 @@
 use Rattle.std.proofs.Common.{◌≡◌, ℕ, ◌+◌, ◌<◌, Bool, true, false, ◌&&◌, ◌||◌, List, [], ◌∷◌, ◌++◌}
 use Rattle.std.proofs.Common.{Option, refl, sym, ap, ◌∙◌, arith, append-nil, append_assoc, drop, length}
 use Rattle.std.proofs.Common.{Some, slice_get, slice_index_or, suc, zero}
+use Rattle.std.proofs.Math.Bool.{and-true, and_assoc, or-false, or_assoc, or_comm}
 use Rattle.std.proofs.lemmas.List.Folds.{list_any-append}
 use Rattle.std.proofs.lemmas.List.Sums.{sum_by-cons}
 use Rattle.std.specs.Borrow.{Bor}
@@ -142,38 +143,11 @@ changes_in_order = gathered sums (sum_by own_changes) own_changes statement_chan
 })
 
 -- ---- truth values
-or_right : (a : Bool) → (a || false) ≡ a
-or_right true = refl
-or_right false = refl
-
-or_assoc : (a b c : Bool) → ((a || b) || c) ≡ (a || (b || c))
-or_assoc true b c = refl
-or_assoc false b c = refl
-
--- the last of three first
-last_first : (a b c : Bool) → (a || (b || c)) ≡ (c || (a || b))
-last_first true true true = refl
-last_first true true false = refl
-last_first true false true = refl
-last_first true false false = refl
-last_first false true true = refl
-last_first false true false = refl
-last_first false false true = refl
-last_first false false false = refl
-
 abbrev some_of : Monoid Bool
-some_of = record { unit = false; op = λ x y. x || y; left = λ x. refl; right = or_right; assoc = or_assoc }
-
-pub and_right : (a : Bool) → (a && true) ≡ a
-and_right true = refl
-and_right false = refl
-
-pub and_assoc : (a b c : Bool) → ((a && b) && c) ≡ (a && (b && c))
-and_assoc true b c = refl
-and_assoc false b c = refl
+some_of = record { unit = false; op = λ x y. x || y; left = λ x. refl; right = or-false; assoc = or_assoc }
 
 abbrev pub all_of : Monoid Bool
-all_of = record { unit = true; op = λ x y. x && y; left = λ x. refl; right = and_right; assoc = and_assoc }
+all_of = record { unit = true; op = λ x y. x && y; left = λ x. refl; right = and-true; assoc = and_assoc }
 
 module _ (binds : ℕ → Bool) (h : ℕ) where
   either : (xs ys : List ℕ) → is_one_of (xs ++ ys) h ≡ (is_one_of xs h || is_one_of ys h)
@@ -192,7 +166,8 @@ module _ (binds : ℕ → Bool) (h : ℕ) where
     switch_is = λ s cs. either (s ∷ []) (cases_roots binds cs);
     loop_is = λ x y e. either (block_roots binds x) (block_roots binds y ++ option_to_list e)
         ∙ ap (λ a. is_one_of (block_roots binds x) h || a) (either (block_roots binds y) (option_to_list e))
-        ∙ last_first (is_one_of (block_roots binds x) h) (is_one_of (block_roots binds y) h) (is_one_of (option_to_list e) h);
+        ∙ sym (or_assoc (is_one_of (block_roots binds x) h) (is_one_of (block_roots binds y) h) (is_one_of (option_to_list e) h))
+        ∙ or_comm (is_one_of (block_roots binds x) h || is_one_of (block_roots binds y) h) (is_one_of (option_to_list e) h);
     no_statements_is = refl;
     statement_is = λ st b. either (statement_roots binds st) (block_roots binds b);
     no_cases_is = refl;
