@@ -62,18 +62,18 @@ cases_formed (case v b falls cs) =
 block_formed : (b : BlockTree) → is_none (formless_statement b) ≡ block_has_forms b
 block_formed =
     gathered all_of (λ sts. is_none (first_formless sts)) (λ st. is_none (own_formless st)) statement_has_form block_has_forms bodies_have_forms (record {
-  none = refl;
-  next = λ st sts. both_none (own_formless st) (first_formless sts);
-  simple_is = simple_formed;
-  block_is = λ b. refl;
-  branch_is = λ c x y. refl;
-  switch_is = λ s cs. cases_formed cs;
-  loop_is = λ x y e. refl;
-  no_statements_is = refl;
-  statement_is = λ st b. refl;
-  no_cases_is = refl;
-  case_is = λ v b falls cs. refl;
-})
+      none = refl;
+      next = λ st sts. both_none (own_formless st) (first_formless sts);
+      simple_is = simple_formed;
+      block_is = λ b. refl;
+      branch_is = λ c x y. refl;
+      switch_is = λ s cs. cases_formed cs;
+      loop_is = λ x y e. refl;
+      no_statements_is = refl;
+      statement_is = λ st b. refl;
+      no_cases_is = refl;
+      case_is = λ v b falls cs. refl;
+    })
 
 -- where there is none, each statement has a form, and where there is one, not each has
 pub none_formless : (b : BlockTree) → formless_statement b ≡ None → IsTrue (block_has_forms b)
@@ -129,6 +129,10 @@ module _ (sts : List StatementTree) (b : BlockTree) (trees : sts ≡ trees_in b)
 
     pub found_lacks : length sts < 2 ^ 64 → IsFormlessAt b n it
     found_lacks small =
-        let within = slice_get_within sts found.0 found.1 found.2 in
-        (found.0, found.1, subst (λ ts. slice_get ts found.0 ≡ Some found.1) trees found.2,
-        found.3 ∙ small_number found.0 (omega (arith, within, small)), lacks_form found.1 it found.5)
+        let within = slice_get_within sts found.0 found.1 found.2 in (
+          found.0,
+          found.1,
+          subst (λ ts. slice_get ts found.0 ≡ Some found.1) trees found.2,
+          found.3 ∙ small_number found.0 (omega (arith, within, small)),
+          lacks_form found.1 it found.5,
+        )

@@ -157,22 +157,22 @@ module _ (binds : ℕ → Bool) (h : ℕ) where
   roots_in_order = gathered some_of (λ sts. is_one_of (flat_map (own_roots binds) sts) h)
       (λ st. is_one_of (own_roots binds st) h) (λ st. is_one_of (statement_roots binds st) h)
       (λ b. is_one_of (block_roots binds b) h) (λ cs. is_one_of (cases_roots binds cs) h) (record {
-    none = refl;
-    next = λ st sts. either (own_roots binds st) (flat_map (own_roots binds) sts);
-    simple_is = λ st. refl;
-    block_is = λ b. refl;
-    branch_is = λ c x y. either (c ∷ []) (block_roots binds x ++ block_roots binds y)
-        ∙ ap (λ a. is_one_of (c ∷ []) h || a) (either (block_roots binds x) (block_roots binds y));
-    switch_is = λ s cs. either (s ∷ []) (cases_roots binds cs);
-    loop_is = λ x y e. either (block_roots binds x) (block_roots binds y ++ option_to_list e)
-        ∙ ap (λ a. is_one_of (block_roots binds x) h || a) (either (block_roots binds y) (option_to_list e))
-        ∙ sym (or_assoc (is_one_of (block_roots binds x) h) (is_one_of (block_roots binds y) h) (is_one_of (option_to_list e) h))
-        ∙ or_comm (is_one_of (block_roots binds x) h || is_one_of (block_roots binds y) h) (is_one_of (option_to_list e) h);
-    no_statements_is = refl;
-    statement_is = λ st b. either (statement_roots binds st) (block_roots binds b);
-    no_cases_is = refl;
-    case_is = λ v b falls cs. either (block_roots binds b) (cases_roots binds cs);
-  })
+        none = refl;
+        next = λ st sts. either (own_roots binds st) (flat_map (own_roots binds) sts);
+        simple_is = λ st. refl;
+        block_is = λ b. refl;
+        branch_is = λ c x y. either (c ∷ []) (block_roots binds x ++ block_roots binds y)
+            ∙ ap (λ a. is_one_of (c ∷ []) h || a) (either (block_roots binds x) (block_roots binds y));
+        switch_is = λ s cs. either (s ∷ []) (cases_roots binds cs);
+        loop_is = λ x y e. either (block_roots binds x) (block_roots binds y ++ option_to_list e)
+            ∙ ap (λ a. is_one_of (block_roots binds x) h || a) (either (block_roots binds y) (option_to_list e))
+            ∙ sym (or_assoc (is_one_of (block_roots binds x) h) (is_one_of (block_roots binds y) h) (is_one_of (option_to_list e) h))
+            ∙ or_comm (is_one_of (block_roots binds x) h || is_one_of (block_roots binds y) h) (is_one_of (option_to_list e) h);
+        no_statements_is = refl;
+        statement_is = λ st b. either (statement_roots binds st) (block_roots binds b);
+        no_cases_is = refl;
+        case_is = λ v b falls cs. either (block_roots binds b) (cases_roots binds cs);
+      })
 
   -- the handles that a function writes by itself
   pub same_roots : (f : Function) → is_one_of (roots_with binds f (trees_in f.body)) h ≡ is_one_of (function_roots binds f) h

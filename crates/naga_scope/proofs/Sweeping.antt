@@ -208,6 +208,8 @@ module _ (es : List Expression) where
       (found : Option ℕ) → Sweeps formed es roots found → Sweeps formed es other found
   sweeps_by formed roots other same None each =
       λ h e at written. each h e at (written_by other roots (λ h. sym (same h)) h written)
-  sweeps_by formed roots other same (Some h) swept =
-      (written_by roots other same h swept.0, swept.1,
-      λ x e lt at written. swept.2 x e lt at (written_by other roots (λ h. sym (same h)) x written))
+  sweeps_by formed roots other same (Some h) swept = (
+    written_by roots other same h swept.0,
+    swept.1,
+    λ x e lt at written. swept.2 x e lt at (written_by other roots (λ h. sym (same h)) x written),
+  )

@@ -15,8 +15,8 @@ use crate::known_function::KnownFunction;
 use crate::tables::ModuleTables;
 use naga_info::FunctionInfo;
 use naga_ir::{
-    Expression, Function, FunctionArgument, FunctionResult, Handle, Module, Place, Range, Statement,
-    Type_,
+    Expression, Function, FunctionArgument, FunctionResult, Handle, Module, Place, Range,
+    Statement, Type_,
 };
 
 fn argument_without_form(

@@ -294,7 +294,5 @@ pub(crate) fn written_without_form(
     let mut constants = no_marks(alloc, known.function.expressions.len())?;
     mark_constants(&mut constants, known.function);
     let mut marks = no_marks(alloc, known.function.expressions.len())?;
-    Ok(without_form(
-        &mut marks, &constants, known, statements, names,
-    ))
+    Ok(without_form(&mut marks, &constants, known, statements, names))
 }

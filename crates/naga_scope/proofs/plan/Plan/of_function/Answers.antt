@@ -60,7 +60,7 @@ module _ (k : KnownFunction) (sts : List StatementTree) (trees : sts ≡ trees_i
   swept_all found other is swept =
       let roots = function_roots (bound_in k) k.function.now in
       let same : (h : ℕ) → is_one_of (roots_with (bound_in k) k.function.now sts) h ≡ is_one_of roots h = λ h.
-          ap (λ ts. is_one_of (roots_with (bound_in k) k.function.now ts) h) trees ∙ same_roots (bound_in k) h k.function.now in
+      ap (λ ts. is_one_of (roots_with (bound_in k) k.function.now ts) h) trees ∙ same_roots (bound_in k) h k.function.now in
       subst (Sweeps (has_form_in k) (expressions_of k) roots) is
       (sweeps_by (expressions_of k) (has_form_in k) (roots_with (bound_in k) k.function.now sts) roots same found swept)
 
