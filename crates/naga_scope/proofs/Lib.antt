@@ -5,6 +5,7 @@ pub mod Emitting
 pub mod ExpressionNames
 pub mod FormedStatements
 pub mod Holding
+pub mod InOrder
 pub mod Listed
 pub mod Logs
 pub mod Marking
