@@ -92,17 +92,7 @@ module _ (m : Module) (info : ModuleInfo) (accepted : IsTrue (is_accepted m info
   applied : (g : Group) (e : Expression) (o : Operator) → applied_operator (group_context m info g) e ≡ Some o → asks o ≡ false → Call g e (Spelled (run_word o))
   applied g (expression.Compose ty parts) o a silent = Composed ty _ _ (λ f. refl) refl refl (λ has. has) (ap (λ o. Spelled (run_word o)) (sym (same_Some _ o a)))
   applied g (expression.As operand kind convert) o a silent = Applied o _ a refl tt operand [] refl refl
-  applied g (expression.Splat size value) o a silent = Applied o _ a refl tt value [] refl refl
   applied g (expression.AccessIndex base index) o a silent = Applied o _ a refl tt base [] refl refl
-  applied g (expression.Unary op operand) o a silent = Applied o _ a refl tt operand [] refl refl
-  applied g (expression.Binary op left right) o a silent = Applied o _ a refl tt left (right ∷ []) refl refl
-  applied g (expression.Select condition accept reject) o a silent = Applied o _ a refl tt reject (accept ∷ condition ∷ []) refl refl
-  applied g (expression.Relational fun argument) o a silent = Applied o _ a refl tt argument [] refl refl
-  applied g (expression.Math fun arg arg1 arg2 arg3) o a silent = Applied o _ a refl tt arg _ refl refl
-  applied g (expression.ArrayLength array) o a silent = Applied o _ a refl tt array [] refl refl
-  applied g (expression.CooperativeMultiplyAdd p q r) o a silent = Applied o _ a refl tt p (q ∷ r ∷ []) refl refl
-  applied g (expression.RayQueryGetIntersection query committed) o a silent = Applied o _ a refl tt query [] refl refl
-  applied g (expression.RayQueryVertexPositions query committed) o a silent = Applied o _ a refl tt query [] refl refl
   applied g (expression.Load pointer) o a silent = by (is_atomic_pointer (group_context m info g) pointer) a
     where
       by : (b : Bool) → (if b then Some AtomicLoad else None) ≡ Some o → Call g (expression.Load pointer) (Spelled (run_word o))
@@ -110,12 +100,13 @@ module _ (m : Module) (info : ModuleInfo) (accepted : IsTrue (is_accepted m info
       by false a = absurd cc
   applied g (expression.ImageSample image sampler gather coordinate array_index offset level depth_ref clamp) o a silent =
       absurd (asking o _ a (samples_ask _ gather _ _ _ _ _) silent)
-  applied g (expression.ImageLoad image coordinate array_index sample level) o a silent = absurd (asking o _ a refl silent)
   applied g (expression.ImageQuery image q) o a silent = absurd (asking o (query_operator q) a (queries_ask q) silent)
-  applied g (expression.Derivative axis control operand) o a silent = absurd (asking o _ a refl silent)
   applied g (expression.CooperativeLoad columns rows role place) o a silent =
       absurd (asking o (matrix_load (group_context m info g) columns rows role place) a (loads_ask columns rows role place.row_major _) silent)
-  applied g _ o a silent = absurd cc
+  -- any other has a key and operands, or applies none that does not ask
+  applied g e o a silent =
+      Applied o (unwrap_or (operator_key m.types g.known e) []) a (cc) tt
+      (get_or (expression_operands e) 0 0) (drop 1 (expression_operands e)) (cc) refl
 
   zeroed : (g : Group) (e : Expression) (ty : ℕ) → e ≡ expression.ZeroValue ty → Call g e (Spelled (run_word (constructor (group_context m info g) (Handle ty) 0)))
   zeroed g e ty is = Zeroed ty (λ f. ap (wanted_type m f g.known) is) (ap expression_operands is) refl
