@@ -8,7 +8,7 @@
 -- f a function (fs are several), r a type, h a handle, g a group of expressions that stand
 -- together, m a module and info what is known of it, or of its functions.
 use Rattle.std.specs.Prelude.{ℕ, suc, Bool, false, List, [], ◌∷◌, ◌++◌, map, Option}
-use Rattle.std.specs.Prelude.{Some, None, if◌then◌else◌, slice_get, nat_lt}
+use Rattle.std.specs.Prelude.{Some, None, if◌then◌else◌, slice_get, nat_lt, not, ◌&&◌}
 use Rattle.std.specs.List.{flat_map, enumerate_from}
 use Rattle.std.specs.Option.{option_and_then, option_map, option_map_or, option_to_list}
 use denote.Enum.Declared.{tag_of}
@@ -35,16 +35,17 @@ use Rattle.module_meaning.specs.AlikeTypes.{type_identity, is_spelled}
 use Rattle.module_meaning.specs.Operations.{Operation, all_agree}
 use Rattle.module_meaning.specs.Conversions.{conversion_target, keeps_bits}
 use Rattle.module_meaning.specs.ExpressionOperators.{own_operator}
-use Rattle.module_meaning.specs.OperatorTable.{Operator, ArrayLength, BinarySign, Math, RayCorners}
-use Rattle.module_meaning.specs.OperatorTable.{CooperativeMultiplyAdd, RayIntersection, Relational}
-use Rattle.module_meaning.specs.OperatorTable.{Select, Splat, UnarySign}
+use Rattle.module_meaning.specs.OperatorTable.{Operator, BinarySign, Math, RayCorners}
+use Rattle.module_meaning.specs.OperatorTable.{RayIntersection, Relational, UnarySign, asks}
+use Rattle.module_meaning.specs.OperatorTable.{is_untyped, operator_word}
 use Rattle.module_meaning.specs.TypeIdentity.{kind_number, level, truth_number, vector_number}
 use Rattle.module_meaning.specs.TypeParts.{known_inner}
 
 -- What tells an operator, as numbers: those that WGSL spells alike over as many operands are told
 -- by the same numbers. The word of a constructor is its type, and so is that of a conversion, with
--- whether this keeps bits; all others have a kind and up to five numbers. What WGSL has no form for
--- is an operator by itself, told by its fields.
+-- whether this keeps bits. What is called by a word of its own is told by that, and all others by a
+-- kind and up to five numbers. What WGSL has no form for is an operator by itself, told by its
+-- fields.
 abbrev pub typed_key : List Type_ → (bits : Bool) → TypeResolution → List ℕ
 typed_key types bits r = 0 ∷ truth_number bits ∷ type_identity types r
 
@@ -53,6 +54,9 @@ word_key kind first second third fourth fifth = 1 ∷ level kind first second th
 
 abbrev pub one_key : (kind first : ℕ) → List ℕ
 one_key kind first = word_key kind first 0 0 0 0
+
+abbrev pub called_key : (word : List ℕ) → List ℕ
+called_key word = 2 ∷ word
 
 abbrev pub constructor_key : List Type_ → (ty : ℕ) → List ℕ
 constructor_key types ty =
@@ -95,19 +99,17 @@ swizzle_key size pattern =
     word_key 5 (vector_number size) (letter_number size pattern 0) (letter_number size pattern 1)
     (letter_number size pattern 2) (letter_number size pattern 3)
 
--- what tells an operator that takes no type; one that asks for an event has nothing
+-- What tells an operator that takes no type. Signs, and those of whose kind some have no word, have
+-- numbers; any other that asks for no event is told by its word.
 abbrev pub own_key : Operator → Option (List ℕ)
-own_key (Splat size) = Some (one_key 2 (vector_number size))
 own_key (UnarySign op) = Some (one_key 6 (tag_of unary_operators op))
 own_key (BinarySign op) = Some (one_key 7 (tag_of binary_operators op))
-own_key Select = Some (one_key 8 0)
 own_key (Relational fun) = Some (one_key 9 (tag_of relations fun))
 own_key (Math fun) = Some (one_key 10 (tag_of math_functions fun))
-own_key ArrayLength = Some (one_key 11 0)
-own_key CooperativeMultiplyAdd = Some (one_key 12 0)
 own_key (RayIntersection committed) = Some (one_key 13 (truth_number committed))
 own_key (RayCorners committed) = Some (one_key 14 (truth_number committed))
-own_key _ = None
+own_key op =
+    if is_untyped op && not (asks op) then option_map called_key (operator_word op) else None
 
 -- what tells the operator of an expression, and a part or components as one; leaves, results and
 -- what asks for an event have nothing

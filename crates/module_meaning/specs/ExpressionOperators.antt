@@ -37,6 +37,7 @@ use Rattle.module_meaning.specs.OperatorTable.{Convert, Reinterpret, WithoutForm
 use Rattle.module_meaning.specs.OperatorTable.{ValueOf, MatrixLoad, Level, Automatic, Zero, Exact}
 use Rattle.module_meaning.specs.OperatorTable.{Biased, Graded, TexelOf, OnlyTexel, SampleTexel}
 use Rattle.module_meaning.specs.OperatorTable.{LevelTexel, BothTexel, Levels, Layers, Samples}
+use Rattle.module_meaning.specs.OperatorTable.{operator_word}
 use Rattle.module_meaning.specs.TypeParts.{points_to_atomic}
 
 -- the context of an expression
@@ -188,6 +189,13 @@ own_operator (expression.RayQueryGetIntersection query committed) = Some (RayInt
 own_operator (expression.RayQueryVertexPositions query committed) = Some (RayCorners committed)
 own_operator (expression.CooperativeMultiplyAdd x y z) = Some CooperativeMultiplyAdd
 own_operator _ = None
+
+-- the word by which the operator is called that an expression applies by itself, if it applies one
+-- that has a word and no sign
+abbrev pub called_word : Expression → Option (List ℕ)
+called_word (expression.Unary op expr) = None
+called_word (expression.Binary op left right) = None
+called_word e = option_and_then operator_word (own_operator e)
 
 -- the operator that an expression applies, by its context or by itself
 abbrev pub applied_operator : ExpressionContext → Expression → Option Operator

@@ -1,13 +1,27 @@
 -- What tells operators, by the code's short forms.
-use Rattle.std.specs.Prelude.{ℕ, List, ◌∷◌}
+use Rattle.std.specs.Prelude.{ℕ, Bool, true, false, List, ◌∷◌, Option, None, if◌then◌else◌}
+use Rattle.naga_ir.specs.Kinds.{kind_of}
+use Rattle.naga_ir.specs.declared.expression.Expression.{Expression}
+use Rattle.naga_ir.specs.declared.kind.ExpressionKind.{ExpressionKind}
+use Rattle.naga_ir.specs.declared.kind.ExpressionKind.TheVariants.{Pure}
 use Rattle.naga_ir.specs.declared.types.Type_.{Type_}
 use Rattle.naga_acceptance.specs.KnownTypes.{inferred}
 use Rattle.naga_acceptance.specs.Views.{numbers}
 use Rattle.naga_acceptance.specs.declared.operator_keys.Key.{Key}
-use Rattle.naga_acceptance.specs.declared.operator_keys.Key.TheVariants.{Typed, Word}
-use Rattle.module_meaning.specs.AgreeingOperators.{typed_key}
+use Rattle.naga_acceptance.specs.declared.operator_keys.Key.TheVariants.{Called, Typed, Word}
+use Rattle.module_meaning.specs.AgreeingOperators.{called_key, typed_key}
+use Rattle.module_meaning.specs.ExpressionOperators.{called_word}
 
 -- an operator, among a module's types
 abbrev pub key : List Type_ → Key → List ℕ
 key types (Typed bits ty) = typed_key types bits (inferred ty)
 key types (Word word) = 1 ∷ numbers word
+key types (Called word) = called_key word.now
+
+abbrev pub is_pure : ExpressionKind → Bool
+is_pure Pure = true
+is_pure _ = false
+
+-- the word of the operator that an expression applies by itself, if it has one and asks for no event
+abbrev pub told_by_word : Expression → Option (List ℕ)
+told_by_word e = if is_pure (kind_of e) then called_word e else None

@@ -4,7 +4,7 @@ ghost use Rattle.std.specs.Prelude.{◌≡◌, ◌<◌, List, Some};
 ghost use Rattle.std.specs.Option.{option_copied, option_map};
 ghost use Rattle.std.specs.Str.{bytes_eq};
 ghost use Rattle.naga_acceptance.specs.KnownTypes.{inferred, known_types};
-ghost use Rattle.naga_acceptance.specs.OperatorKeys.{key};
+ghost use Rattle.naga_acceptance.specs.OperatorKeys.{is_pure, key, told_by_word};
 ghost use Rattle.naga_ir.specs.declared.types.Type_ as ir_type;
 ghost use Rattle.naga_ir.specs.declared.types.TypeInner as ir_inner;
 ghost use Rattle.naga_info.specs.declared.info.TypeResolution.TheVariants.{Value};
@@ -17,10 +17,11 @@ ghost use Rattle.module_meaning.specs.Conversions.{conversion_target, keeps_bits
 use crate::alike::{are_alike, inferred_identity, inferred_is_spelled};
 use crate::parts::{InferredType, Known, known_inner, vector_number};
 use crate::type_numbers::{Level, is_same_level, kind_number, level_of, truth_number};
+use module_meaning::called_str;
 use module_meaning::type_parts::converted_scalar;
 use naga_ir::{
-    Expression, Handle, Scalar, ScalarKind, SwizzleComponent, Type_, TypeInner, UniqueArena,
-    VectorSize,
+    Expression, ExpressionKind, Handle, Scalar, ScalarKind, SwizzleComponent, Type_, TypeInner,
+    UniqueArena, VectorSize,
 };
 
 /// What tells an operator.
@@ -35,6 +36,8 @@ pub(crate) enum Key {
     },
     /// A kind, and up to five numbers.
     Word(Level),
+    /// The word by which it is called.
+    Called(&'static str),
 }
 
 fn typed_key(bits: bool, ty: InferredType) -> Key
@@ -179,6 +182,23 @@ fn swizzle_key(size: VectorSize, pattern: &[SwizzleComponent; 4]) -> Key
     ))
 }
 
+fn is_pure(kind: ExpressionKind) -> bool
+    ensures { result ≡ is_pure kind }
+{
+    matches!(kind, ExpressionKind::Pure)
+}
+
+/// The word of the operator that an expression applies by itself, if it has one and asks for no event.
+fn told_by_word(expression: &Expression) -> Option<&'static str>
+    ensures { option_map (λ w. w.now) result ≡ told_by_word expression.now }
+{
+    if is_pure(expression.kind()) {
+        called_str(expression)
+    } else {
+        None
+    }
+}
+
 /// What tells the operator of an expression; leaves, results and what asks for an event have none.
 pub(crate) fn operator_key(
     types: &UniqueArena<Type_>,
@@ -195,24 +215,20 @@ pub(crate) fn operator_key(
             kind,
             convert,
         } => conversion_key(types, *kind, *convert, known_inner(types, known, *expr)),
-        Expression::Splat { size, .. } => one_key(2, vector_number(*size)),
         Expression::Access { .. } => one_key(3, 0),
         Expression::AccessIndex { index, .. } => one_key(4, *index as usize),
         Expression::Swizzle { size, pattern, .. } => swizzle_key(*size, pattern),
         Expression::Unary { op, .. } => one_key(6, *op as usize),
         Expression::Binary { op, .. } => one_key(7, *op as usize),
-        Expression::Select { .. } => one_key(8, 0),
         Expression::Relational { fun, .. } => one_key(9, *fun as usize),
         Expression::Math { fun, .. } => one_key(10, *fun as usize),
-        Expression::ArrayLength(_) => one_key(11, 0),
-        Expression::CooperativeMultiplyAdd { .. } => one_key(12, 0),
         Expression::RayQueryGetIntersection { committed, .. } => {
             one_key(13, truth_number(*committed))
         }
         Expression::RayQueryVertexPositions { committed, .. } => {
             one_key(14, truth_number(*committed))
         }
-        _ => return None,
+        _ => Key::Called(told_by_word(expression)?),
     })
 }
 
@@ -230,6 +246,7 @@ pub(crate) fn is_same_key(types: &UniqueArena<Type_>, a: &Key, b: &Key) -> bool
                 )
         }
         (Key::Word(x), Key::Word(y)) => is_same_level(x, y),
+        (Key::Called(x), Key::Called(y)) => *x == *y,
         _ => false,
     }
 }

@@ -23,6 +23,17 @@ pub(crate) fn level_mixed(hash: usize, level: &Level) -> usize
     mixed(mixed(mixed(hash, level.third), level.fourth), level.fifth)
 }
 
+/// The bytes of a word.
+pub(crate) fn word_mixed(hash: usize, word: &str) -> usize
+    ensures { result ≡ all_mixed hash word.now }
+{
+    let mut hash = hash;
+    for byte in word.as_bytes() {
+        hash = mixed(hash, *byte as usize);
+    }
+    hash
+}
+
 /// The numbers of what a type is over, which has a form.
 fn over_mixed(types: &UniqueArena<Type_>, hash: usize, over: Over) -> usize
     requires { is_some (over_key types.now over) ≡ true }

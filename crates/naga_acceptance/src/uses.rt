@@ -13,7 +13,7 @@ ghost use Rattle.module_meaning.specs.Operations.{are_same_words};
 use crate::alike::{are_known_alike, identity_of, inferred_identity};
 use crate::operator_keys::{Key, is_same_key, operator_key};
 use crate::parts::{Known, known_type};
-use crate::type_hash::{identity_mixed, level_mixed, mixed};
+use crate::type_hash::{identity_mixed, level_mixed, mixed, word_mixed};
 use crate::type_numbers::truth_number;
 use naga_ir::{Expression, Handle, Type_, UniqueArena};
 
@@ -114,6 +114,7 @@ fn key_mixed(types: &UniqueArena<Type_>, hash: usize, operator: &Key) -> usize
             inferred_identity(types, ty),
         ),
         Key::Word(word) => level_mixed(mixed(hash, 1), word),
+        Key::Called(word) => word_mixed(mixed(hash, 2), *word),
     }
 }
 

@@ -19,8 +19,8 @@ ghost use Rattle.naga_scope.specs.Tables.{AreTablesOf};
 ghost use Rattle.wgsl_text.specs.Words.{stands_in};
 ghost use Rattle.wgsl_words.specs.Words.{scalar_word};
 
-use crate::called::called_str;
 use crate::tables::ModuleTables;
+use module_meaning::called_str;
 use module_meaning::type_parts::{converted_scalar, known_has_parts};
 use naga_info::{FunctionInfo, TypeResolution};
 use naga_ir::{

@@ -4,7 +4,6 @@
 #![tactic(auto)]
 
 pub mod binding;
-mod called;
 mod changes;
 pub mod check;
 pub mod continues;
@@ -23,7 +22,6 @@ pub mod tables;
 mod written;
 
 pub use binding::binds;
-pub use called::{called_str, derivative_str, image_query_str};
 pub use continues::split_at_continue;
 pub use declarations::{
     DeclarationPlace, FormlessDeclaration, FormlessHead, formless_declaration, formless_head,

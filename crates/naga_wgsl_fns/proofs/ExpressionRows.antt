@@ -18,7 +18,7 @@ use Rattle.naga_ir.specs.Operands.{level_operands}
 use Rattle.naga_ir.specs.Operands.{expression_operands, query_operands}
 use Rattle.naga_ir.specs.declared.expression.ImageQuery.{ImageQuery}
 use Rattle.naga_ir.specs.declared.expression.ImageQuery.TheVariants as image_query
-use Rattle.naga_scope.specs.Forms.{called_word}
+use Rattle.module_meaning.specs.ExpressionOperators.{called_word}
 use Rattle.naga_ir.specs.declared.expression.Expression as ir
 use Rattle.naga_ir.specs.declared.expression.Expression.TheVariants as expression
 use Rattle.naga_ir.specs.declared.operators.BinaryOperator as ir_operator

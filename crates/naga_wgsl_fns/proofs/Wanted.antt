@@ -94,7 +94,7 @@ use Rattle.wgsl_text.specs.Types.{Named, TypeSpecifier}
 use Rattle.naga_wgsl_fns.specs.declared.functions.FunctionText.{FunctionText}
 use Rattle.naga_wgsl_fns.specs.FunctionText.{CanWrite, IsInText, IsLet, context, naming}
 use Rattle.naga_back.specs.Flags.{annotates_types}
-use Rattle.naga_scope.specs.Forms.{called_word}
+use Rattle.module_meaning.specs.ExpressionOperators.{called_word}
 use Rattle.naga_wgsl_fns.specs.FunctionText.{callees, number}
 use Rattle.module_meaning.specs.Written.{IsWrittenIn, OfArgument, OfLet, OfLocal, OfResult}
 use Rattle.naga_form.proofs.WrittenHandles.{all_front, all_rest, written_are_closed}

@@ -15,9 +15,10 @@ ghost use Rattle.wgsl_words.specs.Words.{unary_text};
 
 use crate::functions::FunctionText;
 use crate::literal::write_literal;
+use module_meaning::called_str;
 use naga_back::binary_operation_str;
 use naga_ir::{BinaryOperator, Expression, Handle, LocalVariable, Type_, UnaryOperator};
-use naga_scope::{Availability, Scope, called_str};
+use naga_scope::{Availability, Scope};
 use naga_words::{Output, TextSink};
 
 impl FunctionText<'_> {

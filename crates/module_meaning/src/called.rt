@@ -2,9 +2,8 @@
 
 ghost use Rattle.std.specs.Prelude.{◌≡◌};
 ghost use Rattle.std.specs.Option.{option_map};
-ghost use Rattle.module_meaning.specs.ExpressionOperators.{query_operator};
+ghost use Rattle.module_meaning.specs.ExpressionOperators.{called_word, query_operator};
 ghost use Rattle.module_meaning.specs.OperatorTable.{Derivative, relational_word, run_word};
-ghost use Rattle.naga_scope.specs.Forms.{called_word};
 
 use naga_ir::{DerivativeAxis, DerivativeControl, Expression, ImageQuery, RelationalFunction};
 use naga_words::words::vector_str;
@@ -48,7 +47,7 @@ fn relational_function_str(fun: RelationalFunction) -> Option<&'static str>
 }
 
 /// The word of a derivative.
-pub fn derivative_str(axis: DerivativeAxis, control: DerivativeControl) -> &'static str
+fn derivative_str(axis: DerivativeAxis, control: DerivativeControl) -> &'static str
     ensures { result.now ≡ run_word (Derivative axis control) }
 {
     match (axis, control) {
@@ -65,7 +64,7 @@ pub fn derivative_str(axis: DerivativeAxis, control: DerivativeControl) -> &'sta
 }
 
 /// What asks an image for its size or for one of its counts.
-pub fn image_query_str(query: ImageQuery) -> &'static str
+fn image_query_str(query: ImageQuery) -> &'static str
     ensures { result.now ≡ run_word (query_operator query) }
 {
     match query {
