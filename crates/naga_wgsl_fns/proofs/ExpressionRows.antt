@@ -5,7 +5,7 @@ use Rattle.naga_wgsl_fns.proofs.Wanted.{IsNoOther, expression_formed}
 use Rattle.std.proofs.Common.{◌≡◌, ℕ, zero, suc, ◌<◌, Bool, true, false, List, [], ◌∷◌, length, Option, Some}
 use Rattle.std.proofs.Common.{None, codes, refl, sym, ap, ◌∙◌, arith, get_or}
 use Rattle.std.specs.Prelude.{IsTrue, slice_get, if◌then◌else◌, unwrap_or}
-use Rattle.std.specs.Option.{is_some, option_map_or, option_to_list}
+use Rattle.std.specs.Option.{is_some, option_and_then, option_map, option_map_or, option_to_list}
 use Rattle.std.specs.List.{AllByRecursion}
 use Rattle.std.specs.Prelude.{◌||◌}
 use Rattle.std.proofs.Common.{map}
@@ -18,7 +18,6 @@ use Rattle.naga_ir.specs.Operands.{level_operands}
 use Rattle.naga_ir.specs.Operands.{expression_operands, query_operands}
 use Rattle.naga_ir.specs.declared.expression.ImageQuery.{ImageQuery}
 use Rattle.naga_ir.specs.declared.expression.ImageQuery.TheVariants as image_query
-use Rattle.module_meaning.specs.ExpressionOperators.{called_word}
 use Rattle.naga_ir.specs.declared.expression.Expression as ir
 use Rattle.naga_ir.specs.declared.expression.Expression.TheVariants as expression
 use Rattle.naga_ir.specs.declared.operators.BinaryOperator as ir_operator
@@ -32,8 +31,8 @@ use Rattle.naga_form.proofs.Operators.{unary_row}
 use Rattle.module_meaning.specs.Names.{module_names, numbered_name}
 use Rattle.naga_form.proofs.SameValues.{or_nothing}
 use Rattle.naga_names.specs.declared.key.NameKey.TheVariants as key
-use Rattle.module_meaning.specs.ExpressionOperators.{applied_operator, constructor}
-use Rattle.module_meaning.specs.ExpressionOperators.{load_operator, query_operator, texel_of}
+use Rattle.module_meaning.specs.ExpressionOperators.{applied_operator, called_word, constructor}
+use Rattle.module_meaning.specs.ExpressionOperators.{load_operator, own_operator, query_operator}
 use Rattle.module_meaning.specs.AlikeTypes.{is_spelled}
 use Rattle.naga_info.specs.declared.info.TypeResolution.TheVariants.{Handle}
 use Rattle.naga_form.proofs.WrittenTypes.{tree_there}
@@ -46,9 +45,7 @@ use Rattle.naga_wgsl_fns.specs.Expressions.{made_text, made_type}
 use Rattle.naga_wgsl_fns.specs.FunctionText.{named_in}
 use Rattle.naga_wgsl_fns.specs.FunctionText.{type_names_of}
 use Rattle.module_meaning.specs.ExpressionOperators.{is_atomic_pointer}
-use Rattle.module_meaning.specs.OperatorTable.{ArrayLength, AtomicLoad, CooperativeMultiplyAdd}
-use Rattle.module_meaning.specs.OperatorTable.{Derivative, Math, Operator, Relational, Select, Splat}
-use Rattle.module_meaning.specs.OperatorTable.{Texel, operator_word, own_word, run_word}
+use Rattle.module_meaning.specs.OperatorTable.{AtomicLoad, Operator, operator_word, own_word, run_word}
 use Rattle.module_meaning.specs.OperatorTable.{WithoutForm, zero_is_written}
 use Rattle.naga_form.specs.Operators.{Called, Infix, Notation, Prefix, applied_form, notation}
 use Rattle.naga_form.specs.Operators.{operator_form}
@@ -584,42 +581,29 @@ pub operands_start : (f : FunctionText) (table : List Availability) (handle : �
 unfolding operands_text
 operands_start f table handle = refl
 
--- an operator that is called by its word
-by_its_word : (f : FunctionText) (table : List Availability) (hs : List ℕ) (op : Operator)
-    {word : List ℕ} → notation None op ≡ Called (NamedType (run_word op)) →
-    operator_word op ≡ Some word →
-    applied_text f table (notation None op) hs ≡ applied_text f table (Called (NamedType word)) hs
-by_its_word f table hs op called is =
-    ap (λ (n : Notation). applied_text f table n hs)
-    (called ∙ ap (λ (w : Option (List ℕ)). Called (NamedType (unwrap_or w (own_word op)))) is)
+-- what is applied, if it is called by its word
+by_its_word : (f : FunctionText) (table : List Availability) (hs : List ℕ) (o : Option Operator)
+    {word : List ℕ} →
+    option_map (notation None) o ≡ option_map (λ op. Called (NamedType (run_word op))) o →
+    option_and_then operator_word o ≡ Some word →
+    application_at f table None hs o ≡ applied_text f table (Called (NamedType word)) hs
+by_its_word f table hs None called is = absurd cc
+by_its_word f table hs (Some op) called is =
+    ap (λ n. option_map_or (λ (n : Notation). applied_text f table n hs) n []) called
+    ∙ ap (λ w. applied_text f table (Called (NamedType (unwrap_or w (own_word op)))) hs) is
 
--- and the expression that applies it by itself
+-- and an expression that applies it by itself; any other is called by no word
 called_at : (f : FunctionText) (table : List Availability) (handle : ℕ) (e : ir.Expression)
     {word : List ℕ} → called_word e ≡ Some word →
     own_at f table handle (Some e) ≡
     applied_text f table (Called (NamedType word)) (expression_operands e)
-called_at f table handle (expression.Select condition accept reject) is =
-    by_its_word f table (expression_operands (expression.Select condition accept reject)) Select refl is
-called_at f table handle (expression.Splat size value) is =
-    by_its_word f table (value ∷ []) (Splat size) refl is
-called_at f table handle (expression.Math fun arg arg1 arg2 arg3) is =
-    by_its_word f table (expression_operands (expression.Math fun arg arg1 arg2 arg3)) (Math fun) refl is
-called_at f table handle (expression.Relational fun argument) is =
-    by_its_word f table (argument ∷ []) (Relational fun) refl is
-called_at f table handle (expression.Derivative axis control expr) is =
-    by_its_word f table (expr ∷ []) (Derivative axis control) refl is
-called_at f table handle (expression.ImageLoad image coordinate array_index sample level) is =
-    by_its_word f table
-    (expression_operands (expression.ImageLoad image coordinate array_index sample level))
-    (Texel (is_some array_index) (texel_of (is_some sample) (is_some level))) refl is
+called_at f table handle (expression.Unary op operand) is = absurd cc
+called_at f table handle (expression.Binary op left right) is = absurd cc
 called_at f table handle (expression.ImageQuery image query) is =
-    by_its_word f table (image ∷ query_operands query) (query_operator query)
-    (query_is_called query None) is
-called_at f table handle (expression.ArrayLength array) is =
-    by_its_word f table (array ∷ []) ArrayLength refl is
-called_at f table handle (expression.CooperativeMultiplyAdd a b c) is =
-    by_its_word f table (a ∷ b ∷ c ∷ []) CooperativeMultiplyAdd refl is
-called_at f table handle _ is = absurd cc
+    by_its_word f table (image ∷ query_operands query) (Some (query_operator query))
+    (ap Some (query_is_called query None)) is
+called_at f table handle e is =
+    cc (by_its_word f table (expression_operands e) (own_operator e) refl is)
 
 -- what is made of a word that is called with the expression's operands
 pub own_called : (f : FunctionText) (table : List Availability) {handle : ℕ} {e : ir.Expression}
@@ -640,9 +624,6 @@ address_row f local = address_row_text (Name (name_of_local f local)) ∙ ap (λ
 pub pointed_row : (f : FunctionText) (table : List Availability) (handle : ℕ) → pointed_text f table handle ≡ joined_texts (codes "(*") (joined_texts (value_text f table handle) (codes ")"))
 unfolding pointed_text value_text joined_texts
 pointed_row f table handle = dereference_text (value_form (naming f) (source f) (handles_in f table) handle)
-
-has_word_not : {word : Option (List ℕ)} → word ≡ None → is_some word ≡ true → ⊥
-has_word_not {word} none has = let no : false ≡ true = ap is_some (sym none) ∙ has in cc
 
 query_has_word : (q : ImageQuery) → is_some (operator_word (query_operator q)) ≡ true
 query_has_word (image_query.Size None) = refl
@@ -671,27 +652,14 @@ no_value_row f table handle can within e here none =
     by (expression.Load p) is none = absurd (none.load p refl)
     by (expression.Unary op x) is none = absurd (none.unary op x refl)
     by (expression.Binary op l r) is none = absurd (none.binary op l r refl)
-    by (expression.Select c a r) is none = absurd (has_word_not none.called refl)
-    by (expression.Splat size x) is none = absurd (has_word_not none.called refl)
     by (expression.Swizzle size x pattern) is none = absurd (none.swizzle size x pattern refl)
     by (expression.As x kind convert) is none = absurd (none.converted x kind convert refl)
-    by (expression.Derivative axis how x) is none = absurd (has_word_not none.called refl)
-    by (expression.Math fun x y z w) is none = absurd (has_word_not none.called is)
-    by (expression.Relational fun x) is none = absurd (has_word_not none.called is)
     by
         (expression.ImageSample
         image sampler gather coordinate array_index offset level depth_ref clamp) is none =
         absurd (none.sampled image sampler gather coordinate array_index offset level depth_ref clamp refl)
-    by (expression.ImageLoad image coordinate array_index sample level) is none =
-        absurd (has_word_not none.called is)
-    by (expression.ImageQuery image query) is none = absurd (has_word_not none.called (query_has_word query))
-    by (expression.ArrayLength array) is none = absurd (has_word_not none.called refl)
     by (expression.CooperativeLoad columns rows role place) is none =
         absurd (none.matrix_load columns rows role place refl)
-    by (expression.CooperativeMultiplyAdd x y z) is none = absurd (has_word_not none.called refl)
-    by (expression.CallResult function) is none = refl
-    by (expression.AtomicResult ty comparison) is none = refl
-    by (expression.WorkGroupUniformLoadResult ty) is none = refl
-    by expression.SubgroupBallotResult is none = refl
-    by (expression.SubgroupOperationResult ty) is none = refl
-    by _ is none = absurd cc
+    by (expression.ImageQuery image query) is none =
+        let called = none.called in let has = query_has_word query in cc
+    by e is none = let called = none.called in let has : _ ≡ true = is in cc
