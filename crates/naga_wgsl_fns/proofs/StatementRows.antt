@@ -2,46 +2,41 @@
 use Rattle.module_meaning.specs.Written.{statement_roots}
 use Rattle.naga_scope.specs.Changes.{statement_changes}
 use Rattle.naga_ir.specs.StatementTree.{call}
-use Rattle.std.proofs.Common.{Vec, Global}
-use Rattle.naga_ir.specs.declared.statement.SwitchCase.{SwitchCase}
 use Rattle.naga_ir.specs.declared.flags.Barrier.{Barrier}
-use Rattle.naga_ir.specs.StatementTree.{SimpleStatement, control_barrier, memory_barrier}
-use Rattle.module_meaning.specs.StatementShapes.{act_operator, asked, simple_shape, store_shape}
-use Rattle.module_meaning.specs.OperatorTable.{Operator}
+use Rattle.naga_ir.specs.StatementTree.{SimpleStatement}
+use Rattle.module_meaning.specs.StatementShapes.{simple_shape, store_shape}
 use Rattle.wgsl_text.specs.Expressions.{NoArguments}
 use Rattle.shader_runs.specs.Scope.{after, after_result, named_by}
-use Rattle.naga_ir.specs.Operands.{own_operands, own_result, simple_operands, simple_result}
+use Rattle.naga_ir.specs.Operands.{own_operands, own_result}
 use Rattle.module_meaning.specs.ExpressionOperators.{ExpressionContext, is_atomic_pointer}
 use Rattle.std.proofs.Common.{◌≡◌, ℕ, ◌+◌, ◌-◌, ◌<◌, ◌≤◌, ◌*◌, zero, suc, Bool, true, false, List}
 use Rattle.std.proofs.Common.{[], ◌∷◌, ◌++◌, Option, None, Some, length, refl, sym, ap, ◌∙◌, arith}
-use Rattle.std.proofs.Common.{add-one, codes, replicate, drop, drop-cons, slice_index_or, subst}
-use Rattle.std.proofs.Common.{append_assoc, length-append, IsTrue}
-use Rattle.std.specs.Prelude.{cond, nat_le, nat_lt}
-use Rattle.std.proofs.lemmas.Bool.{and_parts, leb-true, ltb-true}
+use Rattle.std.proofs.Common.{add-one, codes, replicate, drop, drop-cons, slice_index_or}
+use Rattle.std.proofs.Common.{append_assoc, IsTrue}
+use Rattle.std.specs.Prelude.{cond, nat_le}
+use Rattle.std.proofs.lemmas.Bool.{and_parts, leb-true}
 use Rattle.std.proofs.lemmas.List.{append-nil, drop_all}
 use Rattle.naga_ir.specs.StatementTree.{BlockTree, StatementTree, emit, return, simple, statement}
-use Rattle.naga_ir.specs.StatementTree.{store, break, continue, kill, block, branch, switch, loop, no_statements}
-use Rattle.std.specs.Option.{is_some, option_map, option_to_list}
+use Rattle.naga_ir.specs.StatementTree.{store, block, branch, switch, loop, no_statements}
+use Rattle.std.specs.Option.{option_map, option_to_list}
 use Rattle.naga_ir.specs.StatementViews.{tree_of, block_of}
-use Rattle.naga_ir.specs.declared.statement.Range.{Range}
 use Rattle.naga_ir.specs.declared.statement.Statement.{Statement}
 use Rattle.naga_back.specs.Indentation.{indentation}
 use Rattle.naga_scope.proofs.Listed.{first_of}
 use Rattle.module_meaning.specs.Ranges.{named_in_range, statement_in_range}
-use Rattle.module_meaning.specs.StatementShapes.{barrier_bits}
 use Rattle.shader_runs.specs.Program as shapes
 use Rattle.shader_runs.specs.Program.{binds, from}
 use Rattle.shader_runs.specs.Form.{word_of}
 use Rattle.shader_runs.specs.ProgramRun.{barrier_words}
-use Rattle.shader_runs.specs.Scope.{Handles, Naming, after_emit, after_one}
+use Rattle.shader_runs.specs.Scope.{Handles, after_emit, after_one}
 use Rattle.shader_runs.specs.Scope.{bound_name, named_after, named_after_all}
 use Rattle.module_meaning.specs.FunctionShapes.{statement_shape}
 use Rattle.wgsl_text.specs.Types.{TypeSpecifier, Named as NamedType}
 use Rattle.wgsl_text.specs.Expressions.{Expression, expression_pieces, operands}
-use Rattle.naga_form.specs.Expressions.{Source, as_value, as_reference, plain_form, value_form, value_forms}
+use Rattle.naga_form.specs.Expressions.{as_value, as_reference, plain_form, value_form, value_forms}
 use Rattle.naga_form.specs.Expressions.{unnamed_form}
-use Rattle.wgsl_text.specs.Statements.{Statements, NoStatements, Then, statement_pieces}
-use Rattle.wgsl_text.specs.Statements.{statements_pieces, CallStatement}
+use Rattle.wgsl_text.specs.Statements.{Statements, NoStatements, Then}
+use Rattle.wgsl_text.specs.Statements.{CallStatement}
 use Rattle.naga_form.specs.Statements.{act_line, barrier_lines, cases_form, let_form, then_if, lets_form, jump_form, loop_form}
 use Rattle.naga_form.specs.Statements.{line_form, lines_form, optional_form, shape_form}
 use Rattle.wgsl_text.proofs.Statements.{let_text as let_row_text, typed_let_text, assign_text}
@@ -57,7 +52,7 @@ use Rattle.naga_wgsl_fns.specs.FunctionText.{context, handles_in, let_annotation
 use Rattle.naga_wgsl_fns.specs.FunctionText.{naming, source}
 use Rattle.naga_wgsl_fns.specs.Names.{next_name_text}
 use Rattle.naga_wgsl_fns.specs.Expressions.{own_text, reference_text, value_text}
-use Rattle.naga_wgsl_fns.specs.Statements.{after_statement, after_statements, around_text, assignment_text, block_text}
+use Rattle.naga_wgsl_fns.specs.Statements.{after_statement, around_text, assignment_text, block_text}
 use Rattle.naga_wgsl_fns.specs.Statements.{emitted_text, let_line, let_text, lets_text, left_to_continuing}
 use Rattle.naga_wgsl_fns.specs.Statements.{line_start, line_text, lines_text, named_behind, named_behind_statement}
 use Rattle.naga_wgsl_fns.specs.Statements.{act_text, act_word, is_act, statement_text, word_in}
@@ -130,21 +125,28 @@ let_row f k table i handle = by (let_annotation f handle)
         ∙ sym (line_starts i (codes "let ") (name ++ ((codes ": " ++ type_layout t) ++ (codes " = " ++ (text (expression_pieces own) ++ codes ";\n")))))
 
 -- ---- statements of one line
-pub break_row : (f : FunctionText) (k : ℕ) (s : Handles) (i : ℕ) → statement_text f k s i (simple break) ≡ line_start i (codes "break;\n")
-unfolding statement_text
-break_row f k s i = line_is i (codes "break;\n")
+-- a jump that returns no value is written by its words alone
+abbrev is_worded : shapes.Statement → Bool
+is_worded (shapes.Jumps (shapes.Return (Some value))) = false
+is_worded (shapes.Jumps j) = true
+is_worded _ = false
 
-pub continue_row : (f : FunctionText) (k : ℕ) (s : Handles) (i : ℕ) → statement_text f k s i (simple continue) ≡ line_start i (codes "continue;\n")
-unfolding statement_text
-continue_row f k s i = line_is i (codes "continue;\n")
+abbrev jump_words : FunctionText → Handles → shapes.Statement → List ℕ
+jump_words f s (shapes.Jumps j) = line_text 0 (jump_form (naming f) (source f) s j)
+jump_words f s _ = []
 
-pub kill_row : (f : FunctionText) (k : ℕ) (s : Handles) (i : ℕ) → statement_text f k s i (simple kill) ≡ line_start i (codes "discard;\n")
+pub jump_row : (f : FunctionText) (k : ℕ) (s : Handles) (i : ℕ) (st : SimpleStatement)
+    → is_worded (simple_shape (context f) st) ≡ true
+    → statement_text f k s i (simple st) ≡ line_start i (jump_words f s (simple_shape (context f) st))
 unfolding statement_text
-kill_row f k s i = line_is i (codes "discard;\n")
-
-pub return_row : (f : FunctionText) (k : ℕ) (s : Handles) (i : ℕ) → statement_text f k s i (simple (return None)) ≡ line_start i (codes "return;\n")
-unfolding statement_text
-return_row f k s i = line_is i (codes "return;\n")
+jump_row f k s i st worded = by (simple_shape (context f) st) worded
+  where
+    by : (shape : shapes.Statement) → is_worded shape ≡ true →
+        lines_text i (shape_form (naming f) (let_annotation f) (source f) k shape s NoStatements)
+        ≡ line_start i (jump_words f s shape)
+    by (shapes.Jumps (shapes.Return (Some value))) worded = absurd cc
+    by (shapes.Jumps j) worded = line_is i (line_text 0 (jump_form (naming f) (source f) s j))
+    by _ worded = absurd cc
 
 pub return_value_row : (f : FunctionText) (k : ℕ) (s : Handles) (i value : ℕ)
     → statement_text f k s i (simple (return (Some value))) ≡ around_text f s i (codes "return ") value (codes ";\n")
@@ -177,23 +179,10 @@ record Asks (shape : shapes.Statement) (xs : List ℕ) (o : Option ℕ) : Type 0
   pub operands : operands_in shape ≡ xs
   pub outcome : outcome_in shape ≡ o
 
-asks_for : (s : SimpleStatement) (o : Option Operator) → IsTrue (is_some o) →
-    Asks (asked o s) (simple_operands s) (simple_result s)
-asks_for s (Some op) act = record { acts = refl; operands = refl; outcome = refl }
-asks_for s None act = absurd cc
-
 asks : (a : ExpressionContext) (st : StatementTree) → IsTrue (is_act st) →
     Asks (statement_shape a st) (own_operands st) (own_result st)
 asks a (simple (call function arguments outcome)) act = record { acts = refl; operands = refl; outcome = refl }
-asks a (simple (emit first last)) act = absurd cc
-asks a (simple break) act = absurd cc
-asks a (simple continue) act = absurd cc
-asks a (simple (return value)) act = absurd cc
-asks a (simple kill) act = absurd cc
-asks a (simple (control_barrier flags)) act = absurd cc
-asks a (simple (memory_barrier flags)) act = absurd cc
-asks a (simple (store pointer value)) act = absurd cc
-asks a (simple s) act = asks_for s (act_operator s) act
+asks a (simple s) act = record { acts = cc; operands = cc; outcome = cc }
 asks a _ act = absurd cc
 
 act_lines : (f : FunctionText) (k : ℕ) (s : Handles) (i : ℕ) (shape : shapes.Statement) → IsTrue (acts shape)
@@ -403,5 +392,3 @@ emit_within callees expressions first last range =
     leb-true last expressions (and_parts (nat_le first expressions) (nat_le last expressions) (and_parts (named_in_range callees expressions (emit first last)) _ range).0).1
 
 pub ruleset lines = (lines_more, lines_none, first_of)
-
-pub ruleset jumps = (break_row, continue_row, kill_row)

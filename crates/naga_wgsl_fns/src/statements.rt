@@ -47,7 +47,7 @@ impl FunctionText<'_> {
 
     /// A statement. After the call, the scope is that after it.
     #[cycle(statement)]
-    #[tactic(auto, using(crate::proofs::StatementRows::jumps, naga_scope::proofs::Logs::extends_refl, naga_scope::proofs::Logs::extends_same))]
+    #[tactic(auto, using(crate::proofs::StatementRows::jump_row, naga_scope::proofs::Logs::extends_refl, naga_scope::proofs::Logs::extends_same))]
     fn write_statement<W: TextSink>(
         &self,
         statement: &Statement,

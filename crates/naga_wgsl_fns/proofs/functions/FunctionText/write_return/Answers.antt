@@ -1,8 +1,8 @@
-use Rattle.std.proofs.Common.{ap, ◌∙◌, subst, sym}
+use Rattle.std.proofs.Common.{None, ap, refl, ◌∙◌, subst, sym}
 use Rattle.std.specs.Option.{option_to_list}
 use Rattle.naga_ir.specs.StatementTree.{return, simple}
 use Rattle.naga_words.proofs.Writing.{writes_as}
-use Rattle.naga_wgsl_fns.proofs.StatementRows.{return_row, return_value_row}
+use Rattle.naga_wgsl_fns.proofs.StatementRows.{jump_row, return_value_row}
 use Rattle.naga_wgsl_fns.specs.FunctionText.{AreInText, handles_in}
 use Rattle.naga_wgsl_fns.specs.Statements.{statement_text}
 use Rattle.naga_wgsl_fns.proofs.functions.FunctionText.write_return.Goals as goal
@@ -26,5 +26,5 @@ returns-in-None g c =
     let k = c.args.at.now.scope.named in
     let s = handles_in self c.args.at.now.scope.table in
     let i = c.args.at.now.indent in
-    writes_as (sym (return_row self k s i) ∙ ap (λ o. statement_text self k s i (simple (return o))) (sym c.in-None.is))
+    writes_as (sym (jump_row self k s i (return None) refl) ∙ ap (λ o. statement_text self k s i (simple (return o))) (sym c.in-None.is))
     c.write_start.ensures
