@@ -10,7 +10,7 @@ use Rattle.module_meaning.specs.FunctionShapes.{statement_shape}
 use Rattle.module_meaning.specs.StatementShapes.{simple_shape, store_shape}
 use Rattle.module_meaning.specs.Written.{simple_lets, simple_roots}
 use Rattle.naga_ir.specs.Operands.{simple_operands, simple_result}
-use Rattle.naga_ir.specs.StatementTree.{SimpleStatement, break, continue, control_barrier, emit, kill, memory_barrier, return, simple, store}
+use Rattle.naga_ir.specs.StatementTree.{SimpleStatement, emit, return, simple, store}
 use Rattle.naga_ir.specs.StatementViews.{tree_of}
 use Rattle.naga_ir.specs.declared.module.Function as ir_function
 use Rattle.naga_ir.specs.declared.module.LocalVariable.{LocalVariable}
@@ -87,11 +87,6 @@ module _ (n : Naming) (a : ExpressionContext) where
   act_checks (store p v) other k number s = stored_checks (is_atomic_pointer a p) p v k number s
   act_checks (return None) other k number s = refl
   act_checks (return (Some v)) other k number s = one_checked (check_use n.function s number v) (next_number number)
-  act_checks break other k number s = refl
-  act_checks continue other k number s = refl
-  act_checks kill other k number s = refl
-  act_checks (control_barrier flags) other k number s = refl
-  act_checks (memory_barrier flags) other k number s = refl
   act_checks st other k number s =
       and_assoc (check_uses n.function s number (simple_operands st)) (check_result number (simple_result st) s)
       (Ok (next_number number))
