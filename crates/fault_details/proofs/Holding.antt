@@ -5,7 +5,7 @@ use Rattle.std.proofs.lemmas.Bool.{ltb-false, leb-false}
 use Rattle.std.specs.Prelude.{if◌then◌else◌}
 use Rattle.std.specs.Option.{IfSome, is_some, option_and_then, option_map, option_map_or, option_or}
 use Rattle.naga_ir.specs.StatementTree.{SimpleStatement, emit, break, continue, return, store}
-use Rattle.naga_ir.specs.StatementTree.{atomic, call, cooperative_store, subgroup_ballot}
+use Rattle.naga_ir.specs.StatementTree.{atomic, call, subgroup_ballot}
 use Rattle.naga_ir.specs.StatementTree.{subgroup_collective_operation, subgroup_gather}
 use Rattle.naga_ir.specs.StatementTree.{work_group_uniform_load, CaseTrees}
 use Rattle.naga_ir.specs.StatementTree.{StatementTree, simple, branch, switch, loop}
@@ -48,7 +48,7 @@ use Rattle.fault_details.specs.Reasons.{return_reason, simple_name_reason, simpl
 use Rattle.fault_details.specs.Reasons.{statement_name_reason, statement_reason, stored_reason, type_reason}
 use Rattle.fault_details.specs.Reasons.{typeless_reason, unlike, wanted_reason, whole_reason, function_reason}
 use Rattle.fault_details.specs.Reasons.{expression_reason, entry_point_reason, order_reason, variables_reason, module_reason}
-use Rattle.fault_details.specs.Reasons.{made_reason, is_in_class, call_reason}
+use Rattle.fault_details.specs.Reasons.{made_reason, is_in_class, call_reason, class_wanted}
 use Rattle.fault_details.specs.Reasons.{answer_reason}
 use Rattle.fault_details.specs.declared.words.Counted.{Counted}
 use Rattle.fault_details.specs.declared.words.Counted.TheVariants as counted
@@ -285,8 +285,8 @@ module _ (m : Module) where
   simple_holds f known breaks continues (subgroup_ballot outcome predicate) = need_holds _ _
   simple_holds f known breaks continues (subgroup_gather mode argument outcome) = need_holds _ _
   simple_holds f known breaks continues (subgroup_collective_operation op collective_op argument outcome) = need_holds _ _
-  simple_holds f known breaks continues (cooperative_store target place) = class_holds known class.ComponentsPointer place.pointer
-  simple_holds f known breaks continues _ = tt
+  simple_holds f known breaks continues s =
+      then_holds (IsReason m) (λ p. class_reason m.types known p.0 p.1) (λ p. class_holds known p.0 p.1) (class_wanted s)
 
   own_holds : (f : Function) (known : List TypeResolution) (breaks continues : Bool) (s : StatementTree) → Holds (own_reason m f known breaks continues s)
   own_holds f known breaks continues (simple s) = simple_holds f known breaks continues s

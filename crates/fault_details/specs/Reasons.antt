@@ -351,6 +351,11 @@ call_reason types known f function arguments outcome callee =
 abbrev pub result_reason : (Expression → Bool) → Function → (outcome : ℕ) → Option Reason
 result_reason test f outcome = need_unless (is_result test f outcome) need.OwnResult
 
+-- the type that a statement wants of one of its operands, where it wants nothing else
+abbrev pub class_wanted : SimpleStatement → Option (TypeClass × ℕ)
+class_wanted (cooperative_store target place) = Some (class.ComponentsPointer, place.pointer)
+class_wanted _ = None
+
 abbrev pub simple_reason :
     Module → Function → (known : List TypeResolution) → (breaks continues : Bool) →
     SimpleStatement → Option Reason
@@ -375,9 +380,8 @@ simple_reason m f known breaks continues (subgroup_gather mode argument outcome)
 simple_reason m f known breaks continues
     (subgroup_collective_operation op collective_op argument outcome) =
     result_reason is_subgroup_result f outcome
-simple_reason m f known breaks continues (cooperative_store target place) =
-    class_reason m.types known class.ComponentsPointer place.pointer
-simple_reason m f known breaks continues _ = None
+simple_reason m f known breaks continues s =
+    option_and_then (λ p. class_reason m.types known p.0 p.1) (class_wanted s)
 
 -- a statement by itself, its blocks left out, does not get what it wants
 abbrev pub own_reason :
