@@ -4,7 +4,7 @@ use Rattle.naga_ir.specs.StatementTree.{block_size, cases_size}
 use Rattle.naga_names.proofs.Reset.{if_err}
 use Rattle.naga_scope.specs.ExpressionNames.{RefusesLabels}
 use Rattle.naga_scope.proofs.ExpressionNames.{err_then, names_then, ok_then, refused_later, so_far_more, so_far_refused}
-use Rattle.naga_scope.proofs.Listed.{first_case, first_of}
+use Rattle.naga_ir.proofs.Listed.{first_case, first_of}
 use Rattle.naga_scope.proofs.named.+named.Goals as goal
 
 pub name_block-returns-in_err-name_statement-clause-err : goal.name_block-returns-in_err-name_statement-clause-err

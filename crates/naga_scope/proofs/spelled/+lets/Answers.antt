@@ -3,7 +3,7 @@ use Rattle.std.specs.List.{find}
 use Rattle.module_meaning.specs.Written.{block_lets, cases_lets, statement_lets}
 use Rattle.naga_ir.specs.StatementTree.{block_size, cases_size}
 use Rattle.naga_ir.specs.StatementViews.{block_of, cases_of, tree_of}
-use Rattle.naga_scope.proofs.Listed.{first_case, first_of}
+use Rattle.naga_ir.proofs.Listed.{first_case, first_of}
 use Rattle.naga_scope.proofs.SpelledTypes.{found_first, not_first}
 use Rattle.naga_scope.specs.KnownFunctions.{bound_in}
 use Rattle.naga_scope.specs.SpelledTypes.{is_formless_let}

@@ -1,7 +1,7 @@
 use Rattle.std.proofs.Common.{ap, arith}
 use Rattle.module_meaning.specs.Written.{block_roots, cases_roots}
 use Rattle.naga_ir.specs.StatementTree.{block_size, cases_size}
-use Rattle.naga_scope.proofs.Listed.{first_case, first_of}
+use Rattle.naga_ir.proofs.Listed.{first_case, first_of}
 use Rattle.naga_scope.proofs.Marking.{so_far_more}
 use Rattle.naga_scope.specs.KnownFunctions.{bound_in}
 use Rattle.naga_scope.proofs.written.+mark.Goals as goal
