@@ -6,7 +6,6 @@ pub mod ExpressionNames
 pub mod FormedStatements
 pub mod Holding
 pub mod InOrder
-pub mod Listed
 pub mod Logs
 pub mod Marking
 pub mod Offsets
