@@ -1,6 +1,7 @@
 -- Labels that are named one after another.
 use Rattle.std.proofs.Common.{◌≡◌, ◌≤◌, ◌^◌, ◌++◌, ◌∙◌, ℕ, List, [], ◌∷◌, append-nil, append_assoc, ap, refl}
 use Rattle.std.proofs.Common.{arith, length-append, subst, sym}
+use Rattle.std.specs.Prelude.{Err, IfErr, Ok, OnOk, Result}
 use Rattle.module_meaning.specs.ExpressionLabels.{SomeLabelIsFull}
 use Rattle.naga_names.proofs.NameShapes.{counted_more}
 use Rattle.naga_names.specs.Naming.{HasNamed, Names, Uses, label_base, labels_with_base, name_after}
@@ -236,6 +237,15 @@ named_begun {old} {new} {held} {labels} named = record {
 pub refused_begun : {old new : Names} {labels : List (List ℕ)} {e : NamerError} →
     RefusesLabels old labels new e → HasBegunLabels old labels new
 refused_begun r = record { words = r.words; some = r.some }
+
+-- ---- what holds of an answer
+pub ok_then : {X E : Type 0} {P Q : Type 0} (r : Result X E) → (P → Q) → OnOk r P → OnOk r Q
+ok_then (Ok x) then holds = then holds
+ok_then (Err e) then holds = tt
+
+pub err_then : {X E : Type 0} {P Q : E → Type 0} (r : Result X E) → ((e : E) → P e → Q e) → IfErr r P → IfErr r Q
+err_then (Ok x) then holds = tt
+err_then (Err e) then holds = then e holds
 
 -- ---- a loop that names labels
 -- the labels are some that are named, and those that are left

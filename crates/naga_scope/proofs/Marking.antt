@@ -2,7 +2,6 @@
 use Rattle.std.proofs.Common.{◌≡◌, ℕ, Bool, true, false, List, [], ◌∷◌, ◌++◌, ◌&&◌, ◌||◌, refl, sym}
 use Rattle.std.proofs.Common.{ap, ◌∙◌, length, nat_eq, nat_lt, suc, ◌+◌}
 use Rattle.std.proofs.Common.{append-nil, append_assoc, subst}
-use Rattle.std.proofs.lemmas.List.Folds.{list_any-append}
 use Rattle.std.specs.Prelude.{if◌then◌else◌}
 use Rattle.std.specs.List.{enumerate_from, filter, flat_map}
 use Rattle.std.specs.Option.{option_to_list}
@@ -10,19 +9,52 @@ use Rattle.naga_ir.specs.declared.module.LocalVariable.{LocalVariable}
 use Rattle.naga_scope.specs.Marks.{MarksAlso, MarksJust, is_marked, is_one_of, marked_with}
 use Rattle.std.proofs.Common.{replicate, zero}
 
+-- in turn is as all together
+one_then : (m e a l : Bool) → ((m || ((e || false) && l)) || (a && l)) ≡ (m || ((e || a) && l))
+one_then true e a l = refl
+one_then false true true true = refl
+one_then false true true false = refl
+one_then false true false true = refl
+one_then false true false false = refl
+one_then false false a l = refl
+
+none_then : (m a l : Bool) → ((m || (false && l)) || (a && l)) ≡ (m || (a && l))
+none_then true a l = refl
+none_then false a l = refl
+
 pub marked_none : (m l : Bool) → m ≡ (m || (false && l))
 marked_none true l = refl
 marked_none false l = refl
 
 module _ (old new : List Bool) (size : length new ≡ length old) (h : ℕ) where
+  -- with the first of some, and then with the others
+  pub marked_then : (b : Bool) (x : ℕ) (xs : List ℕ) →
+      is_marked new h ≡ marked_with old (if b then x ∷ [] else []) h →
+      marked_with new xs h ≡ marked_with old (if b then x ∷ xs else xs) h
+  marked_then true x xs is =
+      (λ i. is i || (is_one_of xs h && nat_lt h (size i)))
+      ∙ one_then (is_marked old h) (nat_eq h x) (is_one_of xs h) (nat_lt h (length old))
+  marked_then false x xs is =
+      (λ i. is i || (is_one_of xs h && nat_lt h (size i)))
+      ∙ none_then (is_marked old h) (is_one_of xs h) (nat_lt h (length old))
+
   -- with some, and then with others
   pub marked_both : (xs ys : List ℕ) → is_marked new h ≡ marked_with old xs h →
       marked_with new ys h ≡ marked_with old (xs ++ ys) h
   marked_both xs ys is =
       (λ i. is i || (is_one_of ys h && nat_lt h (size i)))
       ∙ (both (is_marked old h) (is_one_of xs h) (is_one_of ys h) (nat_lt h (length old))
-      ∙ ap (λ b. is_marked old h || (b && nat_lt h (length old))) (sym (list_any-append (nat_eq h) xs ys)))
+      ∙ ap (λ b. is_marked old h || (b && nat_lt h (length old))) (sym (any_append xs)))
     where
+      any_append : (zs : List ℕ) → is_one_of (zs ++ ys) h ≡ (is_one_of zs h || is_one_of ys h)
+      any_append [] = refl
+      any_append (z ∷ zs) = by (nat_eq h z) (any_append zs)
+        where
+          by : (b : Bool) → is_one_of (zs ++ ys) h ≡ (is_one_of zs h || is_one_of ys h) →
+              (b || is_one_of (zs ++ ys) h) ≡ ((b || is_one_of zs h) || is_one_of ys h)
+          by true same = refl
+          by false same = same
+
       both : (m a b l : Bool) → ((m || (a && l)) || (b && l)) ≡ (m || ((a || b) && l))
       both true a b l = refl
       both false true true true = refl
