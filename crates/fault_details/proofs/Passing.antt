@@ -6,7 +6,7 @@ use Rattle.std.specs.Result.{result_err}
 use Rattle.naga_ir.specs.StatementViews.{tree_of, block_of, cases_of}
 use Rattle.naga_ir.specs.declared.statement.Statement.{Statement}
 use Rattle.naga_ir.specs.declared.statement.SwitchCase.{SwitchCase}
-use Rattle.module_meaning.proofs.Fitting.{drop_first}
+use Rattle.std.proofs.lemmas.List.{drop_more}
 use Rattle.naga_acceptance.specs.TextOrder.{case_statements, statements_in, statements_inside}
 use Rattle.fault_details.specs.Shown.{passed}
 
@@ -34,7 +34,7 @@ module _ (breaks continues : Bool) where
       ≡ onward (passed n (record { breaks = breaks; continues = continues; tree = tree_of (slice_index_or ss i d) } ∷ statements_inside breaks continues (tree_of (slice_index_or ss i d))))
       (statements_in breaks continues (block_of (drop (i + 1) ss)))
   block_next n ss i d h =
-      ap (λ ts. passed n (statements_in breaks continues (block_of ts))) (drop_first i ss d h)
+      ap (λ ts. passed n (statements_in breaks continues (block_of ts))) (drop_more ss i d h)
       ∙ passed_append n (record { breaks = breaks; continues = continues; tree = tree_of (slice_index_or ss i d) } ∷ statements_inside breaks continues (tree_of (slice_index_or ss i d)))
       (statements_in breaks continues (block_of (drop (i + 1) ss)))
 
@@ -43,6 +43,6 @@ module _ (breaks continues : Bool) where
       ≡ onward (passed n (statements_in breaks continues (slice_index_or cs i d).body))
       (case_statements breaks continues (cases_of (drop (i + 1) cs)))
   cases_next n cs i d h =
-      ap (λ ts. passed n (case_statements breaks continues (cases_of ts))) (drop_first i cs d h)
+      ap (λ ts. passed n (case_statements breaks continues (cases_of ts))) (drop_more cs i d h)
       ∙ passed_append n (statements_in breaks continues (slice_index_or cs i d).body)
       (case_statements breaks continues (cases_of (drop (i + 1) cs)))

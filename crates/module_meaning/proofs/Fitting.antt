@@ -1,6 +1,6 @@
 -- Loops that find out whether each item of a list fits.
 use Rattle.std.proofs.Common.{◌≡◌, ℕ, ◌+◌, ◌<◌, Bool, ◌&&◌, List, [], ◌∷◌}
-use Rattle.std.proofs.Common.{length, drop, refl, ap, add-one, drop-cons, slice_index_or}
+use Rattle.std.proofs.Common.{length, refl, ap, slice_index_or}
 use Rattle.std.proofs.Common.{slice_get, Some}
 use Rattle.std.specs.List.{list_all, enumerate_from}
 use Rattle.std.proofs.lemmas.Option.{slice_get-get_or}
@@ -9,10 +9,6 @@ use Rattle.std.proofs.lemmas.Option.{slice_get-get_or}
 pub list_all-pairs : {X : Type 0} (test : X → Bool) (n : ℕ) (xs : List X) → list_all (λ p. test p.1) (enumerate_from n xs) ≡ list_all test xs
 list_all-pairs test n [] = refl
 list_all-pairs test n (x ∷ xs) = ap (λ b. test x && b) (list_all-pairs test (n + 1) xs)
-
--- what is left of a list begins with the item at this place
-pub drop_first : {X : Type 0} (i : ℕ) (xs : List X) (d : X) → i < length xs → drop i xs ≡ slice_index_or xs i d ∷ drop (i + 1) xs
-drop_first i xs d h = rw (add-one, drop-cons xs i d)
 
 -- the item at a place that a list has
 pub item_at : {X : Type 0} (xs : List X) (i : ℕ) (x : X) → i < length xs → slice_get xs i ≡ Some x → slice_index_or xs i x ≡ x

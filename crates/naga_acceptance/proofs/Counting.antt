@@ -14,7 +14,7 @@ use Rattle.naga_ir.specs.declared.statement.SwitchCase.{SwitchCase}
 use Rattle.naga_ir.specs.StatementTree.{block_size, cases_size}
 use Rattle.naga_ir.specs.StatementViews.{tree_of, block_of, cases_of}
 use Rattle.naga_info.specs.declared.info.ExpressionInfo.{ExpressionInfo}
-use Rattle.module_meaning.proofs.Fitting.{drop_first}
+use Rattle.std.proofs.lemmas.List.{drop_more}
 use Rattle.naga_ir.specs.Operands.{expression_operands, statement_operands, block_operands}
 use Rattle.naga_ir.specs.Operands.{cases_operands}
 use Rattle.naga_acceptance.specs.Counts.{with_use, with_uses, used_again, with_counts_from}
@@ -41,20 +41,20 @@ with_uses_append es (x ∷ xs) ys = with_uses_append (with_use es x) xs ys
 pub block_step : (es : List ExpressionInfo) (ss : List Statement) (i : ℕ) (d : Statement) → i < length ss
     → with_uses es (block_operands (block_of (drop i ss))) ≡ with_uses (with_uses es (statement_operands (tree_of (slice_index_or ss i d)))) (block_operands (block_of (drop (i + 1) ss)))
 block_step es ss i d h =
-    ap (λ ts. with_uses es (block_operands (block_of ts))) (drop_first i ss d h)
+    ap (λ ts. with_uses es (block_operands (block_of ts))) (drop_more ss i d h)
     ∙ with_uses_append es (statement_operands (tree_of (slice_index_or ss i d))) (block_operands (block_of (drop (i + 1) ss)))
 
 pub block_size-left : (ss : List Statement) (i : ℕ) (d : Statement) → i < length ss → block_size (block_of (drop (i + 1) ss)) ≤ block_size (block_of (drop i ss))
-block_size-left ss i d h = rw (drop_first i ss d h) (omega arith)
+block_size-left ss i d h = rw (drop_more ss i d h) (omega arith)
 
 pub cases_size-left : (cs : List SwitchCase) (i : ℕ) (d : SwitchCase) → i < length cs → cases_size (cases_of (drop (i + 1) cs)) ≤ cases_size (cases_of (drop i cs))
-cases_size-left cs i d h = rw (drop_first i cs d h) (omega arith)
+cases_size-left cs i d h = rw (drop_more cs i d h) (omega arith)
 
 -- a loop over cases: one more
 pub cases_step : (es : List ExpressionInfo) (cs : List SwitchCase) (i : ℕ) (d : SwitchCase) → i < length cs
     → with_uses es (cases_operands (cases_of (drop i cs))) ≡ with_uses (with_uses es (block_operands (slice_index_or cs i d).body)) (cases_operands (cases_of (drop (i + 1) cs)))
 cases_step es cs i d h =
-    ap (λ ts. with_uses es (cases_operands (cases_of ts))) (drop_first i cs d h)
+    ap (λ ts. with_uses es (cases_operands (cases_of ts))) (drop_more cs i d h)
     ∙ with_uses_append es (block_operands (slice_index_or cs i d).body) (cases_operands (cases_of (drop (i + 1) cs)))
 
 with_counts_from-same : (c d : ℕ → ℕ) (handle : ℕ) (es : List ExpressionInfo) → ((k : ℕ) → handle ≤ k → c k ≡ d k) → with_counts_from c handle es ≡ with_counts_from d handle es

@@ -3,7 +3,8 @@ use Rattle.std.proofs.Common.{◌≡◌, ℕ, ◌+◌, ◌<◌, Bool, true, fals
 use Rattle.std.proofs.Common.{slice_index_or, slice_get, Option, Some, None}
 use Rattle.std.specs.List.{enumerate_from, list_all, zip}
 use Rattle.std.specs.Prelude.{◌&&◌}
-use Rattle.module_meaning.proofs.Fitting.{drop_first, item_at}
+use Rattle.module_meaning.proofs.Fitting.{item_at}
+use Rattle.std.proofs.lemmas.List.{drop_more}
 use Rattle.naga_acceptance.specs.Searching.{first_faulty, first_unfit, or_further, unless}
 
 module _ {X Y : Type 0} (xs : List X) (ys : List Y) where
@@ -14,7 +15,7 @@ module _ {X Y : Type 0} (xs : List X) (ys : List Y) where
   pair_step : (i : ℕ) (x : X) (d : Y) → i < length xs → i < length ys → slice_get xs i ≡ Some x
       → zip (drop i xs) (drop i ys) ≡ (x, slice_index_or ys i d) ∷ zip (drop (i + 1) xs) (drop (i + 1) ys)
   pair_step i x d in_xs in_ys here =
-      (λ j. zip (drop_first i xs x in_xs j) (drop_first i ys d in_ys j))
+      (λ j. zip (drop_more xs i x in_xs j) (drop_more ys i d in_ys j))
       ∙ ap (λ z. (z, slice_index_or ys i d) ∷ zip (drop (i + 1) xs) (drop (i + 1) ys)) (item_at xs i x in_xs here)
 
   left_step : (i : ℕ) (x : X) (d : Y) → i < length xs → i < length ys → slice_get xs i ≡ Some x

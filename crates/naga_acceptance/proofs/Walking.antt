@@ -21,7 +21,7 @@ use Rattle.module_meaning.specs.Numbers.{label_fits_32_bits}
 use Rattle.module_meaning.specs.Ranges.{block_in_range, cases_in_range, is_below, statement_in_range}
 use Rattle.module_meaning.specs.StatementsFit.{block_is_sound, body_is_sound, cases_are_sound}
 use Rattle.module_meaning.specs.StatementsFit.{is_condition, statement_is_sound}
-use Rattle.module_meaning.proofs.Fitting.{drop_first}
+use Rattle.std.proofs.lemmas.List.{drop_more}
 use Rattle.naga_acceptance.specs.TextOrder.{PlacedStatement, case_statements, is_in_range, is_sound}
 use Rattle.naga_acceptance.specs.TextOrder.{labels_fit_32_bits, numbered, own_in_range, own_is_sound, statements_in}
 use Rattle.naga_acceptance.specs.TextOrder.{statements_inside, text_order}
@@ -60,7 +60,7 @@ module _ (test : PlacedStatement → Bool) (breaks continues : Bool) where
       ≡ onward test (numbered test n (record { breaks = breaks; continues = continues; tree = tree_of (slice_index_or ss i d) } ∷ statements_inside breaks continues (tree_of (slice_index_or ss i d))))
       (statements_in breaks continues (block_of (drop (i + 1) ss)))
   block_next n ss i d h =
-      ap (λ ts. numbered test n (statements_in breaks continues (block_of ts))) (drop_first i ss d h)
+      ap (λ ts. numbered test n (statements_in breaks continues (block_of ts))) (drop_more ss i d h)
       ∙ numbered_append test n (record { breaks = breaks; continues = continues; tree = tree_of (slice_index_or ss i d) } ∷ statements_inside breaks continues (tree_of (slice_index_or ss i d)))
       (statements_in breaks continues (block_of (drop (i + 1) ss)))
 
@@ -69,7 +69,7 @@ module _ (test : PlacedStatement → Bool) (breaks continues : Bool) where
       ≡ onward test (numbered test n (statements_in breaks continues (slice_index_or cs i d).body))
       (case_statements breaks continues (cases_of (drop (i + 1) cs)))
   cases_next n cs i d h =
-      ap (λ ts. numbered test n (case_statements breaks continues (cases_of ts))) (drop_first i cs d h)
+      ap (λ ts. numbered test n (case_statements breaks continues (cases_of ts))) (drop_more cs i d h)
       ∙ numbered_append test n (statements_in breaks continues (slice_index_or cs i d).body)
       (case_statements breaks continues (cases_of (drop (i + 1) cs)))
 

@@ -1,7 +1,8 @@
 //! What kind of type or statement something is.
 
 ghost use Rattle.std.specs.Prelude.{◌≡◌, Bool};
-ghost use Rattle.naga_back.specs.Kinds.{is_resource, ends_block};
+ghost use Rattle.naga_ir.specs.Kinds.{ends_block};
+ghost use Rattle.naga_back.specs.Kinds.{is_resource};
 
 use naga_ir::{Statement, TypeInner};
 
@@ -44,9 +45,6 @@ impl IsTerminator for Statement {
     ghost ends_block = { ends_block };
 
     fn is_terminator(&self) -> bool {
-        matches!(
-            self,
-            Statement::Break | Statement::Continue | Statement::Return { .. } | Statement::Kill
-        )
+        self.ends_block()
     }
 }

@@ -1,3 +1,4 @@
 pub mod Blocks
+pub mod Listed
 mod Sampled
 mod Remaining

@@ -1,14 +1,18 @@
--- What kind of thing each expression is: when it has its value, and what evaluating it does.
+-- What kind of thing each expression is: when it has its value, and what evaluating it does; and
+-- which statements end a block.
 --
 -- Constants, leaves and results need no `Emit`: naga's `needs_pre_emit` names the first two, and a
 -- result has its value by the statement that gives it. Of the expressions that an `Emit` evaluates,
 -- a load reads memory; a request asks for another event: an operation on images, a derivative or a
 -- cooperative load; and every other is an operator, whose value its operands alone determine.
+use Rattle.std.specs.Prelude.{Bool, true, false}
 use Rattle.naga_ir.specs.declared.expression.Expression.{Expression}
 use Rattle.naga_ir.specs.declared.expression.Expression.TheVariants as expression
 use Rattle.naga_ir.specs.declared.kind.ExpressionKind.{ExpressionKind}
 use Rattle.naga_ir.specs.declared.kind.ExpressionKind.TheVariants.{Constant, Leaf, Pure, Load}
 use Rattle.naga_ir.specs.declared.kind.ExpressionKind.TheVariants.{Request, Result}
+use Rattle.naga_ir.specs.declared.statement.Statement.{Statement}
+use Rattle.naga_ir.specs.declared.statement.Statement.TheVariants.{Break, Continue, Return, Kill}
 
 abbrev pub kind_of : Expression → ExpressionKind
 kind_of (expression.Literal value) = Constant
@@ -48,3 +52,11 @@ kind_of expression.SubgroupBallotResult = Result
 kind_of (expression.SubgroupOperationResult ty) = Result
 kind_of (expression.CooperativeLoad columns rows role place) = Request
 kind_of (expression.CooperativeMultiplyAdd a b c) = Pure
+
+-- what stands after such a statement in its block is not reached
+abbrev pub ends_block : Statement → Bool
+ends_block Break = true
+ends_block Continue = true
+ends_block (Return value) = true
+ends_block Kill = true
+ends_block _ = false

@@ -1,9 +1,10 @@
-//! What kind of thing an expression is.
+//! What kind of thing an expression is, and which statements end a block.
 
 ghost use Rattle.std.specs.Prelude.{◌≡◌};
-ghost use Rattle.naga_ir.specs.Kinds.{kind_of};
+ghost use Rattle.naga_ir.specs.Kinds.{ends_block, kind_of};
 
 use crate::expression::Expression;
+use crate::statement::Statement;
 
 /// When an expression has its value, and what evaluating it does.
 #[derive(Debug, Clone, Copy, PartialEq, Eq, Hash)]
@@ -66,5 +67,17 @@ impl Expression {
             | Expression::SubgroupBallotResult
             | Expression::SubgroupOperationResult { .. } => ExpressionKind::Result,
         }
+    }
+}
+
+impl Statement {
+    /// Whether nothing that stands after the statement in its block is reached.
+    pub fn ends_block(&self) -> bool
+        ensures { result ≡ ends_block self.now }
+    {
+        matches!(
+            self,
+            Statement::Break | Statement::Continue | Statement::Return { .. } | Statement::Kill
+        )
     }
 }

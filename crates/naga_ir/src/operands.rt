@@ -54,7 +54,7 @@ fn level_handles(level: SampleLevel) -> (Option<Handle<Expression>>, Option<Hand
 }
 
 /// The handle that a query of an image holds, if it holds one.
-fn query_handle(query: ImageQuery) -> Option<Handle<Expression>>
+pub(crate) fn query_handle(query: ImageQuery) -> Option<Handle<Expression>>
     ensures { option_to_list result ≡ query_operands query }
 {
     match query {

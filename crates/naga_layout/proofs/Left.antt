@@ -3,23 +3,21 @@
 -- Throughout, f tells layouts of types, k is a member, p one with its layout, before the one before
 -- those that are left, a the greatest alignment up to there, and span the struct's bytes in the module.
 use Rattle.std.proofs.Common.{◌≡◌, ◌∙◌, ◌*◌, ℕ, zero, suc, Bool, true, false, List, [], ◌∷◌, Option, Some, None}
-use Rattle.std.proofs.Common.{◌+◌, ◌<◌, add-one, ap, arith, drop, drop-cons, length, slice_index_or, max, refl, slice_get, subst, sym}
+use Rattle.std.proofs.Common.{◌+◌, ap, arith, drop, length, max, refl, slice_get, subst, sym}
 use Rattle.std.specs.Prelude.{◌&&◌, ◌==◌, ⊤, if◌then◌else◌, unwrap_or}
 use Rattle.std.specs.Option.{is_none, option_and_then, option_map, option_map_or, option_or, IfSome}
-use Rattle.naga_ir.specs.declared.types.ArraySize.{ArraySize}
 use Rattle.naga_ir.specs.declared.types.Scalar.{Scalar}
 use Rattle.naga_ir.specs.declared.types.StructMember.{StructMember}
 use Rattle.naga_ir.specs.declared.types.Type_.{Type_}
 use Rattle.naga_ir.specs.declared.types.TypeInner.{TypeInner}
 use Rattle.naga_ir.specs.declared.types.TypeInner.TheVariants as inner
-use Rattle.naga_ir.specs.declared.types.VectorSize.{VectorSize}
 use Rattle.wgsl_layout.proofs.Kept.{AllAligned, greatest_is, struct_kept}
 use Rattle.wgsl_layout.proofs.Rounding.{first_greatest, greater}
 use Rattle.wgsl_layout.specs.Capped.{IsAlignment, IsGreatest, capped, capped_member}
 use Rattle.wgsl_layout.specs.Members.{are_kept, ended, greatest_placed, is_aligned, last_of, stands_after, written_members}
 use Rattle.wgsl_layout.specs.Faults.{first_fault, goes_on, own_fault}
 use Rattle.wgsl_layout.specs.declared.members.Misplaced.{Misplaced}
-use Rattle.wgsl_layout.specs.Rules.{array_layout, kept_array, matrix_layout, scalar_layout, stride_of, struct_layout, vector_layout}
+use Rattle.wgsl_layout.specs.Rules.{array_layout, matrix_layout, scalar_layout, stride_of, struct_layout, vector_layout}
 use Rattle.wgsl_layout.specs.declared.layouts.Layout.{Layout}
 use Rattle.wgsl_layout.specs.declared.layouts.Placed.{Placed}
 use Rattle.naga_layout.proofs.Widths.{atomic_width_is, vector_aligns, width_aligns, width_is}
@@ -222,11 +220,6 @@ found_member (Some p) q is = (p, refl, ap (λ o. unwrap_or o q) is)
 next_greatest : (b : Option Placed) (a w : ℕ) → IsGreatest b a → IsAlignment w → IsAlignment (max a w)
 next_greatest None a w is aligned = subst (λ a. IsAlignment (max a w)) (sym is) (first_greatest w aligned)
 next_greatest (Some p) a w is aligned = greater a w is aligned
-
--- a list from an item of it on
-pub drop_first : {X : Type 0} (i : ℕ) (xs : List X) (x : X) → i < length xs →
-    x ≡ slice_index_or xs i x → drop i xs ≡ x ∷ drop (i + 1) xs
-drop_first i xs x h is = rw (add-one, drop-cons xs i x) (ap (λ y. y ∷ drop (suc i) xs) (sym is))
 
 -- A loop over members goes on: before and q are as the code holds them, b and p what they stand for.
 pub one_more : (f : ℕ → Option Layout) (span : ℕ) (ms : List StructMember) (i : ℕ) (k : StructMember)

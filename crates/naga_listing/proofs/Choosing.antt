@@ -4,7 +4,7 @@ use Rattle.std.proofs.Common.{arith}
 use Rattle.naga_listing.specs.Choice.{kept_from, with_any}
 use Rattle.naga_listing.specs.declared.places.Line.{Line}
 use Rattle.naga_listing.specs.declared.places.Spot.{Spot}
-use Rattle.naga_listing.proofs.Seeking.{drop_head}
+use Rattle.std.proofs.lemmas.List.{drop_more}
 
 pub kept_next : (marked : ℕ) (spots : List Spot) (ls : List Line) (i : ℕ) (d : Line)
     → i < length ls → kept_from marked spots i (drop i ls)
@@ -12,6 +12,6 @@ pub kept_next : (marked : ℕ) (spots : List Spot) (ls : List Line) (i : ℕ) (d
     (kept_from marked spots (i + 1) (drop (i + 1) ls))
 kept_next marked spots ls i d h =
     let next : suc i ≡ i + 1 = omega arith in
-    ap (kept_from marked spots i) (drop_head i ls d h)
+    ap (kept_from marked spots i) (drop_more ls i d h)
     ∙ ap (λ n. with_any marked spots i (slice_index_or ls i d)
     (kept_from marked spots n (drop (i + 1) ls))) next

@@ -1,13 +1,9 @@
 -- A statement is sought in one list after another.
-use Rattle.std.proofs.Common.{◌≡◌, ℕ, ◌+◌, ◌<◌, zero, suc, List, [], ◌∷◌, ◌++◌, length, drop, refl}
-use Rattle.std.proofs.Common.{ap, ◌∙◌, sym, slice_index_or, add-one, slice_get, Bool, arith}
-use Rattle.std.proofs.Math.Seq.{drop-cons}
+use Rattle.std.proofs.Common.{◌≡◌, ℕ, ◌+◌, zero, suc, List, [], ◌∷◌, ◌++◌, refl}
+use Rattle.std.proofs.Common.{ap, ◌∙◌, sym, slice_get, Bool, arith}
 use Rattle.std.specs.Prelude.{Result, Ok, Err}
 use Rattle.std.specs.Result.{result_ok}
 use Rattle.naga_ir.specs.StatementTree.{StatementTree, BlockTree, statement, CaseTrees, case}
-use Rattle.naga_ir.specs.StatementViews.{tree_of, block_of, cases_of}
-use Rattle.naga_ir.specs.declared.statement.Statement.{Statement}
-use Rattle.naga_ir.specs.declared.statement.SwitchCase.{SwitchCase}
 use Rattle.naga_ir.specs.declared.statement.SwitchValue.{SwitchValue}
 use Rattle.naga_listing.specs.Named.{case_trees, sought, statement_trees, trees_in}
 
@@ -46,26 +42,6 @@ sought_item zero (s ∷ ss) = refl
 sought_item (suc n) (s ∷ ss) = sought_item n ss
 
 -- ---- loops over statements and cases
--- a list from an item of it on
-pub drop_head : {X : Type 0} (i : ℕ) (xs : List X) (d : X) → i < length xs
-    → drop i xs ≡ slice_index_or xs i d ∷ drop (i + 1) xs
-drop_head i xs d h = rw (add-one, drop-cons xs i d)
-
-pub drop_first : {X : Type 0} (i : ℕ) (xs : List X) (x : X) → i < length xs
-    → x ≡ slice_index_or xs i x → drop i xs ≡ x ∷ drop (i + 1) xs
-drop_first i xs x h is =
-    rw (add-one, drop-cons xs i x) (ap (λ y. y ∷ drop (suc i) xs) (sym is))
-
-pub first_of : (items : List Statement) (i : ℕ) (item : Statement) → i < length items
-    → item ≡ slice_index_or items i item
-    → block_of (drop i items) ≡ statement (tree_of item) (block_of (drop (i + 1) items))
-first_of items i item h is = ap block_of (drop_first i items item h is)
-
-pub first_case : (items : List SwitchCase) (i : ℕ) (item : SwitchCase) → i < length items
-    → item ≡ slice_index_or items i item → cases_of (drop i items)
-    ≡ case item.value item.body item.fall_through (cases_of (drop (i + 1) items))
-first_case items i item h is = ap cases_of (drop_first i items item h is)
-
 -- a statement of a block is the one, or it is among those after it
 pub block_found : (left first : ℕ) (b b' whole : BlockTree) (s found : StatementTree)
     → b ≡ statement s b' → Ok found ≡ sought left (statement_trees s)

@@ -1,7 +1,7 @@
 //! Expressions, each in a line: what it is, its operands by their names, and what it names beside.
 
 use crate::lookup::item_at;
-use crate::operands::{push_list, push_numbered, push_operands};
+use crate::operands::{MOST_FIELDS, push_field, push_list, push_numbered, push_operand};
 use float_numerals::{push_double, push_half, push_single};
 use naga_ir::{
     Constant, Expression, Function, GlobalVariable, Handle, ImageQuery, Literal, LocalVariable,
@@ -17,50 +17,10 @@ pub(crate) fn push_expression(
     expression: &Expression,
     out: &mut String,
 ) -> Result<(), AllocError> {
-    out.push_str(expression_name(expression))?;
+    out.push_str(expression.name())?;
     push_named(module, function, expression, out)?;
     push_choice(expression, out)?;
     push_of_expression(expression, out)
-}
-
-/// The name of the variant.
-fn expression_name(expression: &Expression) -> &'static str {
-    match expression {
-        Expression::Literal(_) => "Literal",
-        Expression::Constant(_) => "Constant",
-        Expression::Override(_) => "Override",
-        Expression::ZeroValue(_) => "ZeroValue",
-        Expression::Compose { .. } => "Compose",
-        Expression::Access { .. } => "Access",
-        Expression::AccessIndex { .. } => "AccessIndex",
-        Expression::Splat { .. } => "Splat",
-        Expression::Swizzle { .. } => "Swizzle",
-        Expression::FunctionArgument(_) => "FunctionArgument",
-        Expression::GlobalVariable(_) => "GlobalVariable",
-        Expression::LocalVariable(_) => "LocalVariable",
-        Expression::Load { .. } => "Load",
-        Expression::ImageSample { .. } => "ImageSample",
-        Expression::ImageLoad { .. } => "ImageLoad",
-        Expression::ImageQuery { .. } => "ImageQuery",
-        Expression::Unary { .. } => "Unary",
-        Expression::Binary { .. } => "Binary",
-        Expression::Select { .. } => "Select",
-        Expression::Derivative { .. } => "Derivative",
-        Expression::Relational { .. } => "Relational",
-        Expression::Math { .. } => "Math",
-        Expression::As { .. } => "As",
-        Expression::CallResult(_) => "CallResult",
-        Expression::AtomicResult { .. } => "AtomicResult",
-        Expression::WorkGroupUniformLoadResult { .. } => "WorkGroupUniformLoadResult",
-        Expression::ArrayLength(_) => "ArrayLength",
-        Expression::RayQueryProceedResult => "RayQueryProceedResult",
-        Expression::RayQueryGetIntersection { .. } => "RayQueryGetIntersection",
-        Expression::RayQueryVertexPositions { .. } => "RayQueryVertexPositions",
-        Expression::SubgroupBallotResult => "SubgroupBallotResult",
-        Expression::SubgroupOperationResult { .. } => "SubgroupOperationResult",
-        Expression::CooperativeLoad { .. } => "CooperativeLoad",
-        Expression::CooperativeMultiplyAdd { .. } => "CooperativeMultiplyAdd",
-    }
 }
 
 // ---- what it names beside its operands
@@ -303,7 +263,7 @@ fn hit_name(committed: bool) -> &'static str {
 }
 
 /// How a cooperative matrix lies in memory.
-pub(crate) fn order_name(row_major: bool) -> &'static str {
+fn order_name(row_major: bool) -> &'static str {
     if row_major { " by rows" } else { " by columns" }
 }
 
@@ -311,122 +271,18 @@ pub(crate) fn order_name(row_major: bool) -> &'static str {
 
 /// Appends the operands by their names, and after them the index that is known.
 fn push_of_expression(expression: &Expression, out: &mut String) -> Result<(), AllocError> {
-    match expression {
-        Expression::Compose { components, .. } => push_list("components", components, out),
-        Expression::Access { base, index } => {
-            push_operands(&[("base", Some(*base)), ("index", Some(*index))], out)
-        }
-        Expression::AccessIndex { base, index } => {
-            push_operands(&[("base", Some(*base))], out)?;
-            write!(out, ", index: {index}")
-        }
-        Expression::Splat { value, .. } => push_operands(&[("value", Some(*value))], out),
-        Expression::Swizzle { vector, .. } => push_operands(&[("vector", Some(*vector))], out),
-        Expression::Load { pointer } => push_operands(&[("pointer", Some(*pointer))], out),
-        Expression::Unary { expr, .. } => push_operands(&[("expr", Some(*expr))], out),
-        Expression::Derivative { expr, .. } => push_operands(&[("expr", Some(*expr))], out),
-        Expression::As { expr, .. } => push_operands(&[("expr", Some(*expr))], out),
-        Expression::Binary { left, right, .. } => {
-            push_operands(&[("left", Some(*left)), ("right", Some(*right))], out)
-        }
-        Expression::Select {
-            condition,
-            accept,
-            reject,
-        } => push_operands(
-            &[
-                ("condition", Some(*condition)),
-                ("accept", Some(*accept)),
-                ("reject", Some(*reject)),
-            ],
-            out,
-        ),
-        Expression::Relational { argument, .. } => {
-            push_operands(&[("argument", Some(*argument))], out)
-        }
-        Expression::Math {
-            arg,
-            arg1,
-            arg2,
-            arg3,
-            ..
-        } => push_operands(
-            &[
-                ("arg", Some(*arg)),
-                ("arg1", *arg1),
-                ("arg2", *arg2),
-                ("arg3", *arg3),
-            ],
-            out,
-        ),
-        Expression::ArrayLength(array) => push_operands(&[("array", Some(*array))], out),
-        Expression::RayQueryGetIntersection { query, .. } => {
-            push_operands(&[("query", Some(*query))], out)
-        }
-        Expression::RayQueryVertexPositions { query, .. } => {
-            push_operands(&[("query", Some(*query))], out)
-        }
-        Expression::CooperativeLoad { data_, .. } => push_operands(
-            &[
-                ("pointer", Some(data_.pointer)),
-                ("stride", Some(data_.stride)),
-            ],
-            out,
-        ),
-        Expression::CooperativeMultiplyAdd { a, b, c } => push_operands(
-            &[("a", Some(*a)), ("b", Some(*b)), ("c", Some(*c))],
-            out,
-        ),
-        _ => push_of_image(expression, out),
+    if let Expression::Compose { components, .. } = expression {
+        push_list("components", components, out)?;
     }
-}
-
-/// The same of what asks an image.
-fn push_of_image(expression: &Expression, out: &mut String) -> Result<(), AllocError> {
-    match expression {
-        Expression::ImageSample {
-            image,
-            sampler,
-            coordinate,
-            array_index,
-            offset,
-            level,
-            depth_ref,
-            ..
-        } => {
-            push_operands(
-                &[
-                    ("image", Some(*image)),
-                    ("sampler", Some(*sampler)),
-                    ("coordinate", Some(*coordinate)),
-                    ("array_index", *array_index),
-                    ("offset", *offset),
-                    ("depth_ref", *depth_ref),
-                ],
-                out,
-            )?;
-            push_level(*level, out)
+    let mut separator = " ";
+    for number in 0..MOST_FIELDS {
+        if let Some(field) = expression.field(number) {
+            separator = push_field(separator, field, out)?;
         }
-        Expression::ImageLoad {
-            image,
-            coordinate,
-            array_index,
-            sample,
-            level,
-        } => push_operands(
-            &[
-                ("image", Some(*image)),
-                ("coordinate", Some(*coordinate)),
-                ("array_index", *array_index),
-                ("sample", *sample),
-                ("level", *level),
-            ],
-            out,
-        ),
-        Expression::ImageQuery { image, query } => push_operands(
-            &[("image", Some(*image)), ("level", query_level(*query))],
-            out,
-        ),
+    }
+    match expression {
+        Expression::AccessIndex { index, .. } => write!(out, ", index: {index}"),
+        Expression::ImageSample { level, .. } => push_level(*level, out),
         _ => Ok(()),
     }
 }
@@ -435,15 +291,11 @@ fn push_level(level: SampleLevel, out: &mut String) -> Result<(), AllocError> {
     match level {
         SampleLevel::Auto | SampleLevel::Zero => Ok(()),
         SampleLevel::Exact(handle) | SampleLevel::Bias(handle) => {
-            push_operands(&[("level", Some(handle))], out)
+            push_operand(" ", "level", handle, out)
         }
-        SampleLevel::Gradient { x, y } => { push_operands(&[("x", Some(x)), ("y", Some(y))], out) }
-    }
-}
-
-fn query_level(query: ImageQuery) -> Option<Handle<Expression>> {
-    match query {
-        ImageQuery::Size { level } => level,
-        _ => None,
+        SampleLevel::Gradient { x, y } => {
+            push_operand(" ", "x", x, out)?;
+            push_operand(", ", "y", y, out)
+        }
     }
 }

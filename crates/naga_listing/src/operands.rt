@@ -1,28 +1,32 @@
 //! Operands by their names, and labels.
 
-use naga_ir::{Expression, Handle};
+use naga_ir::{Expression, Field, Handle};
 use std::alloc::AllocError;
 
 /// At most so many items of a list are told.
 const MOST_TOLD: usize = 8;
 
-/// The name of an operand, and the operand if it is there.
-pub(crate) type Operand<'a> = (&'a str, Option<Handle<Expression>>);
+/// An expression or a statement has at most so many fields.
+pub(crate) const MOST_FIELDS: usize = 6;
 
-/// Appends the operands that are there: ` left: [0], right: [2]`.
-pub(crate) fn push_operands(operands: &[Operand<'_>], out: &mut String) -> Result<(), AllocError> {
-    let mut separator = " ";
-    for (name, operand) in operands {
-        if let Some(handle) = operand {
-            push_operand(separator, *name, *handle, out)?;
-            separator = ", ";
+/// Appends a field, if it holds an operand: `left: [0]`. What stands before the next one is returned.
+pub(crate) fn push_field(
+    separator: &'static str,
+    field: Field,
+    out: &mut String,
+) -> Result<&'static str, AllocError> {
+    let (name, operand) = field;
+    match operand {
+        Some(handle) => {
+            push_operand(separator, name, handle, out)?;
+            Ok(", ")
         }
+        None => Ok(separator),
     }
-    Ok(())
 }
 
 /// Appends one operand.
-fn push_operand(
+pub(crate) fn push_operand(
     separator: &str,
     name: &str,
     handle: Handle<Expression>,

@@ -1,11 +1,8 @@
 //! Statements, each in a line, without their blocks.
 
-use crate::expressions::{order_name, push_function};
-use crate::operands::{push_list, push_operands};
-use naga_ir::{
-    AtomicFunction, Direction, Expression, GatherMode, Handle, Module, Range, RayPipelineFunction,
-    Statement, SwitchValue,
-};
+use crate::expressions::push_function;
+use crate::operands::{MOST_FIELDS, push_field, push_list};
+use naga_ir::{AtomicFunction, Direction, GatherMode, Module, Range, Statement, SwitchValue};
 use std::alloc::AllocError;
 
 /// Appends what a statement is: `Store pointer: [0], value: [2]`.
@@ -14,38 +11,9 @@ pub(crate) fn push_statement(
     statement: &Statement,
     out: &mut String,
 ) -> Result<(), AllocError> {
-    out.push_str(statement_name(statement))?;
+    out.push_str(statement.name())?;
     push_choice(module, statement, out)?;
     push_of_statement(statement, out)
-}
-
-/// The name of the variant.
-fn statement_name(statement: &Statement) -> &'static str {
-    match statement {
-        Statement::Emit(_) => "Emit",
-        Statement::Block(_) => "Block",
-        Statement::If { .. } => "If",
-        Statement::Switch { .. } => "Switch",
-        Statement::Loop { .. } => "Loop",
-        Statement::Break => "Break",
-        Statement::Continue => "Continue",
-        Statement::Return { .. } => "Return",
-        Statement::Kill => "Kill",
-        Statement::ControlBarrier(_) => "ControlBarrier",
-        Statement::MemoryBarrier(_) => "MemoryBarrier",
-        Statement::Store { .. } => "Store",
-        Statement::ImageStore { .. } => "ImageStore",
-        Statement::Atomic { .. } => "Atomic",
-        Statement::ImageAtomic { .. } => "ImageAtomic",
-        Statement::WorkGroupUniformLoad { .. } => "WorkGroupUniformLoad",
-        Statement::Call { .. } => "Call",
-        Statement::RayQuery { .. } => "RayQuery",
-        Statement::SubgroupBallot { .. } => "SubgroupBallot",
-        Statement::SubgroupGather { .. } => "SubgroupGather",
-        Statement::SubgroupCollectiveOperation { .. } => "SubgroupCollectiveOperation",
-        Statement::CooperativeStore { .. } => "CooperativeStore",
-        Statement::RayPipelineFunction(_) => "RayPipelineFunction TraceRay",
-    }
 }
 
 /// Appends which of its kind the statement is.
@@ -63,7 +31,6 @@ fn push_choice(module: &Module, statement: &Statement, out: &mut String) -> Resu
             collective_op,
             ..
         } => write!(out, " {op:?} {collective_op:?}"),
-        Statement::CooperativeStore { data_, .. } => out.push_str(order_name(data_.row_major)),
         _ => Ok(()),
     }
 }
@@ -86,13 +53,6 @@ fn atomic_name(fun: AtomicFunction) -> &'static str {
     }
 }
 
-fn compared(fun: AtomicFunction) -> Option<Handle<Expression>> {
-    match fun {
-        AtomicFunction::Exchange { compare } => compare,
-        _ => None,
-    }
-}
-
 fn gather_name(mode: GatherMode) -> &'static str {
     match mode {
         GatherMode::BroadcastFirst => " BroadcastFirst",
@@ -110,145 +70,18 @@ fn gather_name(mode: GatherMode) -> &'static str {
     }
 }
 
-fn gather_index(mode: GatherMode) -> Option<Handle<Expression>> {
-    match mode {
-        GatherMode::BroadcastFirst | GatherMode::QuadSwap(_) => None,
-        GatherMode::Broadcast(index)
-        | GatherMode::Shuffle(index)
-        | GatherMode::ShuffleDown(index)
-        | GatherMode::ShuffleUp(index)
-        | GatherMode::ShuffleXor(index)
-        | GatherMode::QuadBroadcast(index) => Some(index),
-    }
-}
-
 /// Appends the operands and the result by their names.
 fn push_of_statement(statement: &Statement, out: &mut String) -> Result<(), AllocError> {
-    match statement {
-        Statement::If { condition, .. } => push_operands(&[("condition", Some(*condition))], out),
-        Statement::Switch { selector, .. } => push_operands(&[("selector", Some(*selector))], out),
-        Statement::Loop { break_if, .. } => push_operands(&[("break_if", *break_if)], out),
-        Statement::Return { value } => push_operands(&[("value", *value)], out),
-        Statement::Store { pointer, value } => {
-            push_operands(&[("pointer", Some(*pointer)), ("value", Some(*value))], out)
-        }
-        Statement::Call {
-            arguments,
-            result,
-            ..
-        } => {
-            push_list("arguments", arguments, out)?;
-            push_operands(&[("result", *result)], out)
-        }
-        Statement::RayQuery { query } => push_operands(&[("query", Some(*query))], out),
-        Statement::CooperativeStore { target, data_ } => push_operands(
-            &[
-                ("target", Some(*target)),
-                ("pointer", Some(data_.pointer)),
-                ("stride", Some(data_.stride)),
-            ],
-            out,
-        ),
-        Statement::RayPipelineFunction(fun) => push_of_ray(*fun, out),
-        _ => push_of_access(statement, out),
+    if let Statement::Call { arguments, .. } = statement {
+        push_list("arguments", arguments, out)?;
     }
-}
-
-fn push_of_ray(fun: RayPipelineFunction, out: &mut String) -> Result<(), AllocError> {
-    match fun {
-        RayPipelineFunction::TraceRay {
-            acceleration_structure,
-            descriptor,
-            payload,
-        } => push_operands(
-            &[
-                ("acceleration_structure", Some(acceleration_structure)),
-                ("descriptor", Some(descriptor)),
-                ("payload", Some(payload)),
-            ],
-            out,
-        ),
-    }
-}
-
-/// The same of what changes memory or images, and of what asks other invocations.
-fn push_of_access(statement: &Statement, out: &mut String) -> Result<(), AllocError> {
-    match statement {
-        Statement::ImageStore {
-            image,
-            coordinate,
-            array_index,
-            value,
-        } => push_operands(
-            &[
-                ("image", Some(*image)),
-                ("coordinate", Some(*coordinate)),
-                ("array_index", *array_index),
-                ("value", Some(*value)),
-            ],
-            out,
-        ),
-        Statement::Atomic {
-            pointer,
-            fun,
-            value,
-            result,
-        } => push_operands(
-            &[
-                ("pointer", Some(*pointer)),
-                ("compare", compared(*fun)),
-                ("value", Some(*value)),
-                ("result", *result),
-            ],
-            out,
-        ),
-        Statement::ImageAtomic {
-            image,
-            coordinate,
-            array_index,
-            fun,
-            value,
-        } => push_operands(
-            &[
-                ("image", Some(*image)),
-                ("coordinate", Some(*coordinate)),
-                ("array_index", *array_index),
-                ("compare", compared(*fun)),
-                ("value", Some(*value)),
-            ],
-            out,
-        ),
-        Statement::WorkGroupUniformLoad { pointer, result } => {
-            push_operands(
-                &[("pointer", Some(*pointer)), ("result", Some(*result))],
-                out,
-            )
+    let mut separator = " ";
+    for number in 0..MOST_FIELDS {
+        if let Some(field) = statement.field(number) {
+            separator = push_field(separator, field, out)?;
         }
-        Statement::SubgroupBallot { result, predicate } => {
-            push_operands(&[("predicate", *predicate), ("result", Some(*result))], out)
-        }
-        Statement::SubgroupGather {
-            mode,
-            argument,
-            result,
-        } => push_operands(
-            &[
-                ("index", gather_index(*mode)),
-                ("argument", Some(*argument)),
-                ("result", Some(*result)),
-            ],
-            out,
-        ),
-        Statement::SubgroupCollectiveOperation {
-            argument,
-            result,
-            ..
-        } => push_operands(
-            &[("argument", Some(*argument)), ("result", Some(*result))],
-            out,
-        ),
-        _ => Ok(()),
     }
+    Ok(())
 }
 
 /// Appends the first line of a case of a `Switch`: `case 1`, `default, falls through`.

@@ -5,7 +5,7 @@ pub mod Emitting
 pub mod ExpressionNames
 pub mod FormedStatements
 pub mod Holding
-pub mod Listed
+pub mod InOrder
 pub mod Logs
 pub mod Marking
 pub mod Offsets

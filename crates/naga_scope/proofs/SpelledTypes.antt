@@ -7,7 +7,7 @@ use Rattle.std.specs.List.{IsAmong, enumerate_from, filter, find}
 use Rattle.std.specs.Option.{option_map, option_map_or, option_or, option_to_list}
 use Rattle.std.proofs.lemmas.Bool.{and_parts, not-false, not-true}
 use Rattle.std.proofs.lemmas.List.Folds.{find-append}
-use Rattle.module_meaning.proofs.Fitting.{drop_first}
+use Rattle.naga_ir.proofs.Listed.{drop_first}
 use Rattle.module_meaning.specs.AlikeTypes.{is_spelled}
 use Rattle.module_meaning.specs.Undeclared.{is_spellable, names_undeclared}
 use Rattle.module_meaning.specs.FunctionShapes.{function_shape}
@@ -54,7 +54,7 @@ module _ {X Y : Type 0} (g : X → Y) (p : Y → Bool) (xs : List X) (i : ℕ) (
   from_here : find p (map g (drop i xs)) ≡ cond (p (g x)) (Some (g x)) (find p (map g (drop (i + 1) xs)))
   from_here =
       ap (λ ys. find p (map g ys))
-      (drop_first i xs x lt ∙ ap (λ y. y ∷ drop (i + 1) xs) (sym is))
+      (drop_first i xs x lt is)
 
   pub found_here : p (g x) ≡ true → Some (g x) ≡ find p (map g (drop i xs))
   found_here passes =

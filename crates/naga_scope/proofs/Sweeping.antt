@@ -1,7 +1,7 @@
 -- A sweep over a function's expressions from the last to the first, which marks what is written.
 use Rattle.std.proofs.Common.{◌≡◌, ℕ, zero, suc, ◌<◌, ◌≤◌, Bool, true, false, List, [], ◌∷◌}
 use Rattle.std.proofs.Common.{◌&&◌, ◌⊎◌, inl, inr, refl, sym, ap, ◌∙◌, subst, length, arith}
-use Rattle.std.proofs.Common.{nat_eq, nat_lt, Some, slice_get, eqb-true, ap₂}
+use Rattle.std.proofs.Common.{nat_eq, nat_lt, None, Option, Some, slice_get, eqb-true, ap₂}
 use Rattle.std.specs.Prelude.{IsTrue}
 use Rattle.std.specs.List.{IsAmong}
 use Rattle.std.proofs.lemmas.Bool.{and_parts, cases_order, eqb-false, false≢true, lt-ltb}
@@ -10,7 +10,7 @@ use Rattle.std.proofs.lemmas.Option.{same_Some, slice_get_within}
 use Rattle.module_meaning.specs.Written.{IsWritten, OperandOf, Root}
 use Rattle.naga_ir.specs.Operands.{expression_operands}
 use Rattle.naga_ir.specs.declared.expression.Expression.{Expression}
-use Rattle.naga_scope.specs.Marks.{MarksJust, is_marked, is_one_of, marked_with}
+use Rattle.naga_scope.specs.Marks.{MarksJust, Sweeps, is_marked, is_one_of, marked_with}
 use Rattle.shader_runs.specs.Premises.{AllBelow}
 
 -- ---- one of a list
@@ -195,3 +195,21 @@ module _ (expression_has_form : Expression → Bool) (es : List Expression) (roo
           (lt-ltb y (length old) (subst (λ n. y < n) (sym size) lt)))
       close j d y is there one lt (inr after) =
           stays y (swept.closed j d y after (was j (omega (arith, after)) is) there one lt)
+
+-- ---- other lists of the same handles
+module _ (es : List Expression) where
+  written_by : (roots other : List ℕ) → ((h : ℕ) → is_one_of roots h ≡ is_one_of other h) → (h : ℕ) →
+      IsWritten es roots h → IsWritten es other h
+  written_by roots other same h (Root _ is) = Root h (one_among other h (sym (same h) ∙ among_one roots h is))
+  written_by roots other same x (OperandOf h _ e written at among) =
+      OperandOf h x e (written_by roots other same h written) at among
+
+  pub sweeps_by : (formed : Expression → Bool) (roots other : List ℕ) → ((h : ℕ) → is_one_of roots h ≡ is_one_of other h) →
+      (found : Option ℕ) → Sweeps formed es roots found → Sweeps formed es other found
+  sweeps_by formed roots other same None each =
+      λ h e at written. each h e at (written_by other roots (λ h. sym (same h)) h written)
+  sweeps_by formed roots other same (Some h) swept = (
+    written_by roots other same h swept.0,
+    swept.1,
+    λ x e lt at written. swept.2 x e lt at (written_by other roots (λ h. sym (same h)) x written),
+  )

@@ -5,6 +5,7 @@ pub mod Declarations
 pub mod ExpressionNames
 pub mod FormlessStatements
 pub mod Forms
+pub mod InOrder
 pub mod KnownFunctions
 pub mod Log
 pub mod Marks

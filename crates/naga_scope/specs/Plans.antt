@@ -27,7 +27,8 @@ use Rattle.naga_names.specs.Naming.{HasNamed, Names}
 use Rattle.naga_scope.specs.ExpressionNames.{IsRefusalOfLabels}
 use Rattle.naga_scope.specs.Availabilities.{TextPoint, handles_of}
 use Rattle.naga_scope.specs.Changes.{block_changes}
-use Rattle.naga_scope.specs.FormlessStatements.{IsFormlessAt, formless_statement, number_block}
+use Rattle.naga_scope.specs.FormlessStatements.{FormedBefore, IsFormlessAt, formless_statement}
+use Rattle.naga_scope.specs.InOrder.{trees_in}
 use Rattle.naga_scope.specs.ScopeChecks.{check_function}
 use Rattle.naga_scope.specs.ScopeFaults.{IsScopeFault}
 use Rattle.naga_scope.specs.SpelledTypes.{annotated_formless, declared_formless}
@@ -110,7 +111,7 @@ IsFirstToPlan Labelled explicit m info f es (OutOfScope fault) =
     Labelled × (check_function (function_naming (λ key. None) (λ number. []) m info 0 f es)
     ≡ Err fault)
 IsFirstToPlan Labelled explicit m info f es (StatementWithoutForm n it) =
-    Labelled × ScopeHolds (function_shape m info f es) × (number_block 0 f.body ≡ Err (n, it))
+    Labelled × ScopeHolds (function_shape m info f es) × FormedBefore (trees_in f.body) n
 IsFirstToPlan Labelled explicit m info f es (WithoutForm h) =
     Labelled × ScopeHolds (function_shape m info f es) × IsTrue (block_has_forms f.body)
     × ((x : ℕ) (e : Expression) → h < x → slice_get f.expressions x ≡ Some e →

@@ -360,7 +360,7 @@ fn check_act(
 /// The first fault of these statements, the first of which has this number, or the number of the
 /// statement after them. Where there is none, the scope is then after them.
 #[cycle(check)]
-#[tactic(auto, using(crate::proofs::Logs::extends_refl, crate::proofs::Logs::extends_then, crate::proofs::KeptPoints::point_kept, crate::proofs::Listed::first_of, crate::proofs::Listed::none_of, crate::proofs::ScopeChecks::given_back))]
+#[tactic(auto, using(crate::proofs::Logs::extends_refl, crate::proofs::Logs::extends_then, crate::proofs::KeptPoints::point_kept, naga_ir::proofs::Listed::first_of, naga_ir::proofs::Listed::none_of, crate::proofs::ScopeChecks::given_back))]
 fn check_lines(
     scope: &mut Scope,
     known: &KnownFunction<'_>,

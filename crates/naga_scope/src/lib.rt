@@ -10,6 +10,7 @@ pub mod continues;
 pub mod declarations;
 mod forms;
 pub mod functions;
+mod in_order;
 mod known_function;
 mod named;
 pub mod plan;

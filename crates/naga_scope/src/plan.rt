@@ -17,8 +17,10 @@ ghost use Rattle.naga_scope.specs.Results.{ResultsFit};
 ghost use Rattle.naga_scope.specs.Tables.{AreTablesOf};
 ghost use Rattle.naga_scope.specs.declared.plan.PlanError.TheVariants.{Memory, OutOfScope, Unnamed};
 
+use crate::changes::count_changes;
 use crate::check::check_function;
 use crate::functions::function_of;
+use crate::in_order::statements_in;
 use crate::known_function::KnownFunction;
 use crate::named::expression_names;
 use crate::points::Scope;
@@ -41,9 +43,8 @@ use std::marker::Model;
 pub enum PlanError {
     /// The rules of scope don't hold in the function: this is the first fault.
     OutOfScope(ScopeFault),
-    /// A statement, or a case of a `switch`, is the first in the order of the text without a form:
-    /// the one with this number, where those in blocks are counted too, each after the one that
-    /// holds the block, from 0 (modulo 2^64).
+    /// The statement with this number is the first without a form, where those in blocks are
+    /// counted too, each after the one that holds the block, from 0. A case is told by its `switch`.
     StatementWithoutForm(usize, FormlessStatement),
     /// The expression with this handle is written, and has no form.
     WithoutForm(Handle<Expression>),
@@ -115,9 +116,10 @@ impl Plan {
     /// The namer names the labels that front ends gave to what the function emits, in the order of
     /// the text. Where there is no plan, it has named some first ones of them.
     ///
-    /// Beside the names it takes memory four times: one table and its log serve the check, are then
-    /// set back to the function's start, and serve the text; two others have the marks of what may
-    /// be written out as a constant and of what is written, and are given back.
+    /// Beside the names it takes memory for a list of the statements, and four times more: one table
+    /// and its log serve the check, are then set back to the function's start, and serve the text;
+    /// two others have the marks of what may be written out as a constant and of what is written,
+    /// and are given back as the list is.
     pub fn of<'a>(
         alloc: Global,
         module: &'a Module,
@@ -177,19 +179,24 @@ impl Plan {
         ensures begun { OnErr result
             (HasBegunLabels namer.old (expression_labels known.now.function.now) namer.new) }
     {
-        let named = expression_names(alloc, known.function, namer)?;
-        let mut scope = Scope::start(alloc, known.function)?;
+        let found = statements_in(alloc, &known.function.body)?;
+        let statements = found.as_slice();
+        let named = expression_names(alloc, known.function, statements, namer)?;
+        let Some(changes) = count_changes(statements) else {
+            return Err(PlanError::Memory(AllocError));
+        };
+        let mut scope = Scope::start(alloc, known.function, changes)?;
         check_function(&mut scope, known)?;
-        if let Some((number, formless)) = formless_statement(&known.function.body) {
+        if let Some((number, formless)) = formless_statement(statements) {
             return Err(PlanError::StatementWithoutForm(number, formless));
         }
-        if let Some(handle) = written_without_form(alloc, known, names)? {
+        if let Some(handle) = written_without_form(alloc, known, statements, names)? {
             return Err(PlanError::WithoutForm(handle));
         }
         if let Some(ty) = declared_without_form(known.shader, known.tables, known.function) {
             return Err(PlanError::TypeWithoutForm(ty));
         }
-        if let Some(handle) = annotated_without_form(known, explicit) {
+        if let Some(handle) = annotated_without_form(known, statements, explicit) {
             return Err(PlanError::LetWithoutForm(handle));
         }
         scope.restart(known.function);

@@ -24,7 +24,6 @@ ghost use Rattle.naga_scope.specs.Availabilities.{forgotten_cell, handles_of, is
 ghost use Rattle.naga_scope.specs.Availabilities.{is_new_cell, is_pure_kind, next_name};
 ghost use Rattle.naga_scope.specs.Availabilities.{operands_at};
 ghost use Rattle.naga_scope.specs.Availabilities.{unbound_availability, usable_by};
-ghost use Rattle.naga_scope.specs.Changes.{block_changes};
 ghost use Rattle.naga_scope.specs.KnownFunctions.{IsPointOf, handles_at, shape_of};
 ghost use Rattle.naga_scope.specs.Log.{Counted, Extends, HasRoom, Reverts, Same, back_to};
 ghost use Rattle.naga_scope.specs.Log.{forget_at, grows};
@@ -32,7 +31,6 @@ ghost use Rattle.naga_scope.specs.Log.{forget_at, grows};
 use crate::binding::{
     binds, expression_at, is_constant_leaf, is_named, is_operator, kind_at, label_of,
 };
-use crate::changes::count_in_block;
 use crate::known_function::KnownFunction;
 use naga_info::FunctionInfo;
 use naga_ir::{Expression, Function, Handle, Place, Type_, UniqueArena};
@@ -266,27 +264,8 @@ fn stands_usable(
 
 impl Scope {
     /// Where the expressions stand at the start of the function: operators over constants alone are
-    /// in scope everywhere, and all others are absent. It has room for all that the function's body
-    /// introduces, and where a `usize` doesn't hold the number of that, there is no memory for it.
-    pub fn start(alloc: Global, function: &Function) -> Result<Scope, AllocError>
-        requires ordered { OperandsStandBefore function.now.expressions }
-        ensures start { (named : ℕ → List ℕ) (m : Module) (known : ModuleInfo)
-            (es : List ExpressionInfo) → IfOk result (λ s.
-            handles_of named s.table ≡ at_start (function_shape m known function.now es)) }
-        ensures named { IfOk result (λ s. s.named ≡ 0) }
-        ensures size { IfOk result (λ s. length s.table ≡ length function.now.expressions) }
-        ensures counted { IfOk result
-            (λ _. IsTrue (nat_le (length function.now.expressions) (2 ^ 64))) }
-        ensures room { IfOk result (λ s. HasRoom s (block_changes function.now.body)) }
-    {
-        match count_in_block(&function.body, 0) {
-            Some(changes) => Scope::with_room(alloc, function, changes),
-            None => Err(AllocError),
-        }
-    }
-
-    /// Where the expressions stand at the start of the function, with room for as many changes.
-    fn with_room(alloc: Global, function: &Function, changes: usize) -> Result<Scope, AllocError>
+    /// in scope everywhere, and all others are absent. It has room for as many changes.
+    pub fn start(alloc: Global, function: &Function, changes: usize) -> Result<Scope, AllocError>
         requires ordered { OperandsStandBefore function.now.expressions }
         ensures start { (named : ℕ → List ℕ) (m : Module) (known : ModuleInfo)
             (es : List ExpressionInfo) → IfOk result (λ s.

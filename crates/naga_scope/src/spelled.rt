@@ -1,14 +1,13 @@
 //! Which of the types that the text of a function spells no text can spell.
 
-ghost use Rattle.std.specs.Prelude.{◌≡◌, ◌++◌, ◌-◌, ◌&&◌, map};
-ghost use Rattle.std.specs.List.{filter, find};
+ghost use Rattle.std.specs.Prelude.{◌≡◌, ◌-◌, ◌&&◌, None, if◌then◌else◌, map};
+ghost use Rattle.std.specs.List.{filter, find, flat_map};
 ghost use Rattle.std.specs.Option.{option_map, option_to_list};
-ghost use Rattle.module_meaning.specs.Written.{block_lets, cases_lets, statement_lets};
 ghost use Rattle.naga_ir.specs.Operands.{own_result};
-ghost use Rattle.naga_ir.specs.StatementViews.{cases_of, tree_of};
+ghost use Rattle.naga_ir.specs.StatementViews.{tree_of};
+ghost use Rattle.naga_scope.specs.InOrder.{own_lets, trees_of};
 ghost use Rattle.naga_scope.specs.KnownFunctions.{bound_in};
-ghost use Rattle.naga_scope.specs.SpelledTypes.{annotated_formless, declared_formless};
-ghost use Rattle.naga_scope.specs.SpelledTypes.{is_formless, is_formless_let};
+ghost use Rattle.naga_scope.specs.SpelledTypes.{declared_formless, is_formless, is_formless_let};
 ghost use Rattle.naga_scope.specs.Tables.{AreTablesOf};
 ghost use Rattle.shader_runs.specs.Program.{from};
 
@@ -16,8 +15,8 @@ use crate::known_function::KnownFunction;
 use crate::tables::ModuleTables;
 use naga_info::FunctionInfo;
 use naga_ir::{
-    Block, Expression, Function, FunctionArgument, FunctionResult, Handle, Module, Place, Range,
-    Statement, SwitchCase, Type_,
+    Expression, Function, FunctionArgument, FunctionResult, Handle, Module, Place, Range,
+    Statement, Type_,
 };
 
 fn argument_without_form(
@@ -165,14 +164,29 @@ fn result_without_form(
     }
 }
 
-/// The first expression of the block whose `let` tells a type without a form.
-#[cycle(lets)]
-fn let_in_block(known: &KnownFunction<'_>, block: &Block) -> Option<Handle<Expression>>
+/// The first expression that the statement's `let`s name, those in its blocks left out, whose type
+/// has no form.
+fn let_in_statement(known: &KnownFunction<'_>, statement: &Statement) -> Option<Handle<Expression>>
     requires tables { AreTablesOf known.now.shader.now known.now.tables.now }
     ensures { result ≡ find (is_formless_let known.now.shader.now known.now.info.now)
-        (block_lets (bound_in known.now) block.now) }
+        (own_lets (bound_in known.now) (tree_of statement.now)) }
 {
-    for statement in block.as_slice() {
+    match statement {
+        Statement::Emit(range) => emitted_without_form(known, *range),
+        _ => result_without_form(known, statement),
+    }
+}
+
+/// The first expression that a `let` of these statements names and whose type has no form.
+fn let_without_form(
+    known: &KnownFunction<'_>,
+    statements: &[&Statement],
+) -> Option<Handle<Expression>>
+    requires tables { AreTablesOf known.now.shader.now known.now.tables.now }
+    ensures { result ≡ find (is_formless_let known.now.shader.now known.now.info.now)
+        (flat_map (own_lets (bound_in known.now)) (trees_of statements.now)) }
+{
+    for statement in statements {
         if let Some(handle) = let_in_statement(known, statement) {
             return Some(handle);
         }
@@ -180,68 +194,19 @@ fn let_in_block(known: &KnownFunction<'_>, block: &Block) -> Option<Handle<Expre
     None
 }
 
-#[cycle(lets)]
-fn let_in_statement(known: &KnownFunction<'_>, statement: &Statement) -> Option<Handle<Expression>>
-    requires tables { AreTablesOf known.now.shader.now known.now.tables.now }
-    ensures { result ≡ find (is_formless_let known.now.shader.now known.now.info.now)
-        (statement_lets (bound_in known.now) (tree_of statement.now)) }
-{
-    match statement {
-        Statement::Emit(range) => emitted_without_form(known, *range),
-        Statement::Block(block) => let_in_block(known, block),
-        Statement::If { accept, reject, .. } => let_in_either(known, accept, reject),
-        Statement::Switch { cases, .. } => let_in_cases(known, cases),
-        Statement::Loop {
-            body,
-            continuing,
-            ..
-        } => let_in_either(known, body, continuing),
-        _ => result_without_form(known, statement),
-    }
-}
-
-#[cycle(lets)]
-fn let_in_either(
-    known: &KnownFunction<'_>,
-    first: &Block,
-    second: &Block,
-) -> Option<Handle<Expression>>
-    requires tables { AreTablesOf known.now.shader.now known.now.tables.now }
-    ensures { result ≡ find (is_formless_let known.now.shader.now known.now.info.now)
-        (block_lets (bound_in known.now) first.now ++ block_lets (bound_in known.now) second.now) }
-{
-    match let_in_block(known, first) {
-        Some(handle) => Some(handle),
-        None => let_in_block(known, second),
-    }
-}
-
-#[cycle(lets)]
-fn let_in_cases(known: &KnownFunction<'_>, cases: &[SwitchCase]) -> Option<Handle<Expression>>
-    requires tables { AreTablesOf known.now.shader.now known.now.tables.now }
-    ensures { result ≡ find (is_formless_let known.now.shader.now known.now.info.now)
-        (cases_lets (bound_in known.now) (cases_of cases.now)) }
-{
-    for case in cases {
-        if let Some(handle) = let_in_block(known, &case.body) {
-            return Some(handle);
-        }
-    }
-    None
-}
-
-/// The first expression whose `let` tells a type without a form, if there is one and `let`s tell
-/// types.
+/// The same where `let`s tell types, and else none.
 pub(crate) fn annotated_without_form(
     known: &KnownFunction<'_>,
+    statements: &[&Statement],
     explicit: bool,
 ) -> Option<Handle<Expression>>
     requires tables { AreTablesOf known.now.shader.now known.now.tables.now }
-    ensures { result ≡ annotated_formless explicit known.now.shader.now known.now.info.now
-        (bound_in known.now) known.now.function.now }
+    ensures { result
+        ≡ if explicit then find (is_formless_let known.now.shader.now known.now.info.now)
+        (flat_map (own_lets (bound_in known.now)) (trees_of statements.now)) else None }
 {
     if explicit {
-        let_in_block(known, &known.function.body)
+        let_without_form(known, statements)
     } else {
         None
     }

@@ -5,18 +5,16 @@ ghost use Rattle.std.specs.Prelude.{[], ◌∷◌, ◌≡◌, ◌-◌, ℕ, List
 ghost use Rattle.std.specs.List.{filter, flat_map, list_all};
 ghost use Rattle.std.specs.Option.{option_to_list};
 ghost use Rattle.naga_ir.specs.Operands.{expression_operands, own_operands};
-ghost use Rattle.naga_ir.specs.StatementTree.{branch, loop, switch};
-ghost use Rattle.naga_ir.specs.StatementViews.{cases_of, tree_of};
+ghost use Rattle.naga_ir.specs.StatementViews.{tree_of};
 ghost use Rattle.naga_ir.specs.declared.expression.Expression.{Expression};
 ghost use Rattle.naga_names.specs.Keys.{names_in};
 ghost use Rattle.module_meaning.specs.Names.{HasNamesOf};
 ghost use Rattle.module_meaning.specs.Premises.{OperandsStandBefore};
 ghost use Rattle.module_meaning.specs.Sampling.{own_offset_is_written};
 ghost use Rattle.module_meaning.specs.WrittenOut.{written_out_over};
-ghost use Rattle.module_meaning.specs.Written.{block_roots, cases_roots, function_roots};
-ghost use Rattle.module_meaning.specs.Written.{statement_roots};
 ghost use Rattle.module_meaning.specs.ExpressionForms.{expression_has_form};
 ghost use Rattle.naga_scope.specs.Forms.{AreKnownIn};
+ghost use Rattle.naga_scope.specs.InOrder.{own_roots, roots_with, trees_of};
 ghost use Rattle.naga_scope.specs.KnownFunctions.{bound_in, expressions_of, has_form_in};
 ghost use Rattle.naga_scope.specs.Marks.{MarksAlso, MarksConstants, MarksJust, Sweeps};
 ghost use Rattle.naga_scope.specs.Marks.{is_marked};
@@ -27,7 +25,7 @@ use crate::forms::is_written;
 use crate::known_function::KnownFunction;
 use crate::tables::ModuleTables;
 use naga_info::FunctionInfo;
-use naga_ir::{Block, Expression, Function, Handle, Module, Place, Range, Statement, SwitchCase};
+use naga_ir::{Expression, Function, Handle, Module, Place, Range, Statement};
 use naga_names::NameKey;
 use std::alloc::{AllocError, Global};
 use std::collections::HashMap;
@@ -152,100 +150,25 @@ fn mark_own(marks: &mut [bool], statement: &Statement)
     }
 }
 
-/// Marks what the statements of a block write by themselves.
-#[cycle(mark)]
-#[tactic(auto, using(crate::proofs::Marking::marks_none, crate::proofs::Marking::marks_then))]
-fn mark_block(marks: &mut [bool], known: &KnownFunction<'_>, block: &Block)
-    ensures { MarksAlso marks.old (block_roots (bound_in known.now) block.now) marks.new }
-{
-    for statement in block.as_slice() {
-        mark_statement(marks, known, statement);
-    }
-}
-
-/// Marks what a statement and those in its blocks write by themselves.
-#[cycle(mark)]
-#[tactic(auto, using(crate::proofs::Marking::marks_then))]
+/// Marks what a statement writes by itself.
 fn mark_statement(marks: &mut [bool], known: &KnownFunction<'_>, statement: &Statement)
-    ensures { MarksAlso marks.old (statement_roots (bound_in known.now) (tree_of statement.now))
+    ensures { MarksAlso marks.old (own_roots (bound_in known.now) (tree_of statement.now))
         marks.new }
 {
     match statement {
         Statement::Emit(range) => mark_emitted(marks, known, *range),
-        Statement::Block(block) => mark_block(marks, known, block),
-        Statement::If {
-            condition,
-            accept,
-            reject,
-        } => mark_branch(marks, known, *condition, accept, reject),
-        Statement::Switch { selector, cases } => mark_switch(marks, known, *selector, cases),
-        Statement::Loop {
-            body,
-            continuing,
-            break_if,
-        } => mark_loop(marks, known, body, continuing, *break_if),
         _ => mark_own(marks, statement),
     }
 }
 
-#[cycle(mark)]
-#[tactic(auto, using(crate::proofs::Marking::marks_then))]
-fn mark_branch(
-    marks: &mut [bool],
-    known: &KnownFunction<'_>,
-    condition: Handle<Expression>,
-    accept: &Block,
-    reject: &Block,
-)
+/// Marks what these statements write by themselves.
+fn mark_statements(marks: &mut [bool], known: &KnownFunction<'_>, statements: &[&Statement])
     ensures { MarksAlso marks.old
-        (statement_roots (bound_in known.now) (branch condition accept.now reject.now)) marks.new }
+        (flat_map (own_roots (bound_in known.now)) (trees_of statements.now)) marks.new }
 {
-    mark(marks, condition);
-    mark_block(marks, known, accept);
-    mark_block(marks, known, reject);
-}
-
-#[cycle(mark)]
-#[tactic(auto, using(crate::proofs::Marking::marks_then))]
-fn mark_switch(
-    marks: &mut [bool],
-    known: &KnownFunction<'_>,
-    selector: Handle<Expression>,
-    cases: &[SwitchCase],
-)
-    ensures { MarksAlso marks.old
-        (statement_roots (bound_in known.now) (switch selector (cases_of cases.now))) marks.new }
-{
-    mark(marks, selector);
-    mark_cases(marks, known, cases);
-}
-
-#[cycle(mark)]
-#[tactic(auto, using(crate::proofs::Marking::marks_none, crate::proofs::Marking::marks_then))]
-fn mark_cases(marks: &mut [bool], known: &KnownFunction<'_>, cases: &[SwitchCase])
-    ensures { MarksAlso marks.old (cases_roots (bound_in known.now) (cases_of cases.now))
-        marks.new }
-{
-    for case in cases {
-        mark_block(marks, known, &case.body);
+    for statement in statements {
+        mark_statement(marks, known, statement);
     }
-}
-
-#[cycle(mark)]
-#[tactic(auto, using(crate::proofs::Marking::marks_then))]
-fn mark_loop(
-    marks: &mut [bool],
-    known: &KnownFunction<'_>,
-    body: &Block,
-    continuing: &Block,
-    break_if: Option<Handle<Expression>>,
-)
-    ensures { MarksAlso marks.old
-        (statement_roots (bound_in known.now) (loop body.now continuing.now break_if)) marks.new }
-{
-    mark_block(marks, known, body);
-    mark_block(marks, known, continuing);
-    mark_present(marks, break_if);
 }
 
 /// Marks the item with this handle, if there is one.
@@ -322,12 +245,13 @@ fn sweep(
     None
 }
 
-/// The last written expression of the function that has no form, if there is one, by a table without
-/// marks and one of those that may be written out as constants.
+/// The last written expression of the function, which has these statements, that has no form, if
+/// there is one, by a table without marks and one of those that may be written out as constants.
 fn without_form(
     marks: &mut [bool],
     constants: &[bool],
     known: &KnownFunction<'_>,
+    statements: &[&Statement],
     names: &HashMap<NameKey, String>,
 ) -> Option<Handle<Expression>>
     requires ordered { OperandsStandBefore (expressions_of known.now) }
@@ -337,10 +261,10 @@ fn without_form(
     requires named { HasNamesOf known.now.shader.now (names_in names.now) }
     requires types { AreKnownIn known.now.shader.now.types known.now.info.now }
     ensures { Sweeps (has_form_in known.now) (expressions_of known.now)
-        (function_roots (bound_in known.now) known.now.function.now) result }
+        (roots_with (bound_in known.now) known.now.function.now (trees_of statements.now)) result }
 {
     mark_first_values(marks, known.function);
-    mark_block(marks, known, &known.function.body);
+    mark_statements(marks, known, statements);
     sweep(
         marks,
         constants,
@@ -352,10 +276,12 @@ fn without_form(
     )
 }
 
-/// The last written expression of the function that has no form, if there is one.
+/// The last written expression of the function, which has these statements, that has no form, if
+/// there is one.
 pub(crate) fn written_without_form(
     alloc: Global,
     known: &KnownFunction<'_>,
+    statements: &[&Statement],
     names: &HashMap<NameKey, String>,
 ) -> Result<Option<Handle<Expression>>, AllocError>
     requires ordered { OperandsStandBefore (expressions_of known.now) }
@@ -363,10 +289,10 @@ pub(crate) fn written_without_form(
     requires named { HasNamesOf known.now.shader.now (names_in names.now) }
     requires types { AreKnownIn known.now.shader.now.types known.now.info.now }
     ensures { IfOk result (Sweeps (has_form_in known.now) (expressions_of known.now)
-        (function_roots (bound_in known.now) known.now.function.now)) }
+        (roots_with (bound_in known.now) known.now.function.now (trees_of statements.now))) }
 {
     let mut constants = no_marks(alloc, known.function.expressions.len())?;
     mark_constants(&mut constants, known.function);
     let mut marks = no_marks(alloc, known.function.expressions.len())?;
-    Ok(without_form(&mut marks, &constants, known, names))
+    Ok(without_form(&mut marks, &constants, known, statements, names))
 }

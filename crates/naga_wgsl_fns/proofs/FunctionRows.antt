@@ -60,7 +60,7 @@ use Rattle.naga_wgsl_fns.specs.Names.{name_of_argument, name_of_function, name_o
 use Rattle.naga_wgsl_fns.specs.Types.{type_text}
 use Rattle.naga_wgsl_fns.specs.Expressions.{value_text}
 use Rattle.naga_wgsl_fns.specs.Statements.{block_text, lines_text}
-use Rattle.naga_wgsl_fns.proofs.StatementRows.{drop_first}
+use Rattle.naga_ir.proofs.Listed.{drop_first}
 use Rattle.naga_wgsl_fns.specs.Functions.{StartsAt, answer_text, argument_text, arguments_text}
 use Rattle.naga_wgsl_fns.specs.Functions.{body_text, first_form, first_text, first_value_text}
 use Rattle.naga_wgsl_fns.specs.Functions.{form_of, function_text, group_end_text, head_text}

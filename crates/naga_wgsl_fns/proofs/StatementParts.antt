@@ -7,7 +7,7 @@ use Rattle.std.proofs.Common.{◌≡◌, ℕ, Bool, true, false, List, [], ◌�
 use Rattle.std.proofs.Common.{length, subst, refl, sym, ◌+◌, ◌<◌, drop, slice_index_or}
 use Rattle.naga_ir.specs.StatementViews.{block_of, tree_of}
 use Rattle.naga_ir.specs.declared.statement.Statement.{Statement}
-use Rattle.naga_scope.proofs.Listed.{first_of}
+use Rattle.naga_ir.proofs.Listed.{first_of}
 use Rattle.shader_runs.proofs.Update.{and_both}
 use Rattle.std.specs.Prelude.{◌&&◌, ◌||◌, nat_lt, not}
 use Rattle.std.specs.Option.{option_to_list}

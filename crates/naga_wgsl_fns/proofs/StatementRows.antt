@@ -11,7 +11,7 @@ use Rattle.naga_ir.specs.Operands.{own_operands, own_result}
 use Rattle.module_meaning.specs.ExpressionOperators.{ExpressionContext, is_atomic_pointer}
 use Rattle.std.proofs.Common.{◌≡◌, ℕ, ◌+◌, ◌-◌, ◌<◌, ◌≤◌, ◌*◌, zero, suc, Bool, true, false, List}
 use Rattle.std.proofs.Common.{[], ◌∷◌, ◌++◌, Option, None, Some, length, refl, sym, ap, ◌∙◌, arith}
-use Rattle.std.proofs.Common.{add-one, codes, replicate, drop, drop-cons, slice_index_or}
+use Rattle.std.proofs.Common.{codes, replicate, drop, slice_index_or}
 use Rattle.std.proofs.Common.{append_assoc, IsTrue}
 use Rattle.std.specs.Prelude.{cond, nat_le}
 use Rattle.std.proofs.lemmas.Bool.{and_parts, leb-true}
@@ -22,7 +22,7 @@ use Rattle.std.specs.Option.{option_map, option_to_list}
 use Rattle.naga_ir.specs.StatementViews.{tree_of, block_of}
 use Rattle.naga_ir.specs.declared.statement.Statement.{Statement}
 use Rattle.naga_back.specs.Indentation.{indentation}
-use Rattle.naga_scope.proofs.Listed.{first_of}
+use Rattle.naga_ir.proofs.Listed.{first_of}
 use Rattle.module_meaning.specs.Ranges.{named_in_range, statement_in_range}
 use Rattle.shader_runs.specs.Program as shapes
 use Rattle.shader_runs.specs.Program.{binds, from}
@@ -372,10 +372,6 @@ module _ (f : FunctionText) where
   no_lines k s i = refl
 
 -- ---- a loop over statements
--- a list from an item of it on
-pub drop_first : {X : Type 0} (i : ℕ) (xs : List X) (x : X) → i < length xs → x ≡ slice_index_or xs i x → drop i xs ≡ x ∷ drop (i + 1) xs
-drop_first i xs x h is = rw (add-one, drop-cons xs i x) (ap (λ y. y ∷ drop (suc i) xs) (sym is))
-
 -- one more, and none
 pub lines_more : (f : FunctionText) (k k1 : ℕ) (s s1 : Handles) (i : ℕ) (items : List Statement) (n : ℕ) (item : Statement) → n < length items → item ≡ slice_index_or items n item
     → k1 ≡ named_behind_statement f (tree_of item) k → s1 ≡ after_statement f k (tree_of item) s

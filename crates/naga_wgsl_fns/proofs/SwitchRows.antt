@@ -3,15 +3,14 @@ use Rattle.std.proofs.Common.{◌==◌, ne_eqb}
 use Rattle.naga_wgsl_fns.specs.Statements.{stands_alone}
 use Rattle.std.specs.Prelude.{if◌then◌else◌}
 use Rattle.std.proofs.Common.{◌-◌, zero, arith}
-use Rattle.naga_scope.proofs.Listed.{first_case}
 use Rattle.std.proofs.Common.{◌≡◌, ℕ, ℤ, pos, negsuc, ◌*◌, ◌+◌, ◌<◌, ◌≤◌, suc, Bool, true, false, List, [], ◌∷◌, ◌++◌, codes, decimal}
-use Rattle.std.proofs.Common.{replicate, refl, sym, ap, ◌∙◌, append_assoc, drop, take, length, map, slice_index_or}
+use Rattle.std.proofs.Common.{replicate, refl, sym, ap, ◌∙◌, append_assoc, drop, take, length, slice_index_or}
 use Rattle.std.specs.Fmt.{signed_decimal}
 use Rattle.std.proofs.lemmas.List.{append-nil, drop_all}
 use Rattle.naga_back.specs.Indentation.{indentation}
 use Rattle.naga_form.specs.Expressions.{value_form}
 use Rattle.naga_form.specs.Statements.{cases_form, label_form, labels_form, lines_form}
-use Rattle.naga_ir.specs.StatementTree.{switch, BlockTree, no_statements, CaseTrees, case, no_cases}
+use Rattle.naga_ir.specs.StatementTree.{switch, BlockTree, CaseTrees, case, no_cases}
 use Rattle.naga_ir.specs.StatementViews.{cases_of}
 use Rattle.naga_ir.specs.declared.statement.SwitchCase.{SwitchCase}
 use Rattle.naga_ir.specs.declared.statement.SwitchValue.{SwitchValue}
@@ -21,8 +20,8 @@ use Rattle.shader_runs.specs.Scope.{Handles}
 use Rattle.wgsl_text.proofs.Statements.{case_text as case_row_text, switch_text}
 use Rattle.wgsl_text.proofs.Text.{text-append}
 use Rattle.wgsl_text.specs.Reading.{expression_layout}
-use Rattle.wgsl_text.specs.Statements.{Cases, DefaultLabel, Label, LastLabel, MoreLabels, SignedLabel, UnsignedLabel}
-use Rattle.wgsl_text.specs.Statements.{NoStatements, Statements, case_pieces, cases_pieces, label_pieces, labels_pieces, statements_pieces}
+use Rattle.wgsl_text.specs.Statements.{DefaultLabel, Label, SignedLabel, UnsignedLabel}
+use Rattle.wgsl_text.specs.Statements.{case_pieces, cases_pieces, label_pieces, labels_pieces, statements_pieces}
 use Rattle.wgsl_text.specs.Statements as tree
 use Rattle.wgsl_text.specs.Text.{text}
 use Rattle.wgsl_text.specs.Token.{Colon, mark}
@@ -30,7 +29,8 @@ use Rattle.naga_wgsl_fns.specs.FunctionText.{let_annotation, naming, source}
 use Rattle.naga_wgsl_fns.specs.Statements.{around_text, block_text, case_text, cases_text, group_start, group_text, label_text, labels_of}
 use Rattle.naga_wgsl_fns.specs.Statements.{line_start, named_behind, statement_text, waiting_text}
 use Rattle.naga_wgsl_fns.specs.declared.functions.FunctionText.{FunctionText}
-use Rattle.naga_wgsl_fns.proofs.StatementRows.{drop_first, indentation_row, one_line}
+use Rattle.naga_wgsl_fns.proofs.StatementRows.{indentation_row, one_line}
+use Rattle.naga_ir.proofs.Listed.{drop_first, first_case}
 
 -- ---- labels
 pub signed_row : (z : ℤ) → label_text (label_form (label.I32 z)) ≡ signed_decimal z ++ codes ""

@@ -42,7 +42,7 @@ use Rattle.wgsl_text.specs.Declarations.{Struct, StructMember, members_pieces, s
 use Rattle.wgsl_text.specs.Text.{text}
 use Rattle.naga_wgsl_fns.proofs.AttributeRows.{attributes_then, no_attributes, numbered_alone}
 use Rattle.naga_wgsl_fns.proofs.FunctionRows.{drop_at}
-use Rattle.naga_wgsl_fns.proofs.StatementRows.{drop_first}
+use Rattle.naga_ir.proofs.Listed.{drop_first}
 use Rattle.naga_wgsl_fns.specs.Attributes.{attributes_text, numbered_text}
 use Rattle.naga_wgsl_fns.specs.Bindings.{passing_has_form}
 use Rattle.naga_wgsl_fns.specs.Types.{spelled_text}

@@ -5,7 +5,8 @@ use Rattle.wgsl_layout.specs.declared.layouts.Placed.{Placed}
 use Rattle.naga_layout.specs.Capped.{left_from}
 use Rattle.naga_layout.specs.Tables.{written_rule}
 use Rattle.naga_layout.specs.Types.{kept_struct, layout_at}
-use Rattle.naga_layout.proofs.Left.{drop_first, one_more, struct_left}
+use Rattle.naga_ir.proofs.Listed.{drop_first}
+use Rattle.naga_layout.proofs.Left.{one_more, struct_left}
 use Rattle.naga_layout.proofs.table.kept_struct.Goals as goal
 
 pub loop-member-init : goal.loop-member-init

@@ -5,7 +5,8 @@ use Rattle.wgsl_layout.specs.declared.layouts.Placed.{Placed}
 use Rattle.naga_layout.specs.Capped.{left_from}
 use Rattle.naga_layout.specs.Types.{kept_struct, layout_at, told_rule}
 use Rattle.naga_layout.proofs.Levels.{layout_is, told_is}
-use Rattle.naga_layout.proofs.Left.{drop_first, one_more, struct_left}
+use Rattle.naga_ir.proofs.Listed.{drop_first}
+use Rattle.naga_layout.proofs.Left.{one_more, struct_left}
 use Rattle.naga_layout.proofs.types.+layouts.Goals as goal
 
 pub kept_new-remember-requires-clause-layout : goal.kept_new-remember-requires-clause-layout

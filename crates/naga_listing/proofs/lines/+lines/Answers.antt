@@ -2,7 +2,7 @@ use Rattle.std.proofs.Common.{ap, arith}
 use Rattle.naga_ir.specs.StatementTree.{block_size, cases_size}
 use Rattle.naga_listing.proofs.AddedLines.{block_more, block_number_more, cases_more}
 use Rattle.naga_listing.proofs.AddedLines.{cases_number_more}
-use Rattle.naga_listing.proofs.Seeking.{first_case, first_of}
+use Rattle.naga_ir.proofs.Listed.{first_case, first_of}
 use Rattle.naga_listing.proofs.lines.+lines.Goals as goal
 
 pub add_block-loop-statement-preserved : goal.add_block-loop-statement-preserved

@@ -2,7 +2,7 @@ use Rattle.std.proofs.Common.{ap, arith}
 use Rattle.naga_ir.specs.StatementTree.{block_size, cases_size}
 use Rattle.naga_ir.specs.StatementViews.{cases_of}
 use Rattle.naga_listing.proofs.Seeking.{block_found, block_more, cases_found, cases_more}
-use Rattle.naga_listing.proofs.Seeking.{first_case, first_of}
+use Rattle.naga_ir.proofs.Listed.{first_case, first_of}
 use Rattle.naga_listing.proofs.numbers.+seek.Goals as goal
 
 pub seek_block-returns-in-Ok : goal.seek_block-returns-in-Ok

@@ -1,0 +1,339 @@
+//! The names of expressions and statements, and of the fields that hold their operands.
+
+ghost use Rattle.std.specs.Prelude.{◌≡◌, slice_get};
+
+use crate::arena::Handle;
+use crate::expression::Expression;
+use crate::operands::query_handle;
+use crate::statement::{RayPipelineFunction, Statement};
+use crate::statement_operands::{compared, told_by};
+
+/// The name of a field, and the operand that it holds, if it holds one.
+pub type Field = (&'static str, Option<Handle<Expression>>);
+
+/// The field of this number, counted from zero.
+fn nth_field(fields: &[Field], number: usize) -> Option<Field>
+    ensures { result ≡ slice_get fields.now number }
+{
+    if number < fields.len() {
+        Some(fields[number])
+    } else {
+        None
+    }
+}
+
+/// The field of this number of what is done with a ray.
+fn ray_field(fun: RayPipelineFunction, number: usize) -> Option<Field> {
+    match fun {
+        RayPipelineFunction::TraceRay {
+            acceleration_structure,
+            descriptor,
+            payload,
+        } => nth_field(
+            &[
+                ("acceleration_structure", Some(acceleration_structure)),
+                ("descriptor", Some(descriptor)),
+                ("payload", Some(payload)),
+            ],
+            number,
+        ),
+    }
+}
+
+impl Expression {
+    /// The name of the variant.
+    pub fn name(&self) -> &'static str {
+        match self {
+            Expression::Literal(_) => "Literal",
+            Expression::Constant(_) => "Constant",
+            Expression::Override(_) => "Override",
+            Expression::ZeroValue(_) => "ZeroValue",
+            Expression::Compose { .. } => "Compose",
+            Expression::Access { .. } => "Access",
+            Expression::AccessIndex { .. } => "AccessIndex",
+            Expression::Splat { .. } => "Splat",
+            Expression::Swizzle { .. } => "Swizzle",
+            Expression::FunctionArgument(_) => "FunctionArgument",
+            Expression::GlobalVariable(_) => "GlobalVariable",
+            Expression::LocalVariable(_) => "LocalVariable",
+            Expression::Load { .. } => "Load",
+            Expression::ImageSample { .. } => "ImageSample",
+            Expression::ImageLoad { .. } => "ImageLoad",
+            Expression::ImageQuery { .. } => "ImageQuery",
+            Expression::Unary { .. } => "Unary",
+            Expression::Binary { .. } => "Binary",
+            Expression::Select { .. } => "Select",
+            Expression::Derivative { .. } => "Derivative",
+            Expression::Relational { .. } => "Relational",
+            Expression::Math { .. } => "Math",
+            Expression::As { .. } => "As",
+            Expression::CallResult(_) => "CallResult",
+            Expression::AtomicResult { .. } => "AtomicResult",
+            Expression::WorkGroupUniformLoadResult { .. } => "WorkGroupUniformLoadResult",
+            Expression::ArrayLength(_) => "ArrayLength",
+            Expression::RayQueryProceedResult => "RayQueryProceedResult",
+            Expression::RayQueryGetIntersection { .. } => "RayQueryGetIntersection",
+            Expression::RayQueryVertexPositions { .. } => "RayQueryVertexPositions",
+            Expression::SubgroupBallotResult => "SubgroupBallotResult",
+            Expression::SubgroupOperationResult { .. } => "SubgroupOperationResult",
+            Expression::CooperativeLoad { .. } => "CooperativeLoad",
+            Expression::CooperativeMultiplyAdd { .. } => "CooperativeMultiplyAdd",
+        }
+    }
+
+    /// The field of this number, counted from zero in the order of naga's source, among those that
+    /// hold an operand or may hold one: without those of a level of detail, and without a list.
+    pub fn field(&self, number: usize) -> Option<Field> {
+        match self {
+            Expression::Access { base, index } => {
+                nth_field(&[("base", Some(*base)), ("index", Some(*index))], number)
+            }
+            Expression::AccessIndex { base, .. } => nth_field(&[("base", Some(*base))], number),
+            Expression::Splat { value, .. } => nth_field(&[("value", Some(*value))], number),
+            Expression::Swizzle { vector, .. } => nth_field(&[("vector", Some(*vector))], number),
+            Expression::Load { pointer } => nth_field(&[("pointer", Some(*pointer))], number),
+            Expression::Unary { expr, .. } => nth_field(&[("expr", Some(*expr))], number),
+            Expression::Derivative { expr, .. } => nth_field(&[("expr", Some(*expr))], number),
+            Expression::As { expr, .. } => nth_field(&[("expr", Some(*expr))], number),
+            Expression::Binary { left, right, .. } => {
+                nth_field(&[("left", Some(*left)), ("right", Some(*right))], number)
+            }
+            Expression::Select {
+                condition,
+                accept,
+                reject,
+            } => nth_field(
+                &[
+                    ("condition", Some(*condition)),
+                    ("accept", Some(*accept)),
+                    ("reject", Some(*reject)),
+                ],
+                number,
+            ),
+            Expression::Relational { argument, .. } => {
+                nth_field(&[("argument", Some(*argument))], number)
+            }
+            Expression::Math {
+                arg,
+                arg1,
+                arg2,
+                arg3,
+                ..
+            } => nth_field(
+                &[
+                    ("arg", Some(*arg)),
+                    ("arg1", *arg1),
+                    ("arg2", *arg2),
+                    ("arg3", *arg3),
+                ],
+                number,
+            ),
+            Expression::ArrayLength(array) => nth_field(&[("array", Some(*array))], number),
+            Expression::RayQueryGetIntersection { query, .. } => {
+                nth_field(&[("query", Some(*query))], number)
+            }
+            Expression::RayQueryVertexPositions { query, .. } => {
+                nth_field(&[("query", Some(*query))], number)
+            }
+            Expression::CooperativeLoad { data_, .. } => nth_field(
+                &[
+                    ("pointer", Some(data_.pointer)),
+                    ("stride", Some(data_.stride)),
+                ],
+                number,
+            ),
+            Expression::CooperativeMultiplyAdd { a, b, c } => nth_field(
+                &[("a", Some(*a)), ("b", Some(*b)), ("c", Some(*c))],
+                number,
+            ),
+            Expression::ImageSample {
+                image,
+                sampler,
+                coordinate,
+                array_index,
+                offset,
+                depth_ref,
+                ..
+            } => nth_field(
+                &[
+                    ("image", Some(*image)),
+                    ("sampler", Some(*sampler)),
+                    ("coordinate", Some(*coordinate)),
+                    ("array_index", *array_index),
+                    ("offset", *offset),
+                    ("depth_ref", *depth_ref),
+                ],
+                number,
+            ),
+            Expression::ImageLoad {
+                image,
+                coordinate,
+                array_index,
+                sample,
+                level,
+            } => nth_field(
+                &[
+                    ("image", Some(*image)),
+                    ("coordinate", Some(*coordinate)),
+                    ("array_index", *array_index),
+                    ("sample", *sample),
+                    ("level", *level),
+                ],
+                number,
+            ),
+            Expression::ImageQuery { image, query } => nth_field(
+                &[("image", Some(*image)), ("level", query_handle(*query))],
+                number,
+            ),
+            _ => None,
+        }
+    }
+}
+
+impl Statement {
+    /// The name of the variant, and what of its kind it is, where a word or two say it.
+    pub fn name(&self) -> &'static str {
+        match self {
+            Statement::Emit(_) => "Emit",
+            Statement::Block(_) => "Block",
+            Statement::If { .. } => "If",
+            Statement::Switch { .. } => "Switch",
+            Statement::Loop { .. } => "Loop",
+            Statement::Break => "Break",
+            Statement::Continue => "Continue",
+            Statement::Return { .. } => "Return",
+            Statement::Kill => "Kill",
+            Statement::ControlBarrier(_) => "ControlBarrier",
+            Statement::MemoryBarrier(_) => "MemoryBarrier",
+            Statement::Store { .. } => "Store",
+            Statement::ImageStore { .. } => "ImageStore",
+            Statement::Atomic { .. } => "Atomic",
+            Statement::ImageAtomic { .. } => "ImageAtomic",
+            Statement::WorkGroupUniformLoad { .. } => "WorkGroupUniformLoad",
+            Statement::Call { .. } => "Call",
+            Statement::RayQuery { .. } => "RayQuery",
+            Statement::SubgroupBallot { .. } => "SubgroupBallot",
+            Statement::SubgroupGather { .. } => "SubgroupGather",
+            Statement::SubgroupCollectiveOperation { .. } => "SubgroupCollectiveOperation",
+            Statement::CooperativeStore { data_, .. } => {
+                if data_.row_major {
+                    "CooperativeStore by rows"
+                } else {
+                    "CooperativeStore by columns"
+                }
+            }
+            Statement::RayPipelineFunction(_) => "RayPipelineFunction TraceRay",
+        }
+    }
+
+    /// The field of this number, counted from zero in the order of naga's source, among those that
+    /// hold an operand or a result or may hold one, without a list.
+    pub fn field(&self, number: usize) -> Option<Field> {
+        match self {
+            Statement::If { condition, .. } => nth_field(
+                &[("condition", Some(*condition))],
+                number,
+            ),
+            Statement::Switch { selector, .. } => nth_field(
+                &[("selector", Some(*selector))],
+                number,
+            ),
+            Statement::Loop { break_if, .. } => nth_field(&[("break_if", *break_if)], number),
+            Statement::Return { value } => nth_field(&[("value", *value)], number),
+            Statement::Store { pointer, value } => {
+                nth_field(
+                    &[("pointer", Some(*pointer)), ("value", Some(*value))],
+                    number,
+                )
+            }
+            Statement::Call { result, .. } => nth_field(&[("result", *result)], number),
+            Statement::RayQuery { query } => nth_field(&[("query", Some(*query))], number),
+            Statement::CooperativeStore { target, data_ } => nth_field(
+                &[
+                    ("target", Some(*target)),
+                    ("pointer", Some(data_.pointer)),
+                    ("stride", Some(data_.stride)),
+                ],
+                number,
+            ),
+            Statement::RayPipelineFunction(fun) => ray_field(*fun, number),
+            Statement::ImageStore {
+                image,
+                coordinate,
+                array_index,
+                value,
+            } => nth_field(
+                &[
+                    ("image", Some(*image)),
+                    ("coordinate", Some(*coordinate)),
+                    ("array_index", *array_index),
+                    ("value", Some(*value)),
+                ],
+                number,
+            ),
+            Statement::Atomic {
+                pointer,
+                fun,
+                value,
+                result,
+            } => nth_field(
+                &[
+                    ("pointer", Some(*pointer)),
+                    ("compare", compared(*fun)),
+                    ("value", Some(*value)),
+                    ("result", *result),
+                ],
+                number,
+            ),
+            Statement::ImageAtomic {
+                image,
+                coordinate,
+                array_index,
+                fun,
+                value,
+            } => nth_field(
+                &[
+                    ("image", Some(*image)),
+                    ("coordinate", Some(*coordinate)),
+                    ("array_index", *array_index),
+                    ("compare", compared(*fun)),
+                    ("value", Some(*value)),
+                ],
+                number,
+            ),
+            Statement::WorkGroupUniformLoad { pointer, result } => {
+                nth_field(
+                    &[("pointer", Some(*pointer)), ("result", Some(*result))],
+                    number,
+                )
+            }
+            Statement::SubgroupBallot { result, predicate } => {
+                nth_field(
+                    &[("predicate", *predicate), ("result", Some(*result))],
+                    number,
+                )
+            }
+            Statement::SubgroupGather {
+                mode,
+                argument,
+                result,
+            } => nth_field(
+                &[
+                    ("index", told_by(*mode)),
+                    ("argument", Some(*argument)),
+                    ("result", Some(*result)),
+                ],
+                number,
+            ),
+            Statement::SubgroupCollectiveOperation {
+                argument,
+                result,
+                ..
+            } => nth_field(
+                &[("argument", Some(*argument)), ("result", Some(*result))],
+                number,
+            ),
+            _ => None,
+        }
+    }
+}
