@@ -15,11 +15,7 @@ pub type Field = (&'static str, Option<Handle<Expression>>);
 fn nth_field(fields: &[Field], number: usize) -> Option<Field>
     ensures { result ≡ slice_get fields.now number }
 {
-    if number < fields.len() {
-        Some(fields[number])
-    } else {
-        None
-    }
+    fields.get(number).copied()
 }
 
 /// The field of this number of what is done with a ray.

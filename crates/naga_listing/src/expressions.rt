@@ -276,8 +276,10 @@ fn push_of_expression(expression: &Expression, out: &mut String) -> Result<(), A
     }
     let mut separator = " ";
     for number in 0..MOST_FIELDS {
-        if let Some(field) = expression.field(number) {
-            separator = push_field(separator, field, out)?;
+        if let Some((name, operand)) = expression.field(number) {
+            if push_field(separator, name, operand, out)? {
+                separator = ", ";
+            }
         }
     }
     match expression {

@@ -1,6 +1,6 @@
 //! Operands by their names, and labels.
 
-use naga_ir::{Expression, Field, Handle};
+use naga_ir::{Expression, Handle};
 use std::alloc::AllocError;
 
 /// At most so many items of a list are told.
@@ -9,19 +9,19 @@ const MOST_TOLD: usize = 8;
 /// An expression or a statement has at most so many fields.
 pub(crate) const MOST_FIELDS: usize = 6;
 
-/// Appends a field, if it holds an operand: `left: [0]`. What stands before the next one is returned.
+/// Appends a field, if it holds an operand: `left: [0]`. Whether it does is returned.
 pub(crate) fn push_field(
-    separator: &'static str,
-    field: Field,
+    separator: &str,
+    name: &str,
+    operand: Option<Handle<Expression>>,
     out: &mut String,
-) -> Result<&'static str, AllocError> {
-    let (name, operand) = field;
+) -> Result<bool, AllocError> {
     match operand {
         Some(handle) => {
             push_operand(separator, name, handle, out)?;
-            Ok(", ")
+            Ok(true)
         }
-        None => Ok(separator),
+        None => Ok(false),
     }
 }
 

@@ -77,8 +77,10 @@ fn push_of_statement(statement: &Statement, out: &mut String) -> Result<(), Allo
     }
     let mut separator = " ";
     for number in 0..MOST_FIELDS {
-        if let Some(field) = statement.field(number) {
-            separator = push_field(separator, field, out)?;
+        if let Some((name, operand)) = statement.field(number) {
+            if push_field(separator, name, operand, out)? {
+                separator = ", ";
+            }
         }
     }
     Ok(())

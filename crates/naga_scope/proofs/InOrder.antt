@@ -10,7 +10,7 @@ use Rattle.std.specs.Borrow.{Bor}
 use Rattle.std.specs.List.{flat_map}
 use Rattle.std.specs.Option.{option_to_list}
 use Rattle.std.specs.Prelude.{nat_eq, sum_by}
-use Rattle.module_meaning.proofs.Fitting.{drop_first}
+use Rattle.naga_ir.proofs.Listed.{drop_first}
 use Rattle.module_meaning.specs.ExpressionLabels.{block_labels, cases_labels, labels_in}
 use Rattle.module_meaning.specs.Written.{block_lets, block_roots, cases_lets, cases_roots}
 use Rattle.module_meaning.specs.Written.{function_roots, statement_lets, statement_roots}
@@ -186,7 +186,7 @@ module _ (binds : ℕ → Bool) (h : ℕ) where
 -- those from one of them on
 pub first_tree : (ss : List (Bor Statement)) (i : ℕ) (x : Bor Statement) → i < length ss → x ≡ slice_index_or ss i x →
     trees_of (drop i ss) ≡ tree_of x.now ∷ trees_of (drop (i + 1) ss)
-first_tree ss i x lt is = ap trees_of (drop_first i ss x lt ∙ ap (λ y. y ∷ drop (i + 1) ss) (sym is))
+first_tree ss i x lt is = ap trees_of (drop_first i ss x lt is)
 
 -- what one of them is seen as
 pub tree_at : (ss : List (Bor Statement)) (i n : ℕ) (x : Bor Statement) → n ≡ i → i < length ss → x ≡ slice_index_or ss i x →
