@@ -7,11 +7,13 @@ use Rattle.naga_ir.specs.declared.statement.Statement.{Statement}
 use Rattle.naga_ir.specs.declared.statement.SwitchCase.{SwitchCase}
 
 -- a list from one of its items on
-pub drop_first : {X : Type 0} (i : ℕ) (xs : List X) (x : X) → i < length xs → x ≡ slice_index_or xs i x → drop i xs ≡ x ∷ drop (i + 1) xs
+pub drop_first : {X : Type 0} (i : ℕ) (xs : List X) (x : X) → i < length xs → x ≡ slice_index_or xs i x →
+    drop i xs ≡ x ∷ drop (i + 1) xs
 drop_first i xs x lt is = drop_more xs i x lt ∙ ap (λ y. y ∷ drop (i + 1) xs) (sym is)
 
 -- the statements from one of them on
-pub first_of : (ss : List Statement) (i : ℕ) (x : Statement) → i < length ss → x ≡ slice_index_or ss i x → block_of (drop i ss) ≡ statement (tree_of x) (block_of (drop (i + 1) ss))
+pub first_of : (ss : List Statement) (i : ℕ) (x : Statement) → i < length ss → x ≡ slice_index_or ss i x →
+    block_of (drop i ss) ≡ statement (tree_of x) (block_of (drop (i + 1) ss))
 first_of ss i x lt is = ap block_of (drop_first i ss x lt is)
 
 pub none_of : (ss : List Statement) (i : ℕ) → length ss ≤ i → block_of (drop i ss) ≡ block_of []
