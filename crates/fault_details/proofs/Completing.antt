@@ -2,8 +2,12 @@
 --
 -- Throughout, m is a module, info what is known of it, f a function, known the types of several expressions, e is one of them and h its handle, n is how many
 -- there are, s a statement, and fails says that a test fails.
-use Rattle.std.proofs.Common.{◌≡◌, ◌∙◌, ◌⊎◌, ◌<◌, ◌≤◌, ◌+◌, ◌^◌, ◌%◌, ◌==◌, ◌&&◌, ℕ, zero, suc, Bool, true, false, List, [], ◌∷◌, length, map, Option, Some, None, IsSome}
-use Rattle.std.proofs.Common.{arith, inl, inr, ⊎_elim, ap, is_some, nat_lt, option_and_then, option_map, option_to_list, refl, slice_get, subst, sym, true≢false, zip}
+use Rattle.std.proofs.Common.{◌≡◌, ◌∙◌, ◌⊎◌, ◌<◌, ◌≤◌, ◌+◌, ◌^◌, ◌%◌, ◌==◌, ◌&&◌, ℕ, zero, suc}
+use Rattle.std.proofs.Common.{Bool, true, false, List, [], ◌∷◌, length, map, Option, Some, None}
+use Rattle.std.proofs.Common.{IsSome}
+use Rattle.std.proofs.Common.{arith, inl, inr, ⊎_elim, ap, is_some, nat_lt, option_and_then}
+use Rattle.std.proofs.Common.{option_map, option_to_list, refl, slice_get, subst, sym, true≢false}
+use Rattle.std.proofs.Common.{zip}
 use Rattle.std.specs.Prelude.{if◌then◌else◌, IsSomeAnd, IsTrue}
 use Rattle.std.specs.List.{list_all, enumerate_from}
 use Rattle.std.specs.Option.{option_map_or, option_or}
@@ -32,22 +36,45 @@ use Rattle.naga_info.specs.declared.info.ModuleInfo.{ModuleInfo}
 use Rattle.naga_info.specs.declared.info.TypeResolution.{TypeResolution}
 use Rattle.naga_info.specs.declared.info.TypeResolution.TheVariants.{Handle, Value}
 use Rattle.module_meaning.specs.AlikeTypes.{are_alike}
-use Rattle.module_meaning.specs.ExpressionTypes.{WantedType, LikeThis, Anything, Nothing, argument_type, binary_type, has_its_type, if_any, is_bool, is_wanted, local_type}
-use Rattle.module_meaning.specs.ExpressionTypes.{logical_type, only, vector_of, wanted_type}
-use Rattle.module_meaning.specs.OperandDemands.{is_components, is_integer, operand_is, operands_fit}
-use Rattle.module_meaning.specs.InfoSizes.{all_known, all_paired, entry_point_size_fits, function_size_fits, sizes_fit, type_is_fit}
-use Rattle.module_meaning.specs.Initialisers.{constant_is_sound, global_is_sound, initialiser_fits, local_is_sound, override_is_sound}
-use Rattle.module_meaning.specs.Numbers.{fits_16_bits, resource_fits_32_bits, workgroup_fits_32_bits}
-use Rattle.module_meaning.specs.Ranges.{all_below, all_placed, block_in_range, constant_in_range, declarations_in_range, entry_point_in_range, expression_in_range}
-use Rattle.module_meaning.specs.Ranges.{expressions_in_range, function_in_range, global_expression_in_range, global_in_range, initialiser_before, is_below, local_in_range}
-use Rattle.module_meaning.specs.Ranges.{module_in_range, module_ranges_fit, named_in_range, names_fit, names_in_range, override_in_range, resolution_fits, signature_fits}
-use Rattle.module_meaning.specs.Ranges.{special_types_fit, types_in_range}
-use Rattle.module_meaning.specs.StatementsFit.{are_passed, calls, is_answered, is_atomic_result, is_call, is_condition, is_result, is_result_if, is_result_of, simple_is_sound}
+use Rattle.module_meaning.specs.acceptance.ExpressionTypes.{WantedType, LikeThis, Anything, Nothing}
+use Rattle.module_meaning.specs.acceptance.ExpressionTypes.{argument_type, binary_type}
+use Rattle.module_meaning.specs.acceptance.ExpressionTypes.{has_its_type, if_any, is_bool}
+use Rattle.module_meaning.specs.acceptance.ExpressionTypes.{is_wanted, local_type}
+use Rattle.module_meaning.specs.acceptance.ExpressionTypes.{logical_type, only, vector_of}
+use Rattle.module_meaning.specs.acceptance.ExpressionTypes.{wanted_type}
+use Rattle.module_meaning.specs.acceptance.OperandDemands.{is_components, is_integer, operand_is}
+use Rattle.module_meaning.specs.acceptance.OperandDemands.{operands_fit}
+use Rattle.module_meaning.specs.acceptance.InfoSizes.{all_known, all_paired, entry_point_size_fits}
+use Rattle.module_meaning.specs.acceptance.InfoSizes.{function_size_fits, sizes_fit, type_is_fit}
+use Rattle.module_meaning.specs.acceptance.Initialisers.{constant_is_sound, global_is_sound}
+use Rattle.module_meaning.specs.acceptance.Initialisers.{initialiser_fits, local_is_sound}
+use Rattle.module_meaning.specs.acceptance.Initialisers.{override_is_sound}
+use Rattle.module_meaning.specs.acceptance.Numbers.{fits_16_bits, resource_fits_32_bits}
+use Rattle.module_meaning.specs.acceptance.Numbers.{workgroup_fits_32_bits}
+use Rattle.module_meaning.specs.acceptance.Ranges.{all_below, all_placed, block_in_range}
+use Rattle.module_meaning.specs.acceptance.Ranges.{constant_in_range, declarations_in_range}
+use Rattle.module_meaning.specs.acceptance.Ranges.{entry_point_in_range, expression_in_range}
+use Rattle.module_meaning.specs.acceptance.Ranges.{expressions_in_range, function_in_range}
+use Rattle.module_meaning.specs.acceptance.Ranges.{global_expression_in_range, global_in_range}
+use Rattle.module_meaning.specs.acceptance.Ranges.{initialiser_before, is_below, local_in_range}
+use Rattle.module_meaning.specs.acceptance.Ranges.{module_in_range, module_ranges_fit}
+use Rattle.module_meaning.specs.acceptance.Ranges.{named_in_range, names_fit, names_in_range}
+use Rattle.module_meaning.specs.acceptance.Ranges.{override_in_range, resolution_fits}
+use Rattle.module_meaning.specs.acceptance.Ranges.{signature_fits}
+use Rattle.module_meaning.specs.acceptance.Ranges.{special_types_fit, types_in_range}
+use Rattle.module_meaning.specs.acceptance.StatementsFit.{are_passed, calls, is_answered}
+use Rattle.module_meaning.specs.acceptance.StatementsFit.{is_atomic_result, is_call, is_condition}
+use Rattle.module_meaning.specs.acceptance.StatementsFit.{is_result, is_result_if, is_result_of}
+use Rattle.module_meaning.specs.acceptance.StatementsFit.{simple_is_sound}
 use Rattle.module_meaning.proofs.Lists.{list_all_at, placed_at}
 use Rattle.naga_info.proofs.Options.{map_some}
-use Rattle.naga_acceptance.specs.Faults.{ConstantFails, EntryPlaceFails, EntryPointFails, FaultIs, FunctionFails, FunctionPlaceFails, GlobalExpressionFails, GlobalFails}
-use Rattle.naga_acceptance.specs.Faults.{ItemFails, ModuleFails, OverrideFails, TypeFails, UnfitStatement, known_of}
-use Rattle.naga_acceptance.specs.TextOrder.{is_in_range, is_sound, labels_fit_32_bits, own_in_range, own_is_sound, text_order}
+use Rattle.naga_acceptance.specs.Faults.{ConstantFails, EntryPlaceFails, EntryPointFails, FaultIs}
+use Rattle.naga_acceptance.specs.Faults.{FunctionFails, FunctionPlaceFails, GlobalExpressionFails}
+use Rattle.naga_acceptance.specs.Faults.{GlobalFails}
+use Rattle.naga_acceptance.specs.Faults.{ItemFails, ModuleFails, OverrideFails, TypeFails}
+use Rattle.naga_acceptance.specs.Faults.{UnfitStatement, known_of}
+use Rattle.naga_acceptance.specs.TextOrder.{is_in_range, is_sound, labels_fit_32_bits, own_in_range}
+use Rattle.naga_acceptance.specs.TextOrder.{own_is_sound, text_order}
 use Rattle.naga_acceptance.specs.declared.faults.Fault.{Fault}
 use Rattle.naga_acceptance.specs.declared.faults.Fault.TheVariants as fault
 use Rattle.naga_acceptance.specs.declared.faults.FunctionPlace.{FunctionPlace}
@@ -56,17 +83,27 @@ use Rattle.naga_acceptance.specs.declared.faults.Item.{Item}
 use Rattle.naga_acceptance.specs.declared.faults.Item.TheVariants as item
 use Rattle.naga_acceptance.proofs.Finding.{unfit_item}
 use Rattle.naga_acceptance.proofs.Walking.{block_range}
-use Rattle.module_meaning.specs.TypeParts.{component_scalar, has_computed_parts, is_part_number, known_inner, part_count, part_type, pointee_type, points_to_atomic, vector_scalar}
-use Rattle.fault_details.specs.Reasons.{answer_reason, call_reason, class_reason, declared_reason, entry_point_reason, expression_reason, function_reason, global_reason}
+use Rattle.module_meaning.specs.TypeParts.{component_scalar, has_computed_parts, is_part_number}
+use Rattle.module_meaning.specs.TypeParts.{known_inner, part_count, part_type, pointee_type}
+use Rattle.module_meaning.specs.TypeParts.{points_to_atomic, vector_scalar}
+use Rattle.fault_details.specs.Reasons.{answer_reason, call_reason, class_reason, declared_reason}
+use Rattle.fault_details.specs.Reasons.{entry_point_reason, expression_reason, function_reason}
+use Rattle.fault_details.specs.Reasons.{global_reason}
 use Rattle.fault_details.specs.Reasons.{index_reason, is_in_class, item_reason}
-use Rattle.fault_details.specs.Reasons.{need_unless, number_reason, operand_reason, own_reason, own_type_reason, passed_reason, result_reason, simple_reason}
-use Rattle.fault_details.specs.Reasons.{statement_reason, type_reason, typeless_reason, wanted_reason}
-use Rattle.fault_details.specs.WithReason.{AreNumbered, IsOfTypes, LacksLetter, LacksLetterAt, LacksLetterIn, TypeFaultsHaveReasons}
+use Rattle.fault_details.specs.Reasons.{need_unless, number_reason, operand_reason, own_reason}
+use Rattle.fault_details.specs.Reasons.{own_type_reason, passed_reason, result_reason}
+use Rattle.fault_details.specs.Reasons.{simple_reason}
+use Rattle.fault_details.specs.Reasons.{statement_reason, type_reason, typeless_reason}
+use Rattle.fault_details.specs.Reasons.{wanted_reason}
+use Rattle.fault_details.specs.WithReason.{AreNumbered, IsOfTypes, LacksLetter, LacksLetterAt}
+use Rattle.fault_details.specs.WithReason.{LacksLetterIn, TypeFaultsHaveReasons}
 use Rattle.fault_details.specs.declared.words.Counted.TheVariants as counted
 use Rattle.fault_details.specs.declared.words.ListName.TheVariants as list
 use Rattle.fault_details.specs.declared.words.Need.TheVariants as need
 use Rattle.fault_details.specs.declared.words.TypeClass.TheVariants as class
-use Rattle.fault_details.proofs.Reasoning.{IsKnown, call_told, class_told, item_before, none_is, return_told, some_first, some_second, some_then, some_unless}
+use Rattle.fault_details.proofs.Reasoning.{IsKnown, call_told, class_told, item_before, none_is}
+use Rattle.fault_details.proofs.Reasoning.{return_told, some_first, some_second, some_then}
+use Rattle.fault_details.proofs.Reasoning.{some_unless}
 use Rattle.fault_details.proofs.Reasoning.{store_told, switch_told, type_told}
 
 -- ---- what an expression stands for

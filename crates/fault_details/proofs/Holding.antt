@@ -1,6 +1,8 @@
 -- Each reason is one: each comes from a test that fails.
-use Rattle.std.proofs.Common.{◌≡◌, ◌<◌, ◌==◌, ◌-◌, ℕ, Bool, true, false, List, [], ◌∷◌, arith, Option, Some, None}
-use Rattle.std.proofs.Common.{refl, length, nat_lt, nat_le, not, slice_get, true≢false, sym, eq-eqb, ◌∙◌}
+use Rattle.std.proofs.Common.{◌≡◌, ◌<◌, ◌==◌, ◌-◌, ℕ, Bool, true, false, List, [], ◌∷◌, arith}
+use Rattle.std.proofs.Common.{Option, Some, None}
+use Rattle.std.proofs.Common.{refl, length, nat_lt, nat_le, not, slice_get, true≢false, sym, eq-eqb}
+use Rattle.std.proofs.Common.{◌∙◌}
 use Rattle.std.proofs.lemmas.Bool.{ltb-false, leb-false}
 use Rattle.std.specs.Prelude.{if◌then◌else◌}
 use Rattle.std.specs.Option.{IfSome, is_some, option_and_then, option_map, option_map_or, option_or}
@@ -37,20 +39,32 @@ use Rattle.naga_acceptance.specs.declared.faults.Item.TheVariants as item
 use Rattle.naga_acceptance.specs.declared.faults.FunctionPlace.{FunctionPlace}
 use Rattle.naga_acceptance.specs.declared.faults.FunctionPlace.TheVariants as part
 use Rattle.module_meaning.specs.AlikeTypes.{are_alike}
-use Rattle.module_meaning.specs.ExpressionTypes.{WantedType, LikeThis, Anything, Nothing, wanted_type}
-use Rattle.module_meaning.specs.StatementsFit.{has_label, is_result, is_result_of, is_signed, is_unsigned, labels_differ, last_falls_through}
+use Rattle.module_meaning.specs.acceptance.ExpressionTypes.{WantedType, LikeThis, Anything, Nothing}
+use Rattle.module_meaning.specs.acceptance.ExpressionTypes.{wanted_type}
+use Rattle.module_meaning.specs.acceptance.StatementsFit.{has_label, is_result, is_result_of}
+use Rattle.module_meaning.specs.acceptance.StatementsFit.{is_signed, is_unsigned, labels_differ}
+use Rattle.module_meaning.specs.acceptance.StatementsFit.{last_falls_through}
 use Rattle.module_meaning.specs.TypeParts.{known_pointee}
 use Rattle.fault_details.specs.Holds.{IsReason, ReasonsHold}
-use Rattle.fault_details.specs.Reasons.{Reason, Absent, Later, OtherClass, OtherNumber, OtherType, PastParts, Unwanted}
-use Rattle.fault_details.specs.Reasons.{absent, class_reason, declared_reason, emitted_reason, first_reason, index_reason}
-use Rattle.fault_details.specs.Reasons.{initialiser_reason, item_reason, known_reason, label_reason, label_type_reason}
+use Rattle.fault_details.specs.Reasons.{Reason, Absent, Later, OtherClass, OtherNumber, OtherType}
+use Rattle.fault_details.specs.Reasons.{PastParts, Unwanted}
+use Rattle.fault_details.specs.Reasons.{absent, class_reason, declared_reason, emitted_reason}
+use Rattle.fault_details.specs.Reasons.{first_reason, index_reason}
+use Rattle.fault_details.specs.Reasons.{initialiser_reason, item_reason, known_reason, label_reason}
+use Rattle.fault_details.specs.Reasons.{label_type_reason}
 use Rattle.fault_details.specs.Reasons.{label_types_reason, length_reason}
-use Rattle.fault_details.specs.Reasons.{name_reason, names_reason, need_unless, not_before, number_reason, operand_reason}
-use Rattle.fault_details.specs.Reasons.{own_name_reason, own_reason, own_type_reason, part_reason, passed_reason}
-use Rattle.fault_details.specs.Reasons.{return_reason, simple_name_reason, simple_reason, size_reason}
-use Rattle.fault_details.specs.Reasons.{statement_name_reason, statement_reason, stored_reason, type_reason}
-use Rattle.fault_details.specs.Reasons.{typeless_reason, unlike, wanted_reason, whole_reason, function_reason}
-use Rattle.fault_details.specs.Reasons.{expression_reason, entry_point_reason, order_reason, variables_reason, module_reason}
+use Rattle.fault_details.specs.Reasons.{name_reason, names_reason, need_unless, not_before}
+use Rattle.fault_details.specs.Reasons.{number_reason, operand_reason}
+use Rattle.fault_details.specs.Reasons.{own_name_reason, own_reason, own_type_reason, part_reason}
+use Rattle.fault_details.specs.Reasons.{passed_reason}
+use Rattle.fault_details.specs.Reasons.{return_reason, simple_name_reason, simple_reason}
+use Rattle.fault_details.specs.Reasons.{size_reason}
+use Rattle.fault_details.specs.Reasons.{statement_name_reason, statement_reason, stored_reason}
+use Rattle.fault_details.specs.Reasons.{type_reason}
+use Rattle.fault_details.specs.Reasons.{typeless_reason, unlike, wanted_reason, whole_reason}
+use Rattle.fault_details.specs.Reasons.{function_reason}
+use Rattle.fault_details.specs.Reasons.{expression_reason, entry_point_reason, order_reason}
+use Rattle.fault_details.specs.Reasons.{variables_reason, module_reason}
 use Rattle.fault_details.specs.Reasons.{made_reason, is_in_class, call_reason, class_wanted}
 use Rattle.fault_details.specs.Reasons.{answer_reason}
 use Rattle.fault_details.proofs.ScalarsApart.{signed_apart, unsigned_apart}

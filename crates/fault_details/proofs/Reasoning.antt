@@ -1,8 +1,10 @@
 -- A fault of types has a reason: where a test fails, what is told of it is there.
 --
 -- Throughout, types are a module's types, known the types of several expressions, r is one of them, h and x are handles, and fails says that a test fails.
-use Rattle.std.proofs.Common.{◌≡◌, ◌∙◌, ◌≤◌, ◌==◌, ◌&&◌, ℕ, Bool, true, false, List, [], ◌∷◌, length, Option, Some, None, IsSome}
-use Rattle.std.proofs.Common.{arith, ⊎_elim, ap, is_some, nat_lt, not, option_and_then, option_map, refl, slice_get, sym, true≢false}
+use Rattle.std.proofs.Common.{◌≡◌, ◌∙◌, ◌≤◌, ◌==◌, ◌&&◌, ℕ, Bool, true, false, List, [], ◌∷◌}
+use Rattle.std.proofs.Common.{length, Option, Some, None, IsSome}
+use Rattle.std.proofs.Common.{arith, ⊎_elim, ap, is_some, nat_lt, not, option_and_then, option_map}
+use Rattle.std.proofs.Common.{refl, slice_get, sym, true≢false}
 use Rattle.std.specs.Prelude.{if◌then◌else◌}
 use Rattle.std.specs.Option.{option_map_or, option_or}
 use Rattle.std.proofs.lemmas.Bool.{and_parts, and_cases, eqb-true, ltb-true}
@@ -20,13 +22,21 @@ use Rattle.naga_info.specs.Resolution.{inner_of}
 use Rattle.naga_info.specs.declared.info.TypeResolution.{TypeResolution}
 use Rattle.naga_info.specs.declared.info.TypeResolution.TheVariants.{Handle}
 use Rattle.module_meaning.specs.AlikeTypes.{are_alike}
-use Rattle.module_meaning.specs.OperandDemands.{is_pointer, operand_is}
-use Rattle.module_meaning.specs.Ranges.{all_below}
-use Rattle.module_meaning.specs.StatementsFit.{are_passed, has_label, is_returned, is_selection, is_stored, label_is_of, labels_are_of}
-use Rattle.module_meaning.specs.StatementsFit.{labels_differ, labels_fit, last_falls_through, selection_fits, selects, value_has_type}
+use Rattle.module_meaning.specs.acceptance.OperandDemands.{is_pointer, operand_is}
+use Rattle.module_meaning.specs.acceptance.Ranges.{all_below}
+use Rattle.module_meaning.specs.acceptance.StatementsFit.{are_passed, has_label, is_returned}
+use Rattle.module_meaning.specs.acceptance.StatementsFit.{is_selection, is_stored, label_is_of}
+use Rattle.module_meaning.specs.acceptance.StatementsFit.{labels_are_of}
+use Rattle.module_meaning.specs.acceptance.StatementsFit.{labels_differ, labels_fit}
+use Rattle.module_meaning.specs.acceptance.StatementsFit.{last_falls_through, selection_fits}
+use Rattle.module_meaning.specs.acceptance.StatementsFit.{selects, value_has_type}
 use Rattle.module_meaning.specs.TypeParts.{known_inner, known_pointee, pointee_type}
-use Rattle.fault_details.specs.Reasons.{Reason, OtherClass, OtherType, Unwanted, class_reason, is_in_class, label_reason, label_type_reason, label_types_reason}
-use Rattle.fault_details.specs.Reasons.{need_unless, number_reason, passed_reason, return_reason, store_reason, stored_reason, switch_reason, type_reason, unlike}
+use Rattle.fault_details.specs.Reasons.{Reason, OtherClass, OtherType, Unwanted, class_reason}
+use Rattle.fault_details.specs.Reasons.{is_in_class, label_reason, label_type_reason}
+use Rattle.fault_details.specs.Reasons.{label_types_reason}
+use Rattle.fault_details.specs.Reasons.{need_unless, number_reason, passed_reason, return_reason}
+use Rattle.fault_details.specs.Reasons.{store_reason, stored_reason, switch_reason, type_reason}
+use Rattle.fault_details.specs.Reasons.{unlike}
 use Rattle.fault_details.specs.declared.words.Counted.TheVariants as counted
 use Rattle.fault_details.specs.declared.words.Need.{Need}
 use Rattle.fault_details.specs.declared.words.Need.TheVariants as need

@@ -1,5 +1,6 @@
 -- Scalars of different kinds are not alike.
-use Rattle.std.proofs.Common.{◌≡◌, ℕ, Bool, true, false, ◌==◌, List, ◌∷◌, Some, None, refl, true≢false, is_some}
+use Rattle.std.proofs.Common.{◌≡◌, ℕ, Bool, true, false, ◌==◌, List, ◌∷◌, Some, None, refl}
+use Rattle.std.proofs.Common.{true≢false, is_some}
 use Rattle.std.specs.Prelude.{if◌then◌else◌, unwrap_or}
 use Rattle.std.specs.Str.{bytes_eq}
 use Rattle.naga_ir.specs.Literals.{scalar_of}
@@ -10,7 +11,7 @@ use Rattle.naga_ir.specs.declared.types.TypeInner.TheVariants as inner
 use Rattle.naga_info.specs.declared.info.TypeResolution.TheVariants.{Value}
 use Rattle.wgsl_words.specs.Words.{scalar_word}
 use Rattle.module_meaning.specs.AlikeTypes.{are_alike}
-use Rattle.module_meaning.specs.StatementsFit.{is_signed, is_unsigned}
+use Rattle.module_meaning.specs.acceptance.StatementsFit.{is_signed, is_unsigned}
 use Rattle.module_meaning.specs.TypeIdentity.{kind_number, level}
 
 -- Numbers of scalars begin with 0 and the kind's, and those of a type without a form with another one.

@@ -52,14 +52,18 @@ use Rattle.naga_acceptance.specs.declared.faults.FunctionPlace.{FunctionPlace}
 use Rattle.naga_acceptance.specs.declared.faults.FunctionPlace.TheVariants as part
 use Rattle.naga_acceptance.specs.declared.faults.Unaccepted.{Unaccepted}
 use Rattle.module_meaning.specs.AlikeTypes.{are_alike}
-use Rattle.module_meaning.specs.ExpressionTypes.{WantedType, LikeThis, Anything, Nothing}
-use Rattle.module_meaning.specs.ExpressionTypes.{is_bool, wanted_type}
-use Rattle.module_meaning.specs.OperandDemands.{is_components, is_integer, is_pointer}
-use Rattle.module_meaning.specs.OperandDemands.{points_to_components}
-use Rattle.module_meaning.specs.StatementsFit.{has_label, is_atomic_result, is_ballot_result}
-use Rattle.module_meaning.specs.StatementsFit.{is_result, is_result_of, is_subgroup_result}
-use Rattle.module_meaning.specs.StatementsFit.{is_signed, is_uniform_load_result, is_unsigned}
-use Rattle.module_meaning.specs.StatementsFit.{labels_differ, last_falls_through, selects}
+use Rattle.module_meaning.specs.acceptance.ExpressionTypes.{WantedType, LikeThis, Anything, Nothing}
+use Rattle.module_meaning.specs.acceptance.ExpressionTypes.{is_bool, wanted_type}
+use Rattle.module_meaning.specs.acceptance.OperandDemands.{is_components, is_integer, is_pointer}
+use Rattle.module_meaning.specs.acceptance.OperandDemands.{points_to_components}
+use Rattle.module_meaning.specs.acceptance.StatementsFit.{has_label, is_atomic_result}
+use Rattle.module_meaning.specs.acceptance.StatementsFit.{is_ballot_result}
+use Rattle.module_meaning.specs.acceptance.StatementsFit.{is_result, is_result_of}
+use Rattle.module_meaning.specs.acceptance.StatementsFit.{is_subgroup_result}
+use Rattle.module_meaning.specs.acceptance.StatementsFit.{is_signed, is_uniform_load_result}
+use Rattle.module_meaning.specs.acceptance.StatementsFit.{is_unsigned}
+use Rattle.module_meaning.specs.acceptance.StatementsFit.{labels_differ, last_falls_through}
+use Rattle.module_meaning.specs.acceptance.StatementsFit.{selects}
 use Rattle.module_meaning.specs.TypeParts.{has_computed_parts, inner_at, known_inner}
 use Rattle.module_meaning.specs.TypeParts.{known_pointee, part_count, points_to_atomic}
 use Rattle.module_meaning.specs.TypeParts.{vector_scalar}

@@ -22,8 +22,8 @@ use Rattle.naga_acceptance.specs.declared.faults.FunctionPlace.TheVariants as pa
 use Rattle.naga_acceptance.specs.declared.faults.Item.{Item}
 use Rattle.naga_acceptance.specs.declared.faults.Item.TheVariants as item
 use Rattle.naga_acceptance.specs.declared.faults.Unaccepted.{Unaccepted}
-use Rattle.module_meaning.specs.OperandDemands.{is_swizzled, operand_is}
-use Rattle.module_meaning.specs.Ranges.{module_ranges_fit}
+use Rattle.module_meaning.specs.acceptance.OperandDemands.{is_swizzled, operand_is}
+use Rattle.module_meaning.specs.acceptance.Ranges.{module_ranges_fit}
 use Rattle.fault_details.specs.Reasons.{fault_reason, is_in_class}
 use Rattle.fault_details.specs.declared.words.TypeClass.TheVariants as class
 

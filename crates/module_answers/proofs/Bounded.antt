@@ -5,10 +5,10 @@ use Rattle.naga_words.specs.Sink.{IsBehind}
 use Rattle.naga_ir.specs.declared.module.Module.{Module}
 use Rattle.naga_info.specs.declared.info.ModuleInfo.{ModuleInfo}
 use Rattle.naga_back.specs.declared.flags.WriterFlags.{WriterFlags}
-use Rattle.naga_wgsl_fns.specs.declared.error.Error.{Error}
+use Rattle.naga_wgsl_fns.specs.declared.refusals.error.Error.{Error}
 use Rattle.module_limits.specs.Nesting.{nested_past}
 use Rattle.module_limits.specs.declared.limits.Limits.{Limits}
-use Rattle.module_meaning.specs.Accepted.{is_accepted}
+use Rattle.module_meaning.specs.acceptance.Accepted.{is_accepted}
 use Rattle.naga_wgsl_out.specs.Checked.{IsCounted}
 use Rattle.naga_wgsl_out.specs.Writing.{AppendsItsText, written_text}
 use Rattle.naga_wgsl_out.proofs.Bounded.{whole_is_longer}

@@ -6,7 +6,7 @@ use Rattle.naga_acceptance.specs.declared.faults.FunctionPlace.TheVariants as pl
 use Rattle.naga_acceptance.specs.declared.faults.Item.TheVariants as item
 use Rattle.naga_scope.specs.declared.declarations.DeclarationPlace.TheVariants as declaration
 use Rattle.naga_scope.specs.declared.scope_faults.ScopeFault.TheVariants as scope
-use Rattle.naga_wgsl_fns.specs.declared.construct.Construct.TheVariants as construct
+use Rattle.naga_wgsl_fns.specs.declared.refusals.construct.Construct.TheVariants as construct
 use Rattle.naga_wgsl_fns.specs.declared.plans.FunctionPart.TheVariants as part
 use Rattle.naga_wgsl_out.specs.declared.unwritable.RefusalPlace.TheVariants as refused
 

@@ -1,7 +1,7 @@
 -- Want of memory in the place of an answer.
 use Rattle.std.specs.Prelude.{◌≡◌, ◌⊎◌, Err, IsErr, Result, alloc_error}
-use Rattle.naga_wgsl_fns.specs.declared.error.Error.{Error}
-use Rattle.naga_wgsl_fns.specs.declared.error.Error.TheVariants.{Memory}
+use Rattle.naga_wgsl_fns.specs.declared.refusals.error.Error.{Error}
+use Rattle.naga_wgsl_fns.specs.declared.refusals.error.Error.TheVariants.{Memory}
 
 -- the answer, or where that is an error, that memory was wanting
 abbrev pub IsAnswerOrWant : (answer told : Result Unit Error) → Type 0

@@ -2,8 +2,8 @@
 //! struct has no layout.
 
 ghost use Rattle.std.specs.Prelude.{IsTrue};
-ghost use Rattle.module_meaning.specs.Accepted.{is_accepted};
-ghost use Rattle.module_meaning.specs.Ranges.{parts_stand_before};
+ghost use Rattle.module_meaning.specs.acceptance.Accepted.{is_accepted};
+ghost use Rattle.module_meaning.specs.acceptance.Ranges.{parts_stand_before};
 
 use naga_info::ModuleInfo;
 use naga_wgsl_out::ir::{

@@ -5,7 +5,7 @@ ghost use Rattle.std.specs.Prelude.{None, OnOk, length};
 ghost use Rattle.std.specs.Prelude.{string_bytes};
 ghost use Rattle.module_answers.specs.Within.{IsUnwritten, TellsDepth};
 ghost use Rattle.module_limits.specs.Nesting.{nested_past};
-ghost use Rattle.module_meaning.specs.Accepted.{is_accepted};
+ghost use Rattle.module_meaning.specs.acceptance.Accepted.{is_accepted};
 ghost use Rattle.naga_wgsl_out.specs.Checked.{IsCounted};
 ghost use Rattle.naga_back.specs.Flags.{annotates_types};
 ghost use Rattle.naga_wgsl_out.specs.Headline.{FaithfulWriting};

@@ -16,9 +16,9 @@ use Rattle.naga_ir.specs.declared.types.TypeInner.TheVariants as inner
 use Rattle.naga_ir.specs.declared.types.VectorSize.TheVariants as vector
 use Rattle.naga_info.specs.declared.info.TypeResolution.{TypeResolution}
 use Rattle.naga_info.specs.declared.info.TypeResolution.TheVariants.{Handle, Value}
-use Rattle.module_meaning.specs.AgreeingOperators.{operator_key, uses_of}
+use Rattle.module_meaning.specs.acceptance.AgreeingOperators.{operator_key, uses_of}
 use Rattle.module_meaning.specs.AlikeTypes.{handle_key}
-use Rattle.module_meaning.specs.Operations.{all_agree}
+use Rattle.module_meaning.specs.acceptance.Operations.{all_agree}
 
 abbrev signed : Scalar
 signed = record { kind = kind.Sint; width = 4 }

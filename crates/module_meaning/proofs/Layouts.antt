@@ -2,7 +2,8 @@
 --
 -- Throughout, m is a module, info what is known of it, types are a module's types, h is the handle of
 -- one, it a type by itself, and marks say which structs no text declares.
-use Rattle.std.proofs.Common.{◌≡◌, ◌+◌, ◌∙◌, ℕ, Bool, true, false, List, ap, arith, refl, slice_get, sym}
+use Rattle.std.proofs.Common.{◌≡◌, ◌+◌, ◌∙◌, ℕ, Bool, true, false, List, ap, arith, refl, slice_get}
+use Rattle.std.proofs.Common.{sym}
 use Rattle.std.specs.Prelude.{IsTrue, get_or, length, not}
 use Rattle.std.specs.List.{list_all}
 use Rattle.std.proofs.lemmas.Bool.{and_parts}
@@ -14,11 +15,12 @@ use Rattle.naga_ir.specs.declared.types.TypeInner.TheVariants as inner
 use Rattle.naga_layout.specs.Tables.{written_rule}
 use Rattle.naga_layout.specs.Types.{StandInOrder, arrays_are_kept, layout_at}
 use Rattle.naga_layout.specs.Types as laid
-use Rattle.module_meaning.specs.Accepted.{is_accepted}
-use Rattle.module_meaning.specs.InfoSizes.{sizes_fit, type_is_fit}
+use Rattle.module_meaning.specs.acceptance.Accepted.{is_accepted}
+use Rattle.module_meaning.specs.acceptance.InfoSizes.{sizes_fit, type_is_fit}
 use Rattle.module_meaning.specs.Layouts.{module_rule}
-use Rattle.module_meaning.specs.Ranges.{declarations_in_range, module_in_range, module_ranges_fit}
-use Rattle.module_meaning.specs.Ranges.{parts_before, parts_stand_before, types_in_range}
+use Rattle.module_meaning.specs.acceptance.Ranges.{declarations_in_range, module_in_range}
+use Rattle.module_meaning.specs.acceptance.Ranges.{module_ranges_fit}
+use Rattle.module_meaning.specs.acceptance.Ranges.{parts_before, parts_stand_before, types_in_range}
 use Rattle.module_meaning.specs.Undeclared.{is_undeclared}
 use Rattle.module_meaning.proofs.Lists.{placed_at}
 

@@ -6,7 +6,7 @@ use Rattle.std.specs.List.{list_all}
 use Rattle.std.specs.Str.{bytes_eq}
 use Rattle.std.proofs.lemmas.Bool.{and_parts}
 use Rattle.std.proofs.lemmas.Slice.Eq.{bytes_eq-Decides}
-use Rattle.module_meaning.specs.Operations.{Operation, are_same_words, agrees, all_agree}
+use Rattle.module_meaning.specs.acceptance.Operations.{Operation, are_same_words, agrees, all_agree}
 use Rattle.module_meaning.proofs.Lists.{list_all_at}
 
 -- words are alike to themselves

@@ -8,7 +8,7 @@ use Rattle.naga_ir.specs.StatementTree.{SimpleStatement, emit, simple}
 use Rattle.naga_ir.specs.declared.module.Function as ir
 use Rattle.module_meaning.specs.ExpressionLabels.{labels_in, labels_of_each}
 use Rattle.module_meaning.specs.ExpressionOperators.{ExpressionContext}
-use Rattle.module_meaning.specs.Ranges.{simple_in_range}
+use Rattle.module_meaning.specs.acceptance.Ranges.{simple_in_range}
 use Rattle.module_meaning.specs.StatementShapes.{simple_shape}
 use Rattle.module_meaning.specs.Written.{simple_lets, simple_roots}
 use Rattle.std.specs.List.{filter}

@@ -7,8 +7,8 @@ use Rattle.std.proofs.lemmas.Bool.{and_parts}
 use Rattle.std.proofs.lemmas.Option.{same_Some}
 use Rattle.naga_ir.specs.declared.module.Function.{Function}
 use Rattle.naga_info.specs.declared.info.ExpressionInfo.{ExpressionInfo}
-use Rattle.module_meaning.specs.AgreeingOperators.{function_group, function_groups}
-use Rattle.module_meaning.specs.InfoSizes.{all_paired}
+use Rattle.module_meaning.specs.acceptance.AgreeingOperators.{function_group, function_groups}
+use Rattle.module_meaning.specs.acceptance.InfoSizes.{all_paired}
 use Rattle.module_meaning.proofs.Lists.{list_all_at}
 
 -- items at one place make a pair there

@@ -23,14 +23,15 @@ use Rattle.naga_ir.specs.declared.types.VectorSize.TheVariants as vector
 use Rattle.naga_info.specs.declared.info.TypeResolution.{TypeResolution}
 use Rattle.naga_info.specs.declared.info.TypeResolution.TheVariants.{Handle, Value}
 use Rattle.module_meaning.specs.AlikeTypes.{handle_key}
-use Rattle.module_meaning.specs.Initialisers.{initialiser_fits}
-use Rattle.module_meaning.specs.OperandDemands.{operand_is, points_to_components}
-use Rattle.module_meaning.specs.StatementsFit.{is_condition, is_selection, is_stored, is_returned}
-use Rattle.module_meaning.specs.StatementsFit.{is_result, is_result_of, is_call}
-use Rattle.module_meaning.specs.StatementsFit.{are_passed, is_answered}
-use Rattle.module_meaning.specs.StatementsFit.{is_atomic_result, is_uniform_load_result}
-use Rattle.module_meaning.specs.StatementsFit.{is_ballot_result, is_subgroup_result}
-use Rattle.module_meaning.specs.StatementsFit.{statement_is_sound}
+use Rattle.module_meaning.specs.acceptance.Initialisers.{initialiser_fits}
+use Rattle.module_meaning.specs.acceptance.OperandDemands.{operand_is, points_to_components}
+use Rattle.module_meaning.specs.acceptance.StatementsFit.{is_condition, is_selection, is_stored}
+use Rattle.module_meaning.specs.acceptance.StatementsFit.{is_returned}
+use Rattle.module_meaning.specs.acceptance.StatementsFit.{is_result, is_result_of, is_call}
+use Rattle.module_meaning.specs.acceptance.StatementsFit.{are_passed, is_answered}
+use Rattle.module_meaning.specs.acceptance.StatementsFit.{is_atomic_result, is_uniform_load_result}
+use Rattle.module_meaning.specs.acceptance.StatementsFit.{is_ballot_result, is_subgroup_result}
+use Rattle.module_meaning.specs.acceptance.StatementsFit.{statement_is_sound}
 use Rattle.module_meaning.specs.TypeParts.{points_to_atomic}
 
 abbrev signed : Scalar

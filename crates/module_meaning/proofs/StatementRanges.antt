@@ -3,7 +3,8 @@ use Rattle.std.proofs.Common.{◌≡◌, ℕ, true, ◌&&◌}
 use Rattle.std.proofs.lemmas.Bool.{and_parts}
 use Rattle.naga_ir.specs.Operands.{simple_operands, simple_result}
 use Rattle.naga_ir.specs.StatementTree.{SimpleStatement}
-use Rattle.module_meaning.specs.Ranges.{all_below, is_below, named_in_range, simple_in_range}
+use Rattle.module_meaning.specs.acceptance.Ranges.{all_below, is_below, named_in_range}
+use Rattle.module_meaning.specs.acceptance.Ranges.{simple_in_range}
 
 module _ (callees expressions : ℕ) (s : SimpleStatement) (within : simple_in_range callees expressions s ≡ true) where
   handles_below : (all_below expressions (simple_operands s) && is_below expressions (simple_result s)) ≡ true

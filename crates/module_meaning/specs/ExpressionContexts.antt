@@ -15,7 +15,7 @@ use Rattle.naga_info.specs.declared.info.TypeResolution.TheVariants.{Handle}
 use Rattle.naga_names.specs.declared.key.NameKey.TheVariants as key
 use Rattle.module_meaning.specs.ExpressionOperators.{ExpressionContext, constructor}
 use Rattle.module_meaning.specs.ExpressionShapes.{Declared, computed_over}
-use Rattle.module_meaning.specs.InfoSizes.{is_handle_space}
+use Rattle.module_meaning.specs.acceptance.InfoSizes.{is_handle_space}
 use Rattle.module_meaning.specs.Names.{module_names, name_in}
 use Rattle.module_meaning.specs.OperatorTable.{if_there, run_word}
 use Rattle.module_meaning.specs.TypeIdentity.{identity, identity_code}

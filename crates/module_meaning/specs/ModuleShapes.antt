@@ -10,11 +10,11 @@ use Rattle.naga_ir.specs.declared.module.Constant as ir_constant
 use Rattle.naga_ir.specs.declared.module.GlobalVariable.{GlobalVariable}
 use Rattle.naga_ir.specs.declared.module.Module as ir_module
 use Rattle.naga_info.specs.declared.info.ModuleInfo.{ModuleInfo}
-use Rattle.module_meaning.specs.ExpressionTypes.{variable_type}
+use Rattle.module_meaning.specs.acceptance.ExpressionTypes.{variable_type}
 use Rattle.module_meaning.specs.FunctionNumbers.{all_functions, all_infos}
 use Rattle.module_meaning.specs.FunctionShapes.{function_shapes}
 use Rattle.module_meaning.specs.ExpressionContexts.{global_tree, zero_of_type}
-use Rattle.module_meaning.specs.InfoSizes.{is_handle_space}
+use Rattle.module_meaning.specs.acceptance.InfoSizes.{is_handle_space}
 use Rattle.module_meaning.specs.PlaceParts.{place_parts}
 use Rattle.module_meaning.specs.Types.{declared_type, word_of_values}
 use Rattle.shader_runs.specs.Program.{ConstantTree, VariableShape, Held, AtPlace, Module}

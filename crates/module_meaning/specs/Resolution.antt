@@ -24,7 +24,7 @@ use Rattle.module_meaning.specs.DeclaredItems.{resolution_items}
 use Rattle.module_meaning.specs.Names.{expression_name, LabelNames, module_names, name_in}
 use Rattle.module_meaning.specs.ModuleShapes.{module_shape}
 use Rattle.module_meaning.specs.Namings.{namings_under}
-use Rattle.module_meaning.specs.Ranges.{resolution_fits}
+use Rattle.module_meaning.specs.acceptance.Ranges.{resolution_fits}
 use Rattle.module_meaning.specs.Types.{spelled_resolution, type_names}
 use Rattle.module_meaning.specs.Undeclared.{is_declared, is_spellable, is_undeclared}
 use Rattle.text_meaning.specs.Abstraction.{function_read, functions_of, program_read}

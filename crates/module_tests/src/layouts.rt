@@ -1,7 +1,7 @@
 //! How types of a module stand in memory.
 
 ghost use Rattle.std.specs.Prelude.{IsTrue};
-ghost use Rattle.module_meaning.specs.Ranges.{parts_stand_before};
+ghost use Rattle.module_meaning.specs.acceptance.Ranges.{parts_stand_before};
 
 use naga_acceptance::accepts;
 use naga_builder::ModuleBuilder;

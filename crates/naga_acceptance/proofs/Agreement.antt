@@ -11,7 +11,7 @@ use Rattle.std.specs.Str.{bytes_eq}
 use Rattle.std.proofs.lemmas.Bool.{and_parts}
 use Rattle.std.proofs.lemmas.List.Folds.{list_all-append}
 use Rattle.std.proofs.lemmas.Slice.Eq.{bytes_eq-Decides}
-use Rattle.module_meaning.specs.Operations.{Operation, are_same_words, agrees, all_agree}
+use Rattle.module_meaning.specs.acceptance.Operations.{Operation, are_same_words, agrees, all_agree}
 use Rattle.module_meaning.proofs.Lists.{list_all_at}
 use Rattle.module_meaning.proofs.Operations.{all_agree_at, alike_itself}
 use Rattle.naga_acceptance.specs.Uses.{is_same_operator, first_answer}

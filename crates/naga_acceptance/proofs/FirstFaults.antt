@@ -1,7 +1,8 @@
 -- The first fault that is found in a module: there is none just where all is in range and sound, and
 -- else it fails there.
 use Rattle.module_meaning.proofs.SideBySide.{item_beside, zip_parts}
-use Rattle.std.proofs.Common.{◌≡◌, ℕ, Bool, true, false, ◌&&◌, ◌==◌, ◌+◌, List, [], ◌∷◌, length, map, refl, ap, sym, ◌∙◌}
+use Rattle.std.proofs.Common.{◌≡◌, ℕ, Bool, true, false, ◌&&◌, ◌==◌, ◌+◌, List, [], ◌∷◌, length}
+use Rattle.std.proofs.Common.{map, refl, ap, sym, ◌∙◌}
 use Rattle.std.proofs.Common.{slice_get, Option, Some, None}
 use Rattle.std.specs.Option.{IfSome, is_none, is_some, option_map, option_map_or}
 use Rattle.std.specs.Result.{result_err}
@@ -44,29 +45,34 @@ use Rattle.naga_acceptance.specs.declared.faults.Item.TheVariants as item
 use Rattle.naga_acceptance.specs.declared.faults.FunctionPlace.{FunctionPlace}
 use Rattle.naga_acceptance.specs.declared.faults.FunctionPlace.TheVariants as part
 use Rattle.naga_acceptance.specs.declared.faults.Unaccepted.{Unaccepted}
-use Rattle.module_meaning.specs.Accepted.{is_accepted}
-use Rattle.module_meaning.specs.AgreeingOperators.{module_operators_agree}
-use Rattle.module_meaning.specs.ExpressionTypes.{has_its_type}
-use Rattle.module_meaning.specs.InfoSizes.{all_known, all_paired, entry_point_size_fits}
-use Rattle.module_meaning.specs.InfoSizes.{function_size_fits, sizes_fit, type_is_fit}
-use Rattle.module_meaning.specs.Initialisers.{constant_is_sound, global_is_sound, initialisers_fit}
-use Rattle.module_meaning.specs.Initialisers.{local_is_sound, override_is_sound}
-use Rattle.module_meaning.specs.OperandDemands.{operands_fit}
-use Rattle.module_meaning.specs.Numbers.{workgroup_fits_32_bits}
-use Rattle.module_meaning.specs.Ranges.{all_below, block_in_range, constant_in_range}
-use Rattle.module_meaning.specs.Ranges.{declarations_in_range, entry_point_in_range}
-use Rattle.module_meaning.specs.Ranges.{expression_in_range, expressions_in_range}
-use Rattle.module_meaning.specs.Ranges.{function_in_range, global_expression_in_range}
-use Rattle.module_meaning.specs.Ranges.{global_in_range, initialiser_before, local_in_range}
-use Rattle.module_meaning.specs.Ranges.{is_below, module_in_range, module_ranges_fit, names_fit}
-use Rattle.module_meaning.specs.Ranges.{names_in_range, numbers_in_range, override_in_range}
-use Rattle.module_meaning.specs.Ranges.{parts_before}
-use Rattle.module_meaning.specs.Ranges.{resolution_fits, signature_fits, special_types_fit}
-use Rattle.module_meaning.specs.Ranges.{types_in_range}
-use Rattle.module_meaning.specs.Soundness.{declarations_are_sound, entry_point_is_sound}
-use Rattle.module_meaning.specs.Soundness.{function_is_sound}
-use Rattle.module_meaning.specs.Soundness.{module_is_sound, typed_function_is_sound}
-use Rattle.module_meaning.specs.StatementsFit.{body_is_sound}
+use Rattle.module_meaning.specs.acceptance.Accepted.{is_accepted}
+use Rattle.module_meaning.specs.acceptance.AgreeingOperators.{module_operators_agree}
+use Rattle.module_meaning.specs.acceptance.ExpressionTypes.{has_its_type}
+use Rattle.module_meaning.specs.acceptance.InfoSizes.{all_known, all_paired, entry_point_size_fits}
+use Rattle.module_meaning.specs.acceptance.InfoSizes.{function_size_fits, sizes_fit, type_is_fit}
+use Rattle.module_meaning.specs.acceptance.Initialisers.{constant_is_sound, global_is_sound}
+use Rattle.module_meaning.specs.acceptance.Initialisers.{initialisers_fit}
+use Rattle.module_meaning.specs.acceptance.Initialisers.{local_is_sound, override_is_sound}
+use Rattle.module_meaning.specs.acceptance.OperandDemands.{operands_fit}
+use Rattle.module_meaning.specs.acceptance.Numbers.{workgroup_fits_32_bits}
+use Rattle.module_meaning.specs.acceptance.Ranges.{all_below, block_in_range, constant_in_range}
+use Rattle.module_meaning.specs.acceptance.Ranges.{declarations_in_range, entry_point_in_range}
+use Rattle.module_meaning.specs.acceptance.Ranges.{expression_in_range, expressions_in_range}
+use Rattle.module_meaning.specs.acceptance.Ranges.{function_in_range, global_expression_in_range}
+use Rattle.module_meaning.specs.acceptance.Ranges.{global_in_range, initialiser_before}
+use Rattle.module_meaning.specs.acceptance.Ranges.{local_in_range}
+use Rattle.module_meaning.specs.acceptance.Ranges.{is_below, module_in_range, module_ranges_fit}
+use Rattle.module_meaning.specs.acceptance.Ranges.{names_fit}
+use Rattle.module_meaning.specs.acceptance.Ranges.{names_in_range, numbers_in_range}
+use Rattle.module_meaning.specs.acceptance.Ranges.{override_in_range}
+use Rattle.module_meaning.specs.acceptance.Ranges.{parts_before}
+use Rattle.module_meaning.specs.acceptance.Ranges.{resolution_fits, signature_fits}
+use Rattle.module_meaning.specs.acceptance.Ranges.{special_types_fit}
+use Rattle.module_meaning.specs.acceptance.Ranges.{types_in_range}
+use Rattle.module_meaning.specs.acceptance.Soundness.{declarations_are_sound, entry_point_is_sound}
+use Rattle.module_meaning.specs.acceptance.Soundness.{function_is_sound}
+use Rattle.module_meaning.specs.acceptance.Soundness.{module_is_sound, typed_function_is_sound}
+use Rattle.module_meaning.specs.acceptance.StatementsFit.{body_is_sound}
 use Rattle.naga_acceptance.proofs.Finding.{AtItem, Finds, finds_faulty, finds_map}
 use Rattle.naga_acceptance.proofs.Finding.{finds_statement, finds_or, finds_plain}
 use Rattle.naga_acceptance.proofs.Finding.{finds_plain_faulty, finds_same, finds_test, finds_unfit}

@@ -11,7 +11,8 @@ use Rattle.std.specs.Result.{is_ok}
 use Rattle.std.specs.List.{count_by}
 use Rattle.std.specs.List.Sorted.{IsPermutation, IsNonDecreasing, IsBinarySearchResult}
 use Rattle.std.specs.Ordering.{int_eq, nat_cmp}
-use Rattle.std.proofs.lemmas.Bool.{and_right, cases_eq, cases_lt, or_parts, or_cases, lt-ltb, le-ltb}
+use Rattle.std.proofs.lemmas.Bool.{and_right, cases_eq, cases_lt, or_parts, or_cases, lt-ltb}
+use Rattle.std.proofs.lemmas.Bool.{le-ltb}
 use Rattle.std.proofs.lemmas.Bool.{ltb-true, eqb-false, false≢true}
 use Rattle.std.proofs.lemmas.Bool.{ltb-false, eqb-true, eq-eqb, ne_eqb}
 use Rattle.std.proofs.lemmas.List.{get_or-set_same, get_or-set_other}
@@ -23,7 +24,7 @@ use Rattle.naga_ir.specs.StatementTree.{CaseTrees, no_cases, case}
 use Rattle.naga_ir.specs.declared.statement.SwitchCase.{SwitchCase}
 use Rattle.naga_ir.specs.declared.statement.SwitchValue.{SwitchValue}
 use Rattle.naga_ir.specs.declared.statement.SwitchValue.TheVariants as label
-use Rattle.module_meaning.specs.StatementsFit.{has_label, is_same_label, labels_differ}
+use Rattle.module_meaning.specs.acceptance.StatementsFit.{has_label, is_same_label, labels_differ}
 use Rattle.naga_acceptance.specs.declared.label_numbers.TheConstants.{PLACES}
 use Rattle.naga_acceptance.specs.Labels.{number_of, numbers_of, times, shares, IsTwice, AreApart}
 use Rattle.naga_acceptance.specs.Labels.{AreMarked, AreOnce}

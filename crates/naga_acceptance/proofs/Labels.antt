@@ -9,7 +9,7 @@ use Rattle.std.proofs.lemmas.Bool.Decides.{Decides-int_eq}
 use Rattle.naga_ir.specs.StatementTree.{CaseTrees, no_cases, case}
 use Rattle.naga_ir.specs.declared.statement.SwitchValue.{SwitchValue}
 use Rattle.naga_ir.specs.declared.statement.SwitchValue.TheVariants as label
-use Rattle.module_meaning.specs.StatementsFit.{has_label, is_same_label, labels_differ}
+use Rattle.module_meaning.specs.acceptance.StatementsFit.{has_label, is_same_label, labels_differ}
 use Rattle.naga_acceptance.specs.Labels.{is_before, labels_ascend}
 
 -- ---- numbers

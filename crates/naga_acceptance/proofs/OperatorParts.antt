@@ -12,13 +12,14 @@ use Rattle.std.specs.Prelude.{if◌then◌else◌}
 use Rattle.std.specs.List.{filter, flat_map, list_all}
 use Rattle.std.specs.Option.{IfSome, is_none, option_map_or, option_to_list}
 use Rattle.std.proofs.lemmas.Bool.{and_from, and_parts, or_cases, or_parts, false≢true}
-use Rattle.std.proofs.lemmas.Bool.{leb-true, leb-false, le-leb, ltb-true, ltb-false, eqb-true, eqb-false}
+use Rattle.std.proofs.lemmas.Bool.{leb-true, leb-false, le-leb, ltb-true, ltb-false, eqb-true}
+use Rattle.std.proofs.lemmas.Bool.{eqb-false}
 use Rattle.std.proofs.lemmas.Bool.{true_from_ne_false, false_from_ne_true}
 use Rattle.std.proofs.lemmas.List.Elements.{filter-append}
 use Rattle.std.proofs.lemmas.Option.{same_Some, slice_get_within}
 use Rattle.naga_ir.specs.declared.types.Type_.{Type_}
-use Rattle.module_meaning.specs.AgreeingOperators.{Group, uses_of}
-use Rattle.module_meaning.specs.Operations.{Operation, agrees, all_agree}
+use Rattle.module_meaning.specs.acceptance.AgreeingOperators.{Group, uses_of}
+use Rattle.module_meaning.specs.acceptance.Operations.{Operation, agrees, all_agree}
 use Rattle.naga_acceptance.specs.declared.agreeing.Part.{Part}
 use Rattle.naga_acceptance.specs.declared.agreeing.TheConstants.{REMAINDERS}
 use Rattle.naga_acceptance.specs.declared.agreeing.UsePlace.{UsePlace}

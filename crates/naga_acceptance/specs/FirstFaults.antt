@@ -31,16 +31,20 @@ use Rattle.naga_acceptance.specs.declared.faults.Item.TheVariants as item
 use Rattle.naga_acceptance.specs.declared.faults.FunctionPlace.{FunctionPlace}
 use Rattle.naga_acceptance.specs.declared.faults.FunctionPlace.TheVariants as part
 use Rattle.naga_acceptance.specs.declared.faults.Unaccepted.{Unaccepted}
-use Rattle.module_meaning.specs.ExpressionTypes.{has_its_type}
-use Rattle.module_meaning.specs.InfoSizes.{entry_point_size_fits, function_size_fits, type_is_fit}
-use Rattle.module_meaning.specs.Initialisers.{constant_is_sound, global_is_sound, local_is_sound}
-use Rattle.module_meaning.specs.Initialisers.{override_is_sound}
-use Rattle.module_meaning.specs.OperandDemands.{operands_fit}
-use Rattle.module_meaning.specs.Ranges.{all_below, constant_in_range, global_in_range}
-use Rattle.module_meaning.specs.Ranges.{initialiser_before, local_in_range, names_fit}
-use Rattle.module_meaning.specs.Ranges.{names_in_range, numbers_in_range, override_in_range}
-use Rattle.module_meaning.specs.Ranges.{parts_before}
-use Rattle.module_meaning.specs.Ranges.{resolution_fits, signature_fits, special_types_fit}
+use Rattle.module_meaning.specs.acceptance.ExpressionTypes.{has_its_type}
+use Rattle.module_meaning.specs.acceptance.InfoSizes.{entry_point_size_fits, function_size_fits}
+use Rattle.module_meaning.specs.acceptance.InfoSizes.{type_is_fit}
+use Rattle.module_meaning.specs.acceptance.Initialisers.{constant_is_sound, global_is_sound}
+use Rattle.module_meaning.specs.acceptance.Initialisers.{local_is_sound}
+use Rattle.module_meaning.specs.acceptance.Initialisers.{override_is_sound}
+use Rattle.module_meaning.specs.acceptance.OperandDemands.{operands_fit}
+use Rattle.module_meaning.specs.acceptance.Ranges.{all_below, constant_in_range, global_in_range}
+use Rattle.module_meaning.specs.acceptance.Ranges.{initialiser_before, local_in_range, names_fit}
+use Rattle.module_meaning.specs.acceptance.Ranges.{names_in_range, numbers_in_range}
+use Rattle.module_meaning.specs.acceptance.Ranges.{override_in_range}
+use Rattle.module_meaning.specs.acceptance.Ranges.{parts_before}
+use Rattle.module_meaning.specs.acceptance.Ranges.{resolution_fits, signature_fits}
+use Rattle.module_meaning.specs.acceptance.Ranges.{special_types_fit}
 
 abbrev pub at : Item → Fault → Unaccepted
 at place kind = record { item = place; fault = kind }

@@ -9,7 +9,7 @@ use Rattle.naga_acceptance.specs.declared.parts.Known.{Known}
 use Rattle.naga_acceptance.specs.declared.parts.Known.TheVariants as source
 use Rattle.naga_acceptance.specs.declared.expression_types.Wanted.{Wanted}
 use Rattle.naga_acceptance.specs.declared.expression_types.Wanted.TheVariants as code
-use Rattle.module_meaning.specs.ExpressionTypes.{WantedType, LikeThis, Anything, Nothing}
+use Rattle.module_meaning.specs.acceptance.ExpressionTypes.{WantedType, LikeThis, Anything, Nothing}
 
 -- a type that expressions are given
 abbrev pub inferred : InferredType → TypeResolution

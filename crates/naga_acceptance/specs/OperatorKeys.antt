@@ -9,7 +9,7 @@ use Rattle.naga_acceptance.specs.KnownTypes.{inferred}
 use Rattle.naga_acceptance.specs.Views.{numbers}
 use Rattle.naga_acceptance.specs.declared.operator_keys.Key.{Key}
 use Rattle.naga_acceptance.specs.declared.operator_keys.Key.TheVariants.{Called, Typed, Word}
-use Rattle.module_meaning.specs.AgreeingOperators.{called_key, typed_key}
+use Rattle.module_meaning.specs.acceptance.AgreeingOperators.{called_key, typed_key}
 use Rattle.module_meaning.specs.ExpressionOperators.{called_word}
 
 -- an operator, among a module's types

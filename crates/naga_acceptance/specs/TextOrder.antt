@@ -18,9 +18,10 @@ use Rattle.naga_info.specs.declared.info.TypeResolution.{TypeResolution}
 use Rattle.naga_acceptance.specs.KnownTypes.{known_types}
 use Rattle.naga_acceptance.specs.declared.walk.Demand.{Demand}
 use Rattle.naga_acceptance.specs.declared.walk.Demand.TheVariants as demand
-use Rattle.module_meaning.specs.Numbers.{label_fits_32_bits}
-use Rattle.module_meaning.specs.Ranges.{is_below, simple_in_range}
-use Rattle.module_meaning.specs.StatementsFit.{is_condition, is_selection, simple_is_sound}
+use Rattle.module_meaning.specs.acceptance.Numbers.{label_fits_32_bits}
+use Rattle.module_meaning.specs.acceptance.Ranges.{is_below, simple_in_range}
+use Rattle.module_meaning.specs.acceptance.StatementsFit.{is_condition, is_selection}
+use Rattle.module_meaning.specs.acceptance.StatementsFit.{simple_is_sound}
 
 -- a statement where it stands
 pub record PlacedStatement : Type 0 where

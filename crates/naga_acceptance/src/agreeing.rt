@@ -18,10 +18,12 @@ ghost use Rattle.naga_acceptance.specs.Uses.{IsHashed, Probes, Remembers, earlie
 ghost use Rattle.naga_acceptance.specs.Uses.{first_answer, first_uses, group_of, group_uses};
 ghost use Rattle.naga_acceptance.specs.Uses.{has_hash, hash_of, is_in, operation, part_uses};
 ghost use Rattle.naga_acceptance.specs.Uses.{site_answer, stands_before, use_at, use_in};
-ghost use Rattle.module_meaning.specs.AgreeingOperators.{function_group, further_groups_of};
-ghost use Rattle.module_meaning.specs.AgreeingOperators.{groups_of, module_operators_agree};
-ghost use Rattle.module_meaning.specs.AgreeingOperators.{uses_of};
-ghost use Rattle.module_meaning.specs.Operations.{all_agree};
+ghost use Rattle.module_meaning.specs.acceptance.AgreeingOperators.{function_group};
+ghost use Rattle.module_meaning.specs.acceptance.AgreeingOperators.{further_groups_of};
+ghost use Rattle.module_meaning.specs.acceptance.AgreeingOperators.{groups_of};
+ghost use Rattle.module_meaning.specs.acceptance.AgreeingOperators.{module_operators_agree};
+ghost use Rattle.module_meaning.specs.acceptance.AgreeingOperators.{uses_of};
+ghost use Rattle.module_meaning.specs.acceptance.Operations.{all_agree};
 
 use crate::faults::{Fault, FunctionPlace, Item, Unaccepted, at};
 use crate::parts::Known;

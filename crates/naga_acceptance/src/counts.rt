@@ -6,7 +6,7 @@ ghost use Rattle.std.specs.List.{flat_map};
 ghost use Rattle.naga_ir.specs.StatementViews.{tree_of, cases_of};
 ghost use Rattle.naga_ir.specs.Operands.{block_operands, cases_operands, expression_operands};
 ghost use Rattle.naga_ir.specs.Operands.{own_operands, statement_operands};
-ghost use Rattle.module_meaning.specs.Accepted.{is_accepted};
+ghost use Rattle.module_meaning.specs.acceptance.Accepted.{is_accepted};
 ghost use Rattle.naga_acceptance.specs.Counts.{with_counts, all_with_counts, functions_of};
 ghost use Rattle.naga_acceptance.specs.Counts.{with_use, with_uses, without_uses};
 

@@ -3,10 +3,11 @@
 ghost use Rattle.std.specs.Prelude.{◌≡◌, ◌&&◌};
 ghost use Rattle.std.specs.Option.{is_some, option_map_or};
 ghost use Rattle.naga_acceptance.specs.KnownTypes.{known_types};
-ghost use Rattle.module_meaning.specs.OperandDemands.{is_components, is_integer};
-ghost use Rattle.module_meaning.specs.OperandDemands.{is_pointer, is_swizzled, letters_fit};
-ghost use Rattle.module_meaning.specs.OperandDemands.{operand_is, operands_fit};
-ghost use Rattle.module_meaning.specs.OperandDemands.{points_to_components};
+ghost use Rattle.module_meaning.specs.acceptance.OperandDemands.{is_components, is_integer};
+ghost use Rattle.module_meaning.specs.acceptance.OperandDemands.{is_pointer, is_swizzled};
+ghost use Rattle.module_meaning.specs.acceptance.OperandDemands.{letters_fit};
+ghost use Rattle.module_meaning.specs.acceptance.OperandDemands.{operand_is, operands_fit};
+ghost use Rattle.module_meaning.specs.acceptance.OperandDemands.{points_to_components};
 ghost use Rattle.module_meaning.specs.TypeParts.{has_computed_parts, is_part_number};
 
 use crate::parts::{

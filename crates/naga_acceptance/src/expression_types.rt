@@ -3,13 +3,15 @@
 ghost use Rattle.std.specs.Prelude.{◌≡◌, Option};
 ghost use Rattle.std.specs.Option.{option_and_then, option_copied, option_map};
 ghost use Rattle.naga_acceptance.specs.KnownTypes.{inferred, known_types, wanted};
-ghost use Rattle.module_meaning.specs.ExpressionTypes.{argument_type, binary_type, constant_type};
-ghost use Rattle.module_meaning.specs.ExpressionTypes.{global_type, has_its_type};
-ghost use Rattle.module_meaning.specs.ExpressionTypes.{if_any, is_bool, is_wanted};
-ghost use Rattle.module_meaning.specs.ExpressionTypes.{local_type, logical_type};
-ghost use Rattle.module_meaning.specs.ExpressionTypes.{only, override_type, result_type};
-ghost use Rattle.module_meaning.specs.ExpressionTypes.{splat_type, swizzle_type, variable_type};
-ghost use Rattle.module_meaning.specs.ExpressionTypes.{wanted_type};
+ghost use Rattle.module_meaning.specs.acceptance.ExpressionTypes.{argument_type, binary_type};
+ghost use Rattle.module_meaning.specs.acceptance.ExpressionTypes.{constant_type};
+ghost use Rattle.module_meaning.specs.acceptance.ExpressionTypes.{global_type, has_its_type};
+ghost use Rattle.module_meaning.specs.acceptance.ExpressionTypes.{if_any, is_bool, is_wanted};
+ghost use Rattle.module_meaning.specs.acceptance.ExpressionTypes.{local_type, logical_type};
+ghost use Rattle.module_meaning.specs.acceptance.ExpressionTypes.{only, override_type, result_type};
+ghost use Rattle.module_meaning.specs.acceptance.ExpressionTypes.{splat_type, swizzle_type};
+ghost use Rattle.module_meaning.specs.acceptance.ExpressionTypes.{variable_type};
+ghost use Rattle.module_meaning.specs.acceptance.ExpressionTypes.{wanted_type};
 ghost use Rattle.module_meaning.specs.TypeParts.{known_inner, known_pointee, part_type};
 
 use crate::alike::is_like;

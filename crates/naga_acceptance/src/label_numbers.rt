@@ -4,7 +4,7 @@ ghost use Rattle.std.specs.Prelude.{◌≡◌, ◌<◌, ◌≤◌, ◌%◌, ◌+
 ghost use Rattle.std.specs.Prelude.{false};
 ghost use Rattle.std.specs.List.Sorted.{IsNonDecreasing};
 ghost use Rattle.naga_ir.specs.StatementViews.{cases_of};
-ghost use Rattle.module_meaning.specs.StatementsFit.{labels_differ};
+ghost use Rattle.module_meaning.specs.acceptance.StatementsFit.{labels_differ};
 ghost use Rattle.naga_acceptance.specs.Labels.{AreApart, AreMarked, AreOnce, IsTwice, number_of};
 ghost use Rattle.naga_acceptance.specs.Labels.{numbers_of, shares, times};
 

@@ -8,10 +8,14 @@ ghost use Rattle.naga_acceptance.specs.OperatorKeys.{is_pure, key, told_by_word}
 ghost use Rattle.naga_ir.specs.declared.types.Type_ as ir_type;
 ghost use Rattle.naga_ir.specs.declared.types.TypeInner as ir_inner;
 ghost use Rattle.naga_info.specs.declared.info.TypeResolution.TheVariants.{Value};
-ghost use Rattle.module_meaning.specs.AgreeingOperators.{constructor_key, conversion_key};
-ghost use Rattle.module_meaning.specs.AgreeingOperators.{formless_key, letter_number, one_key};
-ghost use Rattle.module_meaning.specs.AgreeingOperators.{operator_key, swizzle_key, target_key};
-ghost use Rattle.module_meaning.specs.AgreeingOperators.{typed_key, width_number, word_key};
+ghost use Rattle.module_meaning.specs.acceptance.AgreeingOperators.{constructor_key};
+ghost use Rattle.module_meaning.specs.acceptance.AgreeingOperators.{conversion_key};
+ghost use Rattle.module_meaning.specs.acceptance.AgreeingOperators.{formless_key, letter_number};
+ghost use Rattle.module_meaning.specs.acceptance.AgreeingOperators.{one_key};
+ghost use Rattle.module_meaning.specs.acceptance.AgreeingOperators.{operator_key, swizzle_key};
+ghost use Rattle.module_meaning.specs.acceptance.AgreeingOperators.{target_key};
+ghost use Rattle.module_meaning.specs.acceptance.AgreeingOperators.{typed_key, width_number};
+ghost use Rattle.module_meaning.specs.acceptance.AgreeingOperators.{word_key};
 ghost use Rattle.module_meaning.specs.Conversions.{conversion_target, keeps_bits};
 
 use crate::alike::{are_alike, inferred_identity, inferred_is_spelled};

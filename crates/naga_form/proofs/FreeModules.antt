@@ -13,7 +13,7 @@ use Rattle.naga_ir.specs.declared.module.Function as ir_function
 use Rattle.naga_ir.specs.declared.module.Module as ir_module
 use Rattle.naga_info.specs.declared.info.ExpressionInfo.{ExpressionInfo}
 use Rattle.naga_info.specs.declared.info.ModuleInfo.{ModuleInfo}
-use Rattle.module_meaning.specs.Accepted.{is_accepted}
+use Rattle.module_meaning.specs.acceptance.Accepted.{is_accepted}
 use Rattle.module_meaning.specs.FunctionShapes.{function_shape}
 use Rattle.module_meaning.specs.Meanings.{HasTypedWorld, NoRunIsStuck}
 use Rattle.module_meaning.specs.ModuleShapes.{module_shape}
@@ -38,22 +38,25 @@ use Rattle.shader_runs.proofs.Unfolded.{unfolded_counted, unfolded_function, unf
 use Rattle.shader_runs.proofs.Unfolded.{unfolded_module, unfolded_numbered}
 use Rattle.shader_runs.proofs.UnfoldedRules.{constants_unfolded, leaf_unfolded, none_falls}
 use Rattle.shader_runs.proofs.UnfoldedRules.{regular_unfolded, scope_unfolded, well_unfolded}
-use Rattle.naga_form.proofs.AcceptedFunctions.{functions_known, accepted_at, group_at}
-use Rattle.naga_form.proofs.AcceptedGroups.{types_are_counted}
-use Rattle.naga_form.proofs.ConstantInitialisers.{initialiser_of}
-use Rattle.naga_form.proofs.ConstantsFit.{constants_fit, constants_are_typed}
-use Rattle.naga_form.proofs.FreeNames.{free_names, free_naming, freely_named, free_functions}
-use Rattle.naga_form.proofs.FreeNames.{free_within, free_distinct, free_functions_distinct}
-use Rattle.naga_form.proofs.FreeNames.{free_constants_distinct, function_not_hidden}
-use Rattle.naga_form.proofs.FreeWords.{free_request}
-use Rattle.naga_form.proofs.FunctionsFit.{AllBehind, Tells, all_from, all_distinguished, named}
-use Rattle.naga_form.proofs.FunctionsFit.{regular_at, shape_numbered, stand_behind, worded_at}
-use Rattle.naga_form.proofs.Leaves.{leaves}
-use Rattle.naga_form.proofs.Ordered.{ordered}
-use Rattle.naga_form.proofs.Regular.{StandBehind}
-use Rattle.naga_form.proofs.ShapeWords.{function_words, initialiser_words_outside, operator_asks}
-use Rattle.naga_form.proofs.WellFormed.{all_well_formed}
-use Rattle.naga_form.proofs.Worded.{AsksFreely}
+use Rattle.naga_form.proofs.statements.AcceptedFunctions.{functions_known, accepted_at, group_at}
+use Rattle.naga_form.proofs.declarations.AcceptedGroups.{types_are_counted}
+use Rattle.naga_form.proofs.declarations.ConstantInitialisers.{initialiser_of}
+use Rattle.naga_form.proofs.declarations.ConstantsFit.{constants_fit, constants_are_typed}
+use Rattle.naga_form.proofs.names.FreeNames.{free_names, free_naming, freely_named, free_functions}
+use Rattle.naga_form.proofs.names.FreeNames.{free_within, free_distinct, free_functions_distinct}
+use Rattle.naga_form.proofs.names.FreeNames.{free_constants_distinct, function_not_hidden}
+use Rattle.naga_form.proofs.names.FreeWords.{free_request}
+use Rattle.naga_form.proofs.statements.FunctionsFit.{AllBehind, Tells, all_from, all_distinguished}
+use Rattle.naga_form.proofs.statements.FunctionsFit.{named}
+use Rattle.naga_form.proofs.statements.FunctionsFit.{regular_at, shape_numbered, stand_behind}
+use Rattle.naga_form.proofs.statements.FunctionsFit.{worded_at}
+use Rattle.naga_form.proofs.operators.Leaves.{leaves}
+use Rattle.naga_form.proofs.operators.Ordered.{ordered}
+use Rattle.naga_form.proofs.statements.Regular.{StandBehind}
+use Rattle.naga_form.proofs.operators.ShapeWords.{function_words, initialiser_words_outside}
+use Rattle.naga_form.proofs.operators.ShapeWords.{operator_asks}
+use Rattle.naga_form.proofs.statements.WellFormed.{all_well_formed}
+use Rattle.naga_form.proofs.statements.Worded.{AsksFreely}
 
 module _ (m : ir_module.Module) (info : ModuleInfo) (accepted : IsTrue (is_accepted m info))
     (distinguished : TypesAreDistinguished m) where

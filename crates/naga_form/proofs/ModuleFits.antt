@@ -12,8 +12,8 @@ use Rattle.module_meaning.specs.ModuleShapes.{module_shape}
 use Rattle.naga_info.specs.declared.info.ExpressionInfo.{ExpressionInfo}
 use Rattle.naga_info.specs.declared.info.ModuleInfo.{ModuleInfo}
 use Rattle.module_meaning.proofs.SideBySide.{zip_parts}
-use Rattle.naga_form.proofs.DistinguishedItems.{types_are_distinguished}
-use Rattle.naga_form.proofs.Names.{one_function}
+use Rattle.naga_form.proofs.names.DistinguishedItems.{types_are_distinguished}
+use Rattle.naga_form.proofs.names.Names.{one_function}
 use Rattle.module_meaning.specs.FunctionNumbers.{all_functions, all_infos}
 use Rattle.naga_names.proofs.Refusal.{element}
 use Rattle.shader_runs.specs.Program as shapes
@@ -30,31 +30,31 @@ use Rattle.module_meaning.specs.Namings.{function_naming, namings_from, namings_
 use Rattle.module_meaning.specs.StatementForms.{block_has_forms}
 use Rattle.module_meaning.specs.Written.{AllWrittenHaveForms}
 use Rattle.naga_form.proofs.Facts.{further, from_start}
-use Rattle.naga_form.proofs.EmptyCases.{no_case_falls}
-use Rattle.naga_form.proofs.NamedFits.{is_free}
-use Rattle.naga_form.proofs.ConstantsFit.{constants_are_typed}
-use Rattle.naga_form.proofs.FunctionsFit.{IsFree, AllBehind, all_fit_freely}
-use Rattle.naga_form.proofs.AcceptedFunctions.{all_counted, functions_known, group_at}
-use Rattle.naga_form.proofs.Leaves.{ConstantsAreTyped}
-use Rattle.module_meaning.specs.Accepted.{is_accepted}
+use Rattle.naga_form.proofs.statements.EmptyCases.{no_case_falls}
+use Rattle.naga_form.proofs.names.NamedFits.{is_free}
+use Rattle.naga_form.proofs.declarations.ConstantsFit.{constants_are_typed}
+use Rattle.naga_form.proofs.statements.FunctionsFit.{IsFree, AllBehind, all_fit_freely}
+use Rattle.naga_form.proofs.statements.AcceptedFunctions.{all_counted, functions_known, group_at}
+use Rattle.naga_form.proofs.operators.Leaves.{ConstantsAreTyped}
+use Rattle.module_meaning.specs.acceptance.Accepted.{is_accepted}
 use Rattle.std.proofs.lemmas.Bool.{and_parts}
-use Rattle.naga_form.proofs.AcceptedGroups.{types_are_fit}
-use Rattle.naga_form.proofs.ScopeRules.{same_functions}
+use Rattle.naga_form.proofs.declarations.AcceptedGroups.{types_are_fit}
+use Rattle.naga_form.proofs.statements.ScopeRules.{same_functions}
 use Rattle.module_meaning.specs.ExpressionContexts.{declared, global_tree, types_known}
 use Rattle.module_meaning.specs.ModuleShapes.{variable_shape}
 use Rattle.shader_runs.specs.Premises.{ConstantInRange, EachWord, ModuleNamesAreDistinct}
 use Rattle.shader_runs.specs.Premises.{OperatesOutside}
 use Rattle.shader_runs.specs.Program.{ConstantTree}
 use Rattle.shader_runs.specs.Scope.{ModuleNames}
-use Rattle.naga_form.proofs.ConstantInitialisers.{initialiser_of}
-use Rattle.naga_form.proofs.ConstantTrees.{global_tree_in_range}
-use Rattle.naga_form.proofs.ConstantsFit.{constants_fit}
+use Rattle.naga_form.proofs.declarations.ConstantInitialisers.{initialiser_of}
+use Rattle.naga_form.proofs.operators.ConstantTrees.{global_tree_in_range}
+use Rattle.naga_form.proofs.declarations.ConstantsFit.{constants_fit}
 use Rattle.naga_form.proofs.Fits.{mapped_length}
-use Rattle.naga_form.proofs.FixedNames.{constants_tell}
-use Rattle.naga_form.proofs.ItemKeys.{CountsItems}
-use Rattle.naga_form.proofs.NamedConstants.{constants_length}
-use Rattle.naga_form.proofs.OutsideWords.{global_words as global_words_outside}
-use Rattle.naga_form.proofs.OutsideWords.{initialiser_words_outside}
+use Rattle.naga_form.proofs.names.FixedNames.{constants_tell}
+use Rattle.naga_form.proofs.names.ItemKeys.{CountsItems}
+use Rattle.naga_form.proofs.declarations.NamedConstants.{constants_length}
+use Rattle.naga_form.proofs.names.OutsideWords.{global_words as global_words_outside}
+use Rattle.naga_form.proofs.names.OutsideWords.{initialiser_words_outside}
 use Rattle.naga_back.specs.declared.flags.WriterFlags.{WriterFlags}
 use Rattle.naga_back.specs.Flags.{annotates_types}
 

@@ -1,7 +1,8 @@
 -- Where each function of the program of shapes of an accepted module comes from, and what stands at
 -- its handles: the shapes of the expressions, and the types of their values.
 use Rattle.module_meaning.specs.Names.{TypesAreDistinguished}
-use Rattle.std.proofs.Common.{◌≡◌, ℕ, zero, suc, ◌+◌, List, [], ◌∷◌, ◌++◌, refl, sym, ap, ◌∙◌, map, length}
+use Rattle.std.proofs.Common.{◌≡◌, ℕ, zero, suc, ◌+◌, List, [], ◌∷◌, ◌++◌, refl, sym, ap, ◌∙◌, map}
+use Rattle.std.proofs.Common.{length}
 use Rattle.std.proofs.Common.{Some, None, slice_get, arith, ◌⊎◌, inl, inr}
 use Rattle.std.specs.Prelude.{IsTrue, reverse}
 use mathlib.Core.List.{reverse_aux}
@@ -12,8 +13,8 @@ use Rattle.naga_ir.specs.declared.module.Function as ir_function
 use Rattle.naga_ir.specs.declared.module.Module as ir_module
 use Rattle.naga_info.specs.declared.info.ExpressionInfo.{ExpressionInfo}
 use Rattle.naga_info.specs.declared.info.ModuleInfo.{ModuleInfo}
-use Rattle.module_meaning.specs.Accepted.{is_accepted}
-use Rattle.module_meaning.specs.AgreeingOperators.{function_group}
+use Rattle.module_meaning.specs.acceptance.Accepted.{is_accepted}
+use Rattle.module_meaning.specs.acceptance.AgreeingOperators.{function_group}
 use Rattle.module_meaning.specs.ExpressionShapes.{Declared, shape_of}
 use Rattle.module_meaning.specs.FunctionShapes.{function_shape, shapes_from}
 use Rattle.module_meaning.specs.ModuleShapes.{module_shape}
@@ -22,9 +23,9 @@ use Rattle.module_meaning.specs.Types.{type_of_values}
 use Rattle.shader_runs.specs.Premises.{handle_types}
 use Rattle.shader_runs.specs.Program.{Function, expression_of, handle_type}
 use Rattle.shader_runs.specs.Value.{type_at}
-use Rattle.naga_form.proofs.AcceptedFunctions.{functions_known, group_at}
-use Rattle.naga_form.proofs.AcceptedGroups.{IsSoundGroup}
-use Rattle.naga_form.proofs.AgreeingUses.{value_at}
+use Rattle.naga_form.proofs.statements.AcceptedFunctions.{functions_known, group_at}
+use Rattle.naga_form.proofs.declarations.AcceptedGroups.{IsSoundGroup}
+use Rattle.naga_form.proofs.operators.AgreeingUses.{value_at}
 
 -- ---- where an item of a list comes from
 -- what stands in a list that is turned round onto another stands in one of both

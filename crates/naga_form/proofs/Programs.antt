@@ -1,21 +1,24 @@
 -- What is written for a module is a program of the grammar.
-use Rattle.module_meaning.specs.Accepted.{is_accepted}
+use Rattle.module_meaning.specs.acceptance.Accepted.{is_accepted}
 use Rattle.module_meaning.specs.Enables.{Extension, extensions, is_enabled}
 use Rattle.module_meaning.specs.DeclarationForms.{DeclarationsHaveForms}
-use Rattle.module_meaning.specs.ExpressionTypes.{have_their_types}
-use Rattle.module_meaning.specs.Numbers.{binding_fits_32_bits}
-use Rattle.module_meaning.specs.OperandDemands.{are_operands_fit}
+use Rattle.module_meaning.specs.acceptance.ExpressionTypes.{have_their_types}
+use Rattle.module_meaning.specs.acceptance.Numbers.{binding_fits_32_bits}
+use Rattle.module_meaning.specs.acceptance.OperandDemands.{are_operands_fit}
 use Rattle.module_meaning.specs.ExpressionForms.{constant_is_written}
-use Rattle.module_meaning.specs.Ranges.{function_in_range, local_in_range, is_below}
+use Rattle.module_meaning.specs.acceptance.Ranges.{function_in_range, local_in_range, is_below}
 use Rattle.module_meaning.proofs.Lists.{list_all_at}
 use Rattle.module_meaning.proofs.ExpressionForms.{spelled_of_spellable}
-use Rattle.naga_form.proofs.AcceptedFunctions.{bindings_are_in_range, entry_info_among}
-use Rattle.naga_form.proofs.AcceptedFunctions.{locals_are_in_range, of_number, ranges_are}
-use Rattle.naga_form.proofs.AcceptedFunctions.{soundness_is}
-use Rattle.naga_form.proofs.Attributes.{passing_io, passing_is}
-use Rattle.naga_form.proofs.DeclaredPrograms.{constants_are, overrides_are, stage_there, structs_are}
-use Rattle.naga_form.proofs.DeclaredPrograms.{variables_are, written_constants}
-use Rattle.std.proofs.Common.{◌≡◌, ℕ, ◌<◌, ◌≤◌, suc, Bool, true, false, List, [], ◌∷◌, length, refl, sym}
+use Rattle.naga_form.proofs.statements.AcceptedFunctions.{bindings_are_in_range, entry_info_among}
+use Rattle.naga_form.proofs.statements.AcceptedFunctions.{locals_are_in_range, of_number}
+use Rattle.naga_form.proofs.statements.AcceptedFunctions.{ranges_are}
+use Rattle.naga_form.proofs.statements.AcceptedFunctions.{soundness_is}
+use Rattle.naga_form.proofs.declarations.Attributes.{passing_io, passing_is}
+use Rattle.naga_form.proofs.declarations.DeclaredPrograms.{constants_are, overrides_are}
+use Rattle.naga_form.proofs.declarations.DeclaredPrograms.{stage_there, structs_are}
+use Rattle.naga_form.proofs.declarations.DeclaredPrograms.{variables_are, written_constants}
+use Rattle.std.proofs.Common.{◌≡◌, ℕ, ◌<◌, ◌≤◌, suc, Bool, true, false, List, [], ◌∷◌, length, refl}
+use Rattle.std.proofs.Common.{sym}
 use Rattle.std.proofs.Common.{ap, ◌∙◌, arith, nat_lt, ◌+◌, Option, Some, None, ◌^◌, map}
 use Rattle.std.proofs.Common.{nat_le, add-zero, zero-add, cond}
 use Rattle.std.specs.Prelude.{IsTrue, slice_get}
@@ -46,35 +49,37 @@ use Rattle.module_meaning.specs.Names.{AreLabelNames, expression_name, function_
 use Rattle.module_meaning.specs.Names.{module_names, numbered_name}
 use Rattle.module_meaning.specs.Types.{type_names}
 use Rattle.naga_form.specs.Types.{annotated_type}
-use Rattle.naga_form.proofs.AcceptedGroups.{known_fits, types_are_fit}
-use Rattle.naga_form.proofs.SameValues.{IsFit, TypesAreFit}
-use Rattle.naga_form.proofs.WrittenTypes.{is_type_at, distinguished_is}
+use Rattle.naga_form.proofs.declarations.AcceptedGroups.{known_fits, types_are_fit}
+use Rattle.naga_form.proofs.types.SameValues.{IsFit, TypesAreFit}
+use Rattle.naga_form.proofs.types.WrittenTypes.{is_type_at, distinguished_is}
 use Rattle.module_meaning.specs.ExpressionShapes.{Declared}
 use Rattle.naga_form.specs.ConstantForms.{written_constant_form}
-use Rattle.naga_form.proofs.Abstraction.{AreWritten}
+use Rattle.naga_form.proofs.statements.Abstraction.{AreWritten}
 use Rattle.module_meaning.specs.FunctionShapes.{function_shape}
-use Rattle.naga_form.proofs.WrittenHandles.{AreClosed, written_are_closed}
+use Rattle.naga_form.proofs.statements.WrittenHandles.{AreClosed, written_are_closed}
 use Rattle.module_meaning.specs.Written.{AllWrittenHaveForms, IsSpelledIn, IsWrittenIn, OfArgument}
 use Rattle.module_meaning.specs.Written.{OfLocal, OfResult, WrittenHaveForms}
 use Rattle.naga_info.specs.declared.info.TypeResolution.TheVariants.{Handle}
 use Rattle.naga_info.specs.declared.info.TypeResolution.{TypeResolution}
 use Rattle.naga_form.proofs.Facts.{further, from_start}
-use Rattle.naga_form.proofs.Names.{item_is_identifier, function_item, argument_item, function_there}
-use Rattle.naga_form.proofs.Names.{argument_there, local_item, local_there}
-use Rattle.naga_form.proofs.NumberedNames.{numbered_is}
+use Rattle.naga_form.proofs.names.Names.{item_is_identifier, function_item, argument_item}
+use Rattle.naga_form.proofs.names.Names.{function_there}
+use Rattle.naga_form.proofs.names.Names.{argument_there, local_item, local_there}
+use Rattle.naga_form.proofs.names.NumberedNames.{numbered_is}
 use Rattle.module_meaning.proofs.FunctionNumbers.{entry_point_among, function_among, info_among}
 use Rattle.module_meaning.specs.FunctionNumbers.{all_functions, all_infos}
 use Rattle.naga_ir.specs.declared.module.LocalVariable.{LocalVariable}
 use Rattle.shader_runs.specs.Program.{binds}
 use Rattle.shader_runs.specs.Scope.{Handles, Naming, at_start}
 use Rattle.module_meaning.specs.Namings.{function_naming}
-use Rattle.naga_form.proofs.ExpressionNames.{expression_names_are}
+use Rattle.naga_form.proofs.names.ExpressionNames.{expression_names_are}
 use Rattle.module_meaning.specs.ExpressionLabels.{expression_labels}
 use Rattle.module_meaning.specs.StatementForms.{block_has_forms}
-use Rattle.module_meaning.specs.StatementsFit.{body_is_sound}
-use Rattle.naga_form.proofs.FittingStatements.{body_fits}
-use Rattle.naga_form.proofs.PlainForms.{IsPlainForm, NamesAre, plain_is, unnamed_is, value_is_one}
-use Rattle.naga_form.proofs.StatementPrograms.{lines_are, start_is}
+use Rattle.module_meaning.specs.acceptance.StatementsFit.{body_is_sound}
+use Rattle.naga_form.proofs.statements.FittingStatements.{body_fits}
+use Rattle.naga_form.proofs.operators.PlainForms.{IsPlainForm, NamesAre, plain_is, unnamed_is}
+use Rattle.naga_form.proofs.operators.PlainForms.{value_is_one}
+use Rattle.naga_form.proofs.statements.StatementPrograms.{lines_are, start_is}
 use Rattle.naga_back.specs.declared.flags.WriterFlags.{WriterFlags}
 use Rattle.naga_back.specs.Flags.{annotates_types, is_portable}
 

@@ -16,7 +16,7 @@ use Rattle.shader_runs.specs.Constants.{follow_module}
 use Rattle.shader_runs.specs.Form.{form_function, form_functions, form_module}
 use Rattle.shader_runs.proofs.OneRun.{runs_alike}
 use Rattle.text_meaning.specs.Abstraction.{function_read, functions_of, program_read}
-use Rattle.module_meaning.specs.Accepted.{is_accepted}
+use Rattle.module_meaning.specs.acceptance.Accepted.{is_accepted}
 use Rattle.module_meaning.specs.DeclarationForms.{DeclarationsHaveForms}
 use Rattle.module_meaning.proofs.DeclarationForms.{items_have_forms}
 use Rattle.module_meaning.specs.Faithful.{RunsAs}
@@ -30,15 +30,16 @@ use Rattle.module_meaning.specs.Premises.{ScopesHold}
 use Rattle.module_meaning.specs.Written.{AllWrittenHaveForms, WrittenHaveForms}
 use Rattle.naga_form.specs.Declarations.{program_under, written_program}
 use Rattle.naga_form.specs.Functions.{functions_under}
-use Rattle.naga_form.proofs.Abstraction.{function_reads}
-use Rattle.naga_form.proofs.AcceptedFunctions.{functions_counted, of_number}
-use Rattle.naga_form.proofs.AcceptedGroups.{declarations_are}
-use Rattle.naga_form.proofs.DeclaredNames.{one_vocabulary}
-use Rattle.naga_form.proofs.ExpressionNames.{expression_names_are}
+use Rattle.naga_form.proofs.statements.Abstraction.{function_reads}
+use Rattle.naga_form.proofs.statements.AcceptedFunctions.{functions_counted, of_number}
+use Rattle.naga_form.proofs.declarations.AcceptedGroups.{declarations_are}
+use Rattle.naga_form.proofs.names.DeclaredNames.{one_vocabulary}
+use Rattle.naga_form.proofs.names.ExpressionNames.{expression_names_are}
 use Rattle.naga_form.proofs.ModuleFits.{module_fits_under}
-use Rattle.naga_form.proofs.ReadDeclarations.{constants_read, overrides_read, variables_read}
-use Rattle.naga_form.proofs.ScopeRules.{scopes_are_checked_under}
-use Rattle.naga_form.proofs.WrittenFunctions.{all_functions_under}
+use Rattle.naga_form.proofs.declarations.ReadDeclarations.{constants_read, overrides_read}
+use Rattle.naga_form.proofs.declarations.ReadDeclarations.{variables_read}
+use Rattle.naga_form.proofs.statements.ScopeRules.{scopes_are_checked_under}
+use Rattle.naga_form.proofs.statements.WrittenFunctions.{all_functions_under}
 use Rattle.naga_back.specs.declared.flags.WriterFlags.{WriterFlags}
 use Rattle.naga_back.specs.Flags.{annotates_types}
 

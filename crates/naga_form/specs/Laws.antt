@@ -34,7 +34,7 @@ use Rattle.shader_runs.specs.Scope.{Naming}
 use Rattle.shader_runs.specs.Value.{Value}
 use Rattle.shader_runs.specs.World.{Meaning, Settings}
 use Rattle.text_meaning.specs.Abstraction.{function_read, program_read}
-use Rattle.module_meaning.specs.Accepted.{is_accepted}
+use Rattle.module_meaning.specs.acceptance.Accepted.{is_accepted}
 use Rattle.module_meaning.specs.AlikeTypes.{are_alike}
 use Rattle.module_meaning.specs.Bindings.{BindsAt, BindsUnder}
 use Rattle.module_meaning.specs.DeclarationForms.{DeclarationsHaveForms, IsInitialiser}
@@ -44,7 +44,7 @@ use Rattle.module_meaning.specs.Faithful.{HasInterfaceOf, RunsAs, RunsAt}
 use Rattle.module_meaning.specs.FunctionNumbers.{callee_count, function_type}
 use Rattle.module_meaning.specs.Written.{AllWrittenHaveForms, WrittenHaveForms}
 use Rattle.module_meaning.specs.Written.{WrittenHaveFormsAt, WrittenHaveFormsBefore}
-use Rattle.module_meaning.specs.InfoSizes.{type_is_fit, resolution_is_fit}
+use Rattle.module_meaning.specs.acceptance.InfoSizes.{type_is_fit, resolution_is_fit}
 use Rattle.module_meaning.specs.Interface.{global_expression_value}
 use Rattle.module_meaning.specs.Layouts.{KeepsLayouts, TellsLayouts}
 use Rattle.module_meaning.specs.Literals.{literal_value, with_bits}
@@ -54,7 +54,7 @@ use Rattle.module_meaning.specs.ExpressionLabels.{name_of_label}
 use Rattle.module_meaning.specs.Names.{AreLabelNames, expression_name, item_labels, LabelNames}
 use Rattle.module_meaning.specs.Names.{ItemsAreDistinguished, labels_named_in, module_names}
 use Rattle.module_meaning.specs.Names.{named_apart, wgsl_names}
-use Rattle.module_meaning.specs.Ranges.{resolution_fits}
+use Rattle.module_meaning.specs.acceptance.Ranges.{resolution_fits}
 use Rattle.module_meaning.specs.Premises.{handles_are_counted, scope_holds, ScopeHoldsIn}
 use Rattle.module_meaning.specs.Premises.{ScopesHold, ScopesHoldBefore}
 use Rattle.module_meaning.specs.Resolution.{ResolvesAt, ResolvesUnder}

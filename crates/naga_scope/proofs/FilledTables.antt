@@ -1,6 +1,7 @@
 -- What is looked up of a module, by one pass over its types and one over its own expressions.
 use Rattle.std.proofs.Common.{◌≡◌, ◌≤◌, ◌<◌, ◌+◌, ◌&&◌, ◌||◌, ℕ, zero, suc, Bool, true, false}
-use Rattle.std.proofs.Common.{List, [], ◌∷◌, ◌++◌, Option, Some, None, refl, sym, ap, ap₂, ◌∙◌, arith}
+use Rattle.std.proofs.Common.{List, [], ◌∷◌, ◌++◌, Option, Some, None, refl, sym, ap, ap₂, ◌∙◌}
+use Rattle.std.proofs.Common.{arith}
 use Rattle.std.proofs.Common.{below_more, length, nat_eq, nat_lt, replicate, slice_get}
 use Rattle.std.proofs.Common.{slice_set, subst}
 use Rattle.std.specs.Prelude.{IsTrue, if◌then◌else◌}
@@ -13,18 +14,19 @@ use Rattle.std.proofs.lemmas.List.{get_or-set_other, length-replicate, length-se
 use Rattle.std.proofs.lemmas.List.Folds.{list_any-append}
 use Rattle.std.proofs.lemmas.Option.{same_Some, slice_get_past, slice_get_within}
 use Rattle.indexmap.specs.IndexMap.{values}
-use Rattle.module_meaning.specs.Accepted.{is_accepted}
+use Rattle.module_meaning.specs.acceptance.Accepted.{is_accepted}
 use Rattle.module_meaning.specs.AlikeTypes.{found_key_by, handle_key, inner_key_by, is_spelled}
 use Rattle.module_meaning.specs.AlikeTypes.{key_within, value_key}
 use Rattle.module_meaning.specs.LackingScalars.{over, wordless}
-use Rattle.module_meaning.specs.Ranges.{is_below, parts_before, parts_stand_before}
-use Rattle.module_meaning.specs.Ranges.{special_types_fit, types_in_range}
+use Rattle.module_meaning.specs.acceptance.Ranges.{is_below, parts_before, parts_stand_before}
+use Rattle.module_meaning.specs.acceptance.Ranges.{special_types_fit, types_in_range}
 use Rattle.module_meaning.specs.TypeIdentity.{level}
-use Rattle.module_meaning.specs.Undeclared.{handle_names_undeclared, is_undeclared, names_undeclared}
+use Rattle.module_meaning.specs.Undeclared.{handle_names_undeclared, is_undeclared}
+use Rattle.module_meaning.specs.Undeclared.{names_undeclared}
 use Rattle.module_meaning.specs.Undeclared.{names_undeclared_by, names_undeclared_within}
-use Rattle.naga_form.proofs.AcceptedGroups.{types_range}
-use Rattle.naga_form.proofs.AlikeParts.{at_depth, parts_stand}
-use Rattle.naga_form.proofs.OwnExpressions.{declared_in_range}
+use Rattle.naga_form.proofs.declarations.AcceptedGroups.{types_range}
+use Rattle.naga_form.proofs.types.AlikeParts.{at_depth, parts_stand}
+use Rattle.naga_form.proofs.declarations.OwnExpressions.{declared_in_range}
 use Rattle.naga_info.specs.declared.info.ModuleInfo.{ModuleInfo}
 use Rattle.naga_info.specs.declared.info.TypeResolution.{TypeResolution}
 use Rattle.naga_info.specs.declared.info.TypeResolution.TheVariants.{Handle, Value}
@@ -44,7 +46,8 @@ use Rattle.wgsl_words.specs.Words.{scalar_word, space_word}
 use Rattle.naga_scope.proofs.Marking.{just_marked}
 use Rattle.naga_scope.proofs.WrittenConstants.{MarksBelow, globals_in_order}
 use Rattle.naga_scope.specs.Marks.{MarksAlso, is_marked, is_one_of}
-use Rattle.naga_scope.specs.Tables.{AreRepresentatives, ItemsStandInOrder, MarksNaming, MarksSpelled}
+use Rattle.naga_scope.specs.Tables.{AreRepresentatives, ItemsStandInOrder, MarksNaming}
+use Rattle.naga_scope.specs.Tables.{MarksSpelled}
 use Rattle.naga_scope.specs.Tables.{MarksUndeclared, is_marked_over, is_marked_type}
 use Rattle.naga_scope.specs.Tables.{is_spelled_alone, item_is_spelled, representative_at}
 use Rattle.naga_scope.specs.Tables.{representative_over, spelled_over, type_is_spelled}

@@ -1,5 +1,6 @@
 -- What a plan of a function says of its module.
-use Rattle.std.proofs.Common.{◌≡◌, ℕ, Bool, zero, suc, List, [], ◌∷◌, None, Some, ap, subst, sym, ◌∙◌}
+use Rattle.std.proofs.Common.{◌≡◌, ℕ, Bool, zero, suc, List, [], ◌∷◌, None, Some, ap, subst, sym}
+use Rattle.std.proofs.Common.{◌∙◌}
 use Rattle.std.proofs.lemmas.Option.{same_Some}
 use Rattle.std.specs.Prelude.{Err, IfErr, IfOk, Ok, Result, slice_get}
 use Rattle.std.specs.Result.{is_ok}
@@ -17,8 +18,8 @@ use Rattle.module_meaning.specs.FunctionShapes.{function_shape, function_shapes}
 use Rattle.module_meaning.specs.Namings.{function_naming}
 use Rattle.module_meaning.specs.Premises.{OperandsStandBefore}
 use Rattle.module_meaning.specs.ExpressionContexts.{declared, types_known}
-use Rattle.naga_form.proofs.Ordered.{shape_ordered}
-use Rattle.naga_form.proofs.WellFormed.{any_shape}
+use Rattle.naga_form.proofs.operators.Ordered.{shape_ordered}
+use Rattle.naga_form.proofs.statements.WellFormed.{any_shape}
 use Rattle.naga_scope.specs.Plans.{IsPlan, IsPlanOf, Planned}
 use Rattle.naga_scope.specs.ScopeChecks.{check_function}
 use Rattle.naga_scope.specs.ScopeFaults.{IsScopeFault}

@@ -37,7 +37,7 @@ use Rattle.module_meaning.proofs.ExpressionShapes.{kind_shaped, shape_kinds, sha
 use Rattle.naga_form.proofs.Fits.{named_is, mapped_length}
 use Rattle.module_meaning.specs.ExpressionLabels.{label_of}
 use Rattle.naga_form.proofs.ModulePlaces.{expression_at, no_expression_at}
-use Rattle.naga_form.proofs.WellFormed.{applied_any}
+use Rattle.naga_form.proofs.statements.WellFormed.{applied_any}
 use Rattle.naga_scope.specs.Availabilities.{kind_at, operands_at, is_pure_kind, is_constant_kind}
 use Rattle.naga_scope.specs.Availabilities.{is_emittable_kind, usable_by}
 use Rattle.naga_ir.specs.declared.expression.ImageQuery.{ImageQuery}

@@ -11,10 +11,11 @@ use Rattle.std.proofs.lemmas.Grind.{get_or-set_at}
 use Rattle.std.proofs.lemmas.List.{get_or-set_other, get_or_past, length-set}
 use Rattle.std.proofs.lemmas.Option.{slice_get_past, slice_get_within}
 use Rattle.module_meaning.proofs.Stepwise.{by_those_before}
-use Rattle.module_meaning.specs.Accepted.{is_accepted}
-use Rattle.naga_form.proofs.Ordered.{each_below}
-use Rattle.naga_form.proofs.OwnExpressions.{Own, constant_named, initialiser_stands_before}
-use Rattle.naga_form.proofs.OwnExpressions.{initialiser_within, own_is}
+use Rattle.module_meaning.specs.acceptance.Accepted.{is_accepted}
+use Rattle.naga_form.proofs.operators.Ordered.{each_below}
+use Rattle.naga_form.proofs.declarations.OwnExpressions.{Own, constant_named}
+use Rattle.naga_form.proofs.declarations.OwnExpressions.{initialiser_stands_before}
+use Rattle.naga_form.proofs.declarations.OwnExpressions.{initialiser_within, own_is}
 use Rattle.naga_info.specs.declared.info.ModuleInfo.{ModuleInfo}
 use Rattle.module_meaning.specs.Undeclared.{is_spellable}
 use Rattle.module_meaning.specs.ExpressionForms.{constant_is_written, constant_is_written_over}

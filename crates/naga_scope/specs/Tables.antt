@@ -11,7 +11,7 @@ use Rattle.indexmap.specs.IndexMap.{values}
 use Rattle.module_meaning.specs.AlikeTypes.{is_spelled}
 use Rattle.module_meaning.specs.LackingScalars.{over, own_lacks}
 use Rattle.module_meaning.specs.Layouts.{layout_in, module_rule}
-use Rattle.module_meaning.specs.Ranges.{parts_stand_before, special_types_fit}
+use Rattle.module_meaning.specs.acceptance.Ranges.{parts_stand_before, special_types_fit}
 use Rattle.module_meaning.specs.Undeclared.{handle_names_undeclared, is_undeclared}
 use Rattle.naga_info.specs.declared.info.TypeResolution.{TypeResolution}
 use Rattle.naga_info.specs.declared.info.TypeResolution.TheVariants.{Handle, Value}

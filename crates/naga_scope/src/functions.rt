@@ -1,7 +1,7 @@
 //! Functions and entry points of a module, by which of them is meant.
 
 ghost use Rattle.std.specs.Prelude.{◌≡◌, IsTrue, Some, slice_get};
-ghost use Rattle.module_meaning.specs.Accepted.{is_accepted};
+ghost use Rattle.module_meaning.specs.acceptance.Accepted.{is_accepted};
 ghost use Rattle.module_meaning.specs.FunctionNumbers.{IsFunctionOf, all_functions, all_infos};
 ghost use Rattle.module_meaning.specs.FunctionNumbers.{function_number};
 

@@ -15,10 +15,10 @@ use Rattle.module_meaning.specs.ExpressionForms.{constant_is_written, global_is_
 use Rattle.module_meaning.specs.ExpressionForms.{global_is_written_over, global_is_written_within}
 use Rattle.module_meaning.specs.ExpressionForms.{is_written_literal}
 use Rattle.module_meaning.specs.ExpressionContexts.{expression_context}
-use Rattle.naga_form.proofs.Operators.{constructor_called, typed_notation}
-use Rattle.naga_form.proofs.SameValues.{or_nothing}
-use Rattle.naga_form.proofs.OwnExpressions.{global_names_in_range}
-use Rattle.naga_form.proofs.WrittenTypes.{tree_there}
+use Rattle.naga_form.proofs.operators.Operators.{constructor_called, typed_notation}
+use Rattle.naga_form.proofs.types.SameValues.{or_nothing}
+use Rattle.naga_form.proofs.declarations.OwnExpressions.{global_names_in_range}
+use Rattle.naga_form.proofs.types.WrittenTypes.{tree_there}
 use Rattle.naga_form.specs.ConstantForms.{built_form, constant_form_by, constant_form_over}
 use Rattle.naga_form.specs.ConstantForms.{global_form, global_form_within, no_constant_form}
 use Rattle.naga_form.specs.Operators.{applied_form, notation}

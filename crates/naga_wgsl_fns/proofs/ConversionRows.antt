@@ -7,10 +7,11 @@ use Rattle.module_meaning.specs.Conversions.{conversion_target, keeps_bits}
 use Rattle.module_meaning.specs.ExpressionOperators.{type_known}
 use Rattle.module_meaning.specs.AlikeTypes.{is_spelled}
 use Rattle.module_meaning.specs.ExpressionForms.{expression_is_written}
-use Rattle.module_meaning.specs.Ranges.{resolution_fits}
-use Rattle.naga_form.proofs.AllowedParts.{conversion}
-use Rattle.naga_form.proofs.Operators.{bits_text, cast_called, conversion_is, typed_notation}
-use Rattle.naga_form.proofs.WrittenTypes.{tree_there}
+use Rattle.module_meaning.specs.acceptance.Ranges.{resolution_fits}
+use Rattle.naga_form.proofs.operators.AllowedParts.{conversion}
+use Rattle.naga_form.proofs.operators.Operators.{bits_text, cast_called, conversion_is}
+use Rattle.naga_form.proofs.operators.Operators.{typed_notation}
+use Rattle.naga_form.proofs.types.WrittenTypes.{tree_there}
 use Rattle.naga_form.specs.Expressions.{cast_tree}
 use Rattle.naga_info.specs.declared.info.TypeResolution.{TypeResolution}
 use Rattle.naga_info.specs.declared.info.TypeResolution.TheVariants.{Value}

@@ -1,18 +1,21 @@
 -- What is told of a declaration without a form; and the initialisers of an accepted module's
 -- declarations are among its expressions.
-use Rattle.std.proofs.Common.{◌≡◌, ℕ, ◌<◌, true, Option, Some, ap, length, nat_lt, slice_get, sym, ◌∙◌}
+use Rattle.std.proofs.Common.{◌≡◌, ℕ, ◌<◌, true, Option, Some, ap, length, nat_lt, slice_get, sym}
+use Rattle.std.proofs.Common.{◌∙◌}
 use Rattle.std.specs.List.{list_all}
 use Rattle.std.specs.Prelude.{IsTrue}
 use Rattle.std.proofs.lemmas.Bool.{and_parts, ltb-true}
 use Rattle.module_meaning.proofs.Lists.{list_all_at}
-use Rattle.module_meaning.specs.Accepted.{is_accepted}
+use Rattle.module_meaning.specs.acceptance.Accepted.{is_accepted}
 use Rattle.module_meaning.specs.DeclarationForms.{IsInitialiser}
 use Rattle.module_meaning.specs.DeclarationForms.IsInitialiser.{OfConstant, OfOverride, OfVariable}
-use Rattle.module_meaning.specs.InfoSizes.{sizes_fit, type_is_fit}
-use Rattle.module_meaning.specs.Ranges.{constant_in_range, declarations_in_range, global_in_range}
-use Rattle.module_meaning.specs.Ranges.{is_below, module_in_range, module_ranges_fit}
-use Rattle.module_meaning.specs.Ranges.{override_in_range, special_types_fit, types_in_range}
-use Rattle.naga_form.proofs.OwnExpressions.{initialiser_within}
+use Rattle.module_meaning.specs.acceptance.InfoSizes.{sizes_fit, type_is_fit}
+use Rattle.module_meaning.specs.acceptance.Ranges.{constant_in_range, declarations_in_range}
+use Rattle.module_meaning.specs.acceptance.Ranges.{global_in_range}
+use Rattle.module_meaning.specs.acceptance.Ranges.{is_below, module_in_range, module_ranges_fit}
+use Rattle.module_meaning.specs.acceptance.Ranges.{override_in_range, special_types_fit}
+use Rattle.module_meaning.specs.acceptance.Ranges.{types_in_range}
+use Rattle.naga_form.proofs.declarations.OwnExpressions.{initialiser_within}
 use Rattle.naga_info.specs.declared.info.ModuleInfo.{ModuleInfo}
 use Rattle.naga_ir.specs.declared.binding.Binding.TheVariants as binding
 use Rattle.naga_ir.specs.declared.module.Module.{Module}
@@ -23,8 +26,9 @@ use Rattle.naga_scope.specs.declared.declarations.FormlessHead.{FormlessHead}
 use Rattle.naga_scope.specs.declared.declarations.FormlessHead.TheVariants as head
 use Rattle.naga_wgsl_fns.specs.DeclarationRefusals.{NamesDeclaration, NamesFormlessDeclaration}
 use Rattle.naga_wgsl_fns.specs.DeclarationRefusals.{NamesFormlessHead, NamesHead}
-use Rattle.naga_wgsl_fns.specs.DeclarationRefusals.{OfBinding, OfHead, OfInitialiser, OfMember, OfOffsets, OfStage, OfStride, OfType}
-use Rattle.naga_wgsl_fns.specs.declared.error.Error.{Error}
+use Rattle.naga_wgsl_fns.specs.DeclarationRefusals.{OfBinding, OfHead, OfInitialiser, OfMember}
+use Rattle.naga_wgsl_fns.specs.DeclarationRefusals.{OfOffsets, OfStage, OfStride, OfType}
+use Rattle.naga_wgsl_fns.specs.declared.refusals.error.Error.{Error}
 
 -- the initialiser that there is stands before these many
 there : (count : ℕ) (init : Option ℕ) (h : ℕ) → init ≡ Some h → is_below count init ≡ true → h < count

@@ -2,7 +2,8 @@
 -- turn.
 use Rattle.module_meaning.specs.ExpressionForms.{expression_is_written}
 use Rattle.naga_wgsl_fns.proofs.Wanted.{IsNoOther, expression_formed}
-use Rattle.std.proofs.Common.{◌≡◌, ℕ, zero, suc, ◌<◌, Bool, true, false, List, [], ◌∷◌, length, Option, Some}
+use Rattle.std.proofs.Common.{◌≡◌, ℕ, zero, suc, ◌<◌, Bool, true, false, List, [], ◌∷◌, length}
+use Rattle.std.proofs.Common.{Option, Some}
 use Rattle.std.proofs.Common.{None, codes, refl, sym, ap, ◌∙◌, arith, get_or}
 use Rattle.std.specs.Prelude.{IsTrue, slice_get, if◌then◌else◌, unwrap_or}
 use Rattle.std.specs.Option.{is_some, option_and_then, option_map, option_map_or, option_to_list}
@@ -11,7 +12,7 @@ use Rattle.std.specs.Prelude.{◌||◌}
 use Rattle.std.proofs.Common.{map}
 use Rattle.module_meaning.specs.ExpressionOperators.{is_depth_image, level_of, sample_operator}
 use Rattle.module_meaning.specs.ExpressionOperators.{type_known}
-use Rattle.naga_form.proofs.Images.{without_offset}
+use Rattle.naga_form.proofs.operators.Images.{without_offset}
 use Rattle.naga_form.specs.Expressions.{constant_form, sampling_operands, zero_is_whole}
 use Rattle.naga_form.specs.Images.{sampling_form}
 use Rattle.naga_ir.specs.Operands.{level_operands}
@@ -25,17 +26,17 @@ use Rattle.naga_ir.specs.declared.operators.UnaryOperator as ir_unary
 use Rattle.shader_runs.specs.Premises.{AllBelow}
 use Rattle.shader_runs.specs.Scope.{Handles, Naming}
 use Rattle.wgsl_words.specs.Words.{operator_text, unary_text}
-use Rattle.naga_form.proofs.Operators.{constructor_called, operator_row, query_is_called}
-use Rattle.naga_form.proofs.Operators.{typed_notation}
-use Rattle.naga_form.proofs.Operators.{unary_row}
+use Rattle.naga_form.proofs.operators.Operators.{constructor_called, operator_row, query_is_called}
+use Rattle.naga_form.proofs.operators.Operators.{typed_notation}
+use Rattle.naga_form.proofs.operators.Operators.{unary_row}
 use Rattle.module_meaning.specs.Names.{module_names, numbered_name}
-use Rattle.naga_form.proofs.SameValues.{or_nothing}
+use Rattle.naga_form.proofs.types.SameValues.{or_nothing}
 use Rattle.naga_names.specs.declared.key.NameKey.TheVariants as key
 use Rattle.module_meaning.specs.ExpressionOperators.{applied_operator, called_word, constructor}
 use Rattle.module_meaning.specs.ExpressionOperators.{load_operator, own_operator, query_operator}
 use Rattle.module_meaning.specs.AlikeTypes.{is_spelled}
 use Rattle.naga_info.specs.declared.info.TypeResolution.TheVariants.{Handle}
-use Rattle.naga_form.proofs.WrittenTypes.{tree_there}
+use Rattle.naga_form.proofs.types.WrittenTypes.{tree_there}
 use Rattle.naga_form.specs.Expressions.{operator_type}
 use Rattle.naga_form.specs.TypeTrees.{type_tree}
 use Rattle.wgsl_text.specs.Types.{TypeSpecifier}
@@ -45,7 +46,8 @@ use Rattle.naga_wgsl_fns.specs.Expressions.{made_text, made_type}
 use Rattle.naga_wgsl_fns.specs.FunctionText.{named_in}
 use Rattle.naga_wgsl_fns.specs.FunctionText.{type_names_of}
 use Rattle.module_meaning.specs.ExpressionOperators.{is_atomic_pointer}
-use Rattle.module_meaning.specs.OperatorTable.{AtomicLoad, Operator, operator_word, own_word, run_word}
+use Rattle.module_meaning.specs.OperatorTable.{AtomicLoad, Operator, operator_word, own_word}
+use Rattle.module_meaning.specs.OperatorTable.{run_word}
 use Rattle.module_meaning.specs.OperatorTable.{WithoutForm, zero_is_written}
 use Rattle.naga_form.specs.Operators.{Called, Infix, Notation, Prefix, applied_form, notation}
 use Rattle.naga_form.specs.Operators.{operator_form}

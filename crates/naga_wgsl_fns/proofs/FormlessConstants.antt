@@ -1,13 +1,16 @@
 -- What is told of a constant that has no form.
-use Rattle.std.proofs.Common.{◌≡◌, ℕ, zero, suc, ◌<◌, ◌≤◌, ◌&&◌, ◌||◌, Bool, true, false, List, [], ◌∷◌, Option, Some, None}
-use Rattle.std.proofs.Common.{refl, sym, ap, ap₂, ◌∙◌, arith, length, map, slice_get, subst, true≢false}
+use Rattle.std.proofs.Common.{◌≡◌, ℕ, zero, suc, ◌<◌, ◌≤◌, ◌&&◌, ◌||◌, Bool, true, false, List, []}
+use Rattle.std.proofs.Common.{◌∷◌, Option, Some, None}
+use Rattle.std.proofs.Common.{refl, sym, ap, ap₂, ◌∙◌, arith, length, map, slice_get, subst}
+use Rattle.std.proofs.Common.{true≢false}
 use Rattle.std.specs.Prelude.{IsSomeAnd, if◌then◌else◌, not}
 use Rattle.std.specs.List.{IsAmong, find, list_all}
 use Rattle.std.specs.Option.{is_none, is_some, option_and_then, option_map_or}
 use Rattle.std.proofs.lemmas.Bool.{not-false, not-true, or_parts}
 use Rattle.module_meaning.proofs.Stepwise.{by_those_before}
 use Rattle.module_meaning.specs.Undeclared.{is_spellable}
-use Rattle.module_meaning.specs.ExpressionForms.{constant_is_written, global_is_written, global_is_written_over}
+use Rattle.module_meaning.specs.ExpressionForms.{constant_is_written, global_is_written}
+use Rattle.module_meaning.specs.ExpressionForms.{global_is_written_over}
 use Rattle.module_meaning.specs.ExpressionForms.{global_is_written_within, is_written_literal}
 use Rattle.naga_info.specs.declared.info.TypeResolution.TheVariants.{Handle}
 use Rattle.naga_ir.specs.Operands.{expression_operands}
@@ -20,14 +23,17 @@ use Rattle.naga_scope.proofs.SpelledTypes.{among_there, found_passes, none_passe
 use Rattle.naga_scope.proofs.WrittenConstants.{global_same}
 use Rattle.naga_scope.specs.Marks.{GlobalsStandInOrder}
 use Rattle.naga_scope.specs.Tables.{AreRepresentatives, representative_at, representative_over}
-use Rattle.naga_wgsl_fns.specs.declared.error.Error.{Error}
+use Rattle.naga_wgsl_fns.specs.declared.refusals.error.Error.{Error}
 use Rattle.shader_runs.specs.Premises.{AllBelow}
-use Rattle.naga_wgsl_fns.specs.Carried.{CarriesOfConstant, CarriesOfGlobal, CarriesOfType, CarriesScalar}
-use Rattle.naga_wgsl_fns.specs.Carried.LacksScalar.{OfConstant as LacksOfConstant, OfOperand as LacksOfOperand, OfType as LacksOfType}
+use Rattle.naga_wgsl_fns.specs.Carried.{CarriesOfConstant, CarriesOfGlobal, CarriesOfType}
+use Rattle.naga_wgsl_fns.specs.Carried.{CarriesScalar}
+use Rattle.naga_wgsl_fns.specs.Carried.LacksScalar.{OfConstant as LacksOfConstant}
+use Rattle.naga_wgsl_fns.specs.Carried.LacksScalar.{OfOperand as LacksOfOperand}
+use Rattle.naga_wgsl_fns.specs.Carried.LacksScalar.{OfType as LacksOfType}
 use Rattle.naga_wgsl_fns.specs.Refusals.{NamesConstant, NamesGlobal, is_operation, made_type}
 use Rattle.naga_wgsl_fns.specs.Refusals.NamesGlobal.{OfConstant}
-use Rattle.naga_wgsl_fns.specs.declared.construct.Construct.{Construct}
-use Rattle.naga_wgsl_fns.specs.declared.construct.Construct.TheVariants as construct
+use Rattle.naga_wgsl_fns.specs.declared.refusals.construct.Construct.{Construct}
+use Rattle.naga_wgsl_fns.specs.declared.refusals.construct.Construct.TheVariants as construct
 
 pub as_it_is : (xs : List ℕ) → map (λ (x : ℕ). x) xs ≡ xs
 as_it_is [] = refl

@@ -4,7 +4,8 @@
 --
 -- Throughout, a module has these two functions and this override, and neither constants nor variables.
 -- All else that it has is any, and so are what it takes and gives, and what stands in it.
-use Rattle.std.proofs.Common.{◌≡◌, ℕ, pos, Bool, false, true, List, [], ◌∷◌, ◌++◌, Some, refl, arith}
+use Rattle.std.proofs.Common.{◌≡◌, ℕ, pos, Bool, false, true, List, [], ◌∷◌, ◌++◌, Some, refl}
+use Rattle.std.proofs.Common.{arith}
 use Rattle.std.proofs.Common.{Vec, Global}
 use Rattle.std.specs.Prelude.{Ok}
 use Rattle.naga_ir.specs.StatementTree.{no_statements, ray_query, simple, statement}
@@ -20,15 +21,17 @@ use Rattle.naga_names.specs.Naming.{Names}
 use Rattle.naga_back.specs.declared.context.FunctionType.TheVariants as item
 use Rattle.naga_back.specs.declared.flags.WriterFlags.{WriterFlags}
 use Rattle.module_meaning.specs.Bindings.{BindsAt}
-use Rattle.module_meaning.specs.DeclarationForms.{DeclarationsHaveForms, IsInitialiser, ItemsHaveForms}
+use Rattle.module_meaning.specs.DeclarationForms.{DeclarationsHaveForms, IsInitialiser}
+use Rattle.module_meaning.specs.DeclarationForms.{ItemsHaveForms}
 use Rattle.module_meaning.specs.Faithful.{RunsAt}
 use Rattle.module_meaning.specs.Names.{LabelNames, item_labels}
 use Rattle.module_meaning.specs.Resolution.{BodyResolves}
 use Rattle.module_meaning.specs.Written.{AllWrittenHaveForms}
-use Rattle.naga_form.proofs.ExpressionNames.{names_of_each_are}
+use Rattle.naga_form.proofs.names.ExpressionNames.{names_of_each_are}
 use Rattle.naga_form.specs.Declarations.{program_under}
 use Rattle.naga_back.specs.Flags.{annotates_types}
-use Rattle.naga_wgsl_fns.specs.Items.{AreNamesOfText, FunctionWriting, IsMeantUnder, IsWritableFunction}
+use Rattle.naga_wgsl_fns.specs.Items.{AreNamesOfText, FunctionWriting, IsMeantUnder}
+use Rattle.naga_wgsl_fns.specs.Items.{IsWritableFunction}
 use Rattle.naga_wgsl_fns.specs.Items.{named_behind}
 
 -- One program has the texts of all functions, each of which was written by itself after labels of its

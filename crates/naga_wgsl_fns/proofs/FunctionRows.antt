@@ -18,7 +18,7 @@ use Rattle.naga_ir.specs.declared.module.LocalVariable.{LocalVariable}
 use Rattle.naga_ir.specs.declared.module.Module.{Module}
 use Rattle.naga_info.specs.declared.info.ExpressionInfo.{ExpressionInfo}
 use Rattle.naga_info.specs.declared.info.ModuleInfo.{ModuleInfo}
-use Rattle.module_meaning.specs.Accepted.{is_accepted}
+use Rattle.module_meaning.specs.acceptance.Accepted.{is_accepted}
 use Rattle.module_meaning.specs.DeclarationForms.{HeadHasForm, entry_point_numbered}
 use Rattle.naga_form.specs.Expressions.{value_form}
 use Rattle.naga_form.specs.Statements.{lines_form}
@@ -30,7 +30,7 @@ use Rattle.naga_form.specs.Functions.{function_form}
 use Rattle.wgsl_text.proofs.Text.{text-append}
 use Rattle.naga_names.proofs.Refusal.{element}
 use Rattle.module_meaning.proofs.Lists.{list_all_at, placed_at}
-use Rattle.naga_form.proofs.AcceptedFunctions.{of_number, ranges_of}
+use Rattle.naga_form.proofs.statements.AcceptedFunctions.{of_number, ranges_of}
 use Rattle.module_meaning.specs.FunctionNumbers.{IsFunctionOf, all_functions, all_infos}
 use Rattle.wgsl_text.proofs.Functions.{value_text as value_row_text, locals_text as local_row_text}
 use Rattle.wgsl_text.proofs.Functions.{function_text as function_row_text}
@@ -47,7 +47,7 @@ use Rattle.naga_words.specs.declared.error.TypeTextError.TheVariants.{Sink, Memo
 use Rattle.naga_words.specs.declared.sink.SinkError.TheVariants.{Failed, Memory as SinkMemory}
 use Rattle.naga_words.specs.Output.{IsReason, joined_texts}
 use Rattle.naga_wgsl_fns.specs.Errors.{IsErrorOf, IsWant}
-use Rattle.naga_wgsl_fns.specs.declared.error.Error.{Error}
+use Rattle.naga_wgsl_fns.specs.declared.refusals.error.Error.{Error}
 use Rattle.wgsl_text.specs.Reading.{expression_layout, type_layout}
 use Rattle.wgsl_text.specs.Text.{text}
 use Rattle.naga_wgsl_fns.specs.declared.functions.FunctionText.{FunctionText}
@@ -70,7 +70,7 @@ use Rattle.naga_wgsl_fns.specs.Functions.{item_text, stage_before, text_of, text
 use Rattle.naga_wgsl_fns.specs.Attributes.{attributes_text}
 use Rattle.naga_wgsl_fns.specs.Stages.{stage_text}
 use Rattle.naga_form.specs.Attributes.{passing_attributes}
-use Rattle.naga_form.proofs.WrittenFunctions.{entry_point_at}
+use Rattle.naga_form.proofs.statements.WrittenFunctions.{entry_point_at}
 use Rattle.naga_back.specs.declared.context.FunctionType.TheVariants as item
 use Rattle.naga_ir.specs.declared.module.EntryPoint.{EntryPoint}
 use Rattle.module_meaning.specs.FunctionNumbers.{function_number}

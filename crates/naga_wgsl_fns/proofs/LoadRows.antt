@@ -8,10 +8,10 @@ use Rattle.module_meaning.specs.AlikeTypes.{is_spelled}
 use Rattle.module_meaning.specs.ExpressionOperators.{is_atomic_pointer}
 use Rattle.module_meaning.specs.OperatorTable.{AtomicLoad, run_word}
 use Rattle.module_meaning.specs.ExpressionForms.{expression_is_written}
-use Rattle.naga_form.proofs.AllowedParts.{loaded_matrix}
-use Rattle.naga_form.proofs.Operators.{load_called, load_text as loaded_text, matrix_is}
-use Rattle.naga_form.proofs.Operators.{typed_notation}
-use Rattle.naga_form.proofs.WrittenTypes.{tree_there}
+use Rattle.naga_form.proofs.operators.AllowedParts.{loaded_matrix}
+use Rattle.naga_form.proofs.operators.Operators.{load_called, load_text as loaded_text, matrix_is}
+use Rattle.naga_form.proofs.operators.Operators.{typed_notation}
+use Rattle.naga_form.proofs.types.WrittenTypes.{tree_there}
 use Rattle.naga_form.specs.Expressions.{load_tree, scalar_pointed, value_forms}
 use Rattle.naga_form.specs.Operators.{Called}
 use Rattle.naga_info.specs.declared.info.TypeResolution.{TypeResolution}
@@ -28,8 +28,10 @@ use Rattle.naga_ir.specs.declared.types.TypeInner.TheVariants as inner
 use Rattle.naga_scope.specs.declared.points.Availability.{Availability}
 use Rattle.naga_words.specs.Output.{joined_texts}
 use Rattle.naga_wgsl_fns.proofs.ExpressionRows.{own_typed}
-use Rattle.naga_wgsl_fns.specs.Expressions.{applied_text, called_text, form_at, load_text, load_word}
-use Rattle.naga_wgsl_fns.specs.Expressions.{made_text, matrix_callee, matrix_callee_text, operands_at}
+use Rattle.naga_wgsl_fns.specs.Expressions.{applied_text, called_text, form_at, load_text}
+use Rattle.naga_wgsl_fns.specs.Expressions.{load_word}
+use Rattle.naga_wgsl_fns.specs.Expressions.{made_text, matrix_callee, matrix_callee_text}
+use Rattle.naga_wgsl_fns.specs.Expressions.{operands_at}
 use Rattle.naga_wgsl_fns.specs.Expressions.{operands_text, own_text, reference_text, taking_text}
 use Rattle.naga_wgsl_fns.specs.FunctionText.{CanWrite, IsInText, context, expressions}
 use Rattle.naga_wgsl_fns.specs.FunctionText.{type_names_of}

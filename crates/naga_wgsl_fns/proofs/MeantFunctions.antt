@@ -2,7 +2,8 @@
 --
 -- Throughout, ps are entry points from the number g on, ess says what is known of each, i is the place
 -- of one among them, and named tells the names of the labels that front ends gave.
-use Rattle.std.proofs.Common.{◌≡◌, ℕ, zero, suc, ◌+◌, ◌∙◌, Bool, List, [], ◌∷◌, ◌++◌, Some, ap, arith}
+use Rattle.std.proofs.Common.{◌≡◌, ℕ, zero, suc, ◌+◌, ◌∙◌, Bool, List, [], ◌∷◌, ◌++◌, Some, ap}
+use Rattle.std.proofs.Common.{arith}
 use Rattle.std.proofs.Common.{◌<◌, ◌≤◌, ◌||◌, None, Option, false, length, nat_eq, refl, slice_get}
 use Rattle.std.proofs.Common.{subst, sym, true, unwrap_or}
 use Rattle.std.specs.List.{list_any}
@@ -18,7 +19,7 @@ use Rattle.naga_ir.specs.declared.module.Module.{Module}
 use Rattle.naga_ir.specs.declared.types.Type_.{Type_}
 use Rattle.naga_names.specs.Keys.{NameMap}
 use Rattle.naga_words.specs.Spelling.{is_struct}
-use Rattle.module_meaning.specs.Accepted.{is_accepted}
+use Rattle.module_meaning.specs.acceptance.Accepted.{is_accepted}
 use Rattle.module_meaning.specs.LackingScalars.{over}
 use Rattle.module_meaning.specs.Names.{AreLabelNames, LabelNames, item_labels, module_names}
 use Rattle.module_meaning.specs.Undeclared.{is_undeclared, names_undeclared_by}
@@ -29,14 +30,14 @@ use Rattle.naga_form.specs.Declarations.{entry_point_under, entry_points_under, 
 use Rattle.naga_form.specs.Functions.{function_form}
 use Rattle.module_meaning.specs.FunctionNumbers.{all_functions, callee_count, function_number}
 use Rattle.module_meaning.proofs.FunctionNumbers.{function_among, info_among}
-use Rattle.naga_form.proofs.AcceptedFunctions.{entry_info_among, entry_points_counted}
-use Rattle.naga_form.proofs.AcceptedFunctions.{functions_counted}
+use Rattle.naga_form.proofs.statements.AcceptedFunctions.{entry_info_among, entry_points_counted}
+use Rattle.naga_form.proofs.statements.AcceptedFunctions.{functions_counted}
 use Rattle.naga_names.proofs.Refusal.{element}
 use Rattle.naga_wgsl_fns.specs.Functions.{known_of}
-use Rattle.naga_form.proofs.ExpressionNames.{apart_there, names_behind_are}
-use Rattle.naga_form.proofs.Interface.{has_interface_under}
-use Rattle.naga_form.proofs.OneFunction.{binds_at, resolves_at, runs_at}
-use Rattle.naga_form.proofs.WrittenFunctions.{form_at}
+use Rattle.naga_form.proofs.names.ExpressionNames.{apart_there, names_behind_are}
+use Rattle.naga_form.proofs.declarations.Interface.{has_interface_under}
+use Rattle.naga_form.proofs.statements.OneFunction.{binds_at, resolves_at, runs_at}
+use Rattle.naga_form.proofs.statements.WrittenFunctions.{form_at}
 use Rattle.naga_back.specs.declared.context.FunctionType.{FunctionType}
 use Rattle.naga_back.specs.declared.context.FunctionType.TheVariants as item
 use Rattle.naga_back.specs.declared.flags.WriterFlags.{WriterFlags}

@@ -15,8 +15,8 @@ use Rattle.naga_words.specs.Spelling.{is_struct}
 use Rattle.module_meaning.specs.ExpressionOperators.{type_with}
 use Rattle.module_meaning.specs.ExpressionShapes.{Declared, own_selector, selector}
 use Rattle.module_meaning.specs.Undeclared.{whole_of}
-use Rattle.naga_form.proofs.AllowedParts.{no_own_struct}
-use Rattle.naga_form.proofs.SameValues.{IsFit}
+use Rattle.naga_form.proofs.operators.AllowedParts.{no_own_struct}
+use Rattle.naga_form.proofs.types.SameValues.{IsFit}
 use Rattle.naga_wgsl_fns.specs.Expressions.{struct_at}
 use Rattle.shader_runs.specs.Value.{MemberNamed}
 

@@ -8,7 +8,7 @@ use Rattle.naga_ir.specs.declared.expression.Expression as ir
 use Rattle.naga_ir.specs.declared.expression.Expression.TheVariants as expression
 use Rattle.module_meaning.specs.OperatorTable.{WithoutForm, PartAt}
 use Rattle.module_meaning.specs.ExpressionForms.{expression_is_written}
-use Rattle.naga_form.proofs.AllowedParts.{selected}
+use Rattle.naga_form.proofs.operators.AllowedParts.{selected}
 use Rattle.naga_form.specs.Expressions.{PlainForm, as_value, as_reference, applied_plain, no_form}
 use Rattle.naga_form.specs.Expressions.{own_if, part_plain, points, selected_part}
 use Rattle.naga_scope.specs.declared.points.Availability.{Availability}
@@ -16,7 +16,8 @@ use Rattle.naga_wgsl_fns.specs.Expressions.{base_of, form_at, index_text, is_sig
 use Rattle.naga_wgsl_fns.specs.Expressions.{part_end, plain_tree, selector_end, selector_text}
 use Rattle.naga_wgsl_fns.specs.Expressions.{value_text, word_text}
 use Rattle.naga_wgsl_fns.proofs.Wanted.{expression_formed}
-use Rattle.naga_wgsl_fns.specs.FunctionText.{CanWrite, IsInText, context, expressions, naming, source}
+use Rattle.naga_wgsl_fns.specs.FunctionText.{CanWrite, IsInText, context, expressions, naming}
+use Rattle.naga_wgsl_fns.specs.FunctionText.{source}
 use Rattle.naga_wgsl_fns.specs.declared.functions.FunctionText.{FunctionText}
 use Rattle.shader_runs.specs.Value.{Selector, MemberNamed, ElementAt}
 use Rattle.wgsl_text.proofs.Expressions.{index_text as index_row_text, index_at_text, member_text}

@@ -26,7 +26,7 @@ use Rattle.std.proofs.lemmas.Option.{same_Some}
 use Rattle.naga_wgsl_fns.specs.Expressions.{part_base_text, part_end_text, part_reference_text}
 use Rattle.naga_wgsl_fns.specs.Expressions.{part_value_text, plain_address_text, plain_text}
 use Rattle.naga_wgsl_fns.specs.Expressions.{plain_tree, pointed_text, reference_text, word_text}
-use Rattle.naga_form.proofs.Operators.{query_is_called}
+use Rattle.naga_form.proofs.operators.Operators.{query_is_called}
 use Rattle.module_meaning.specs.ExpressionOperators.{query_operator}
 use Rattle.naga_ir.specs.Operands.{cooperative_operands, query_operands}
 use Rattle.naga_wgsl_fns.proofs.PartForms.{part_form, part_unsigned, selected_unsigned}
@@ -57,7 +57,8 @@ use Rattle.module_meaning.specs.OperatorTable.{AtomicLoad, Operator, WithoutForm
 use Rattle.module_meaning.specs.Names.{numbered_name}
 use Rattle.naga_form.specs.Expressions.{PlainForm, Source, ValueForm, applied_plain, as_reference}
 use Rattle.module_meaning.specs.ExpressionOperators.{type_known}
-use Rattle.naga_form.proofs.Operators.{IsCalled, cast_called, constructor_called, load_called}
+use Rattle.naga_form.proofs.operators.Operators.{IsCalled, cast_called, constructor_called}
+use Rattle.naga_form.proofs.operators.Operators.{load_called}
 use Rattle.naga_form.specs.Expressions.{operator_type, own_if, own_plain, plain_below, plain_form}
 use Rattle.naga_form.specs.Expressions.{availability_plain, value_forms}
 use Rattle.naga_form.specs.TypeTrees.{type_tree}

@@ -4,8 +4,9 @@ use Rattle.naga_wgsl_fns.specs.Refusals.{NamesStatement}
 use Rattle.naga_scope.specs.declared.statements.FormlessStatement.TheVariants as formless_statement
 use Rattle.naga_scope.specs.declared.statements.FormlessStatement.{FormlessStatement}
 use Rattle.naga_scope.proofs.FormedStatements.{some_formless}
-use Rattle.naga_form.proofs.AcceptedFunctions.{accepted_at, function_there, names_are_in_range}
-use Rattle.module_meaning.specs.Ranges.{names_in_range}
+use Rattle.naga_form.proofs.statements.AcceptedFunctions.{accepted_at, function_there}
+use Rattle.naga_form.proofs.statements.AcceptedFunctions.{names_are_in_range}
+use Rattle.module_meaning.specs.acceptance.Ranges.{names_in_range}
 use Rattle.std.proofs.lemmas.Bool.{ltb-true}
 use Rattle.std.proofs.Common.{◌≡◌, ◌<◌, ◌∙◌, ℕ, Bool, false, true, zero, suc, List, [], ◌∷◌}
 use Rattle.std.proofs.Common.{None, Option, Some, ap, arith, inl, inr, length, refl, subst}
@@ -28,7 +29,7 @@ use Rattle.shader_runs.specs.Program.{Function}
 use Rattle.shader_runs.specs.ScopeFaults.{HasScopeFault}
 use Rattle.shader_runs.specs.ScopeRules.{ScopeHolds}
 use Rattle.shader_runs.proofs.ScopeFaults.{fault_is_no_rule}
-use Rattle.module_meaning.specs.Accepted.{is_accepted}
+use Rattle.module_meaning.specs.acceptance.Accepted.{is_accepted}
 use Rattle.module_meaning.specs.ExpressionForms.{expression_has_form}
 use Rattle.module_meaning.proofs.Lists.{list_all_at}
 use Rattle.module_meaning.specs.LackingScalars.{lacking_scalar}
@@ -36,7 +37,7 @@ use Rattle.module_meaning.specs.Written.{IsSpelledIn}
 use Rattle.module_meaning.specs.FunctionNumbers.{all_functions, all_infos}
 use Rattle.module_meaning.specs.FunctionShapes.{function_shape, function_shapes}
 use Rattle.module_meaning.specs.Undeclared.{is_spellable, names_undeclared}
-use Rattle.naga_form.proofs.AcceptedFunctions.{all_counted}
+use Rattle.naga_form.proofs.statements.AcceptedFunctions.{all_counted}
 use Rattle.naga_info.specs.declared.info.TypeResolution.{TypeResolution}
 use Rattle.naga_info.specs.declared.info.TypeResolution.TheVariants.{Handle}
 use Rattle.naga_ir.specs.declared.types.Scalar.{Scalar}
@@ -58,11 +59,12 @@ use Rattle.naga_scope.specs.declared.plan.PlanError.TheVariants.{TypeWithoutForm
 use Rattle.naga_scope.specs.declared.plan.PlanError.TheVariants.{WithoutForm}
 use Rattle.naga_scope.specs.declared.plan.PlanError.TheVariants as plan_error
 use Rattle.naga_scope.proofs.Planned.{shape_found}
-use Rattle.naga_wgsl_fns.specs.declared.error.Error.{Error}
-use Rattle.naga_wgsl_fns.specs.declared.error.Error.TheVariants.{Custom, FmtError, Memory}
+use Rattle.naga_wgsl_fns.specs.declared.refusals.error.Error.{Error}
+use Rattle.naga_wgsl_fns.specs.declared.refusals.error.Error.TheVariants.{Custom, FmtError, Memory}
 use Rattle.naga_words.specs.declared.sink.SinkError.{SinkError}
 use Rattle.naga_wgsl_fns.specs.DeclarationRefusals.{NamesDeclaration, NamesHead}
-use Rattle.naga_wgsl_fns.specs.DeclarationRefusals.NamesDeclaration.{OfHead, OfInitialiser, OfMember}
+use Rattle.naga_wgsl_fns.specs.DeclarationRefusals.NamesDeclaration.{OfHead, OfInitialiser}
+use Rattle.naga_wgsl_fns.specs.DeclarationRefusals.NamesDeclaration.{OfMember}
 use Rattle.naga_wgsl_fns.specs.DeclarationRefusals.NamesDeclaration.{OfOffsets, OfStride}
 use Rattle.naga_wgsl_fns.specs.DeclarationRefusals.NamesDeclaration.{OfType as OfDeclaredType}
 use Rattle.naga_wgsl_fns.specs.DeclarationRefusals.NamesHead.{OfBinding, OfStage}
@@ -88,7 +90,7 @@ use Rattle.naga_wgsl_fns.specs.Constructs.{IsToldAs}
 use Rattle.naga_wgsl_fns.specs.Unplanned.{IsRefusedFor, IsUnplanned, TellsUnplanned}
 use Rattle.naga_wgsl_fns.specs.declared.plans.Unplanned.{Unplanned}
 use Rattle.naga_wgsl_fns.specs.declared.plans.Unplanned.TheVariants as unplanned
-use Rattle.naga_wgsl_fns.specs.declared.construct.Construct.{Construct}
+use Rattle.naga_wgsl_fns.specs.declared.refusals.construct.Construct.{Construct}
 use Rattle.naga_wgsl_fns.specs.declared.plans.FunctionPart.{FunctionPart}
 
 -- ---- functions with a plan

@@ -6,14 +6,14 @@ use Rattle.naga_ir.specs.declared.binding.Binding.TheVariants.{BuiltIn, Location
 use Rattle.text_meaning.specs.Attributes.{stage_binding_read}
 use Rattle.module_meaning.specs.DeclarationForms.{binding_has_form}
 use Rattle.module_meaning.specs.StageBindings.{binding_meant}
-use Rattle.naga_form.proofs.Attributes.{passing_read}
+use Rattle.naga_form.proofs.declarations.Attributes.{passing_read}
 use Rattle.naga_form.specs.Attributes.{binding_attributes}
 use Rattle.naga_words.specs.Sink.{IsBehind}
 use Rattle.naga_wgsl_fns.specs.Attributes.{binding_text}
 use Rattle.naga_wgsl_fns.specs.Bindings.{BindingWriting}
 use Rattle.naga_wgsl_fns.specs.DeclarationRefusals.{NamesBuiltin}
 use Rattle.naga_wgsl_fns.specs.Errors.{IsWant}
-use Rattle.naga_wgsl_fns.specs.declared.error.Error.{Error}
+use Rattle.naga_wgsl_fns.specs.declared.refusals.error.Error.{Error}
 use Rattle.std.specs.Prelude.{Some}
 
 -- the attributes of a binding that has a form say how it is bound

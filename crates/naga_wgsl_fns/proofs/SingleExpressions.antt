@@ -4,11 +4,11 @@ use Rattle.std.proofs.lemmas.List.{append_cancel_left}
 use Rattle.std.specs.Prelude.{Err, IfErr, IsErrAnd, IsFalse, IsTrue, Ok, OnErr, OnOk, Result}
 use Rattle.naga_ir.specs.declared.module.Module.{Module}
 use Rattle.naga_info.specs.declared.info.ModuleInfo.{ModuleInfo}
-use Rattle.module_meaning.specs.Accepted.{is_accepted}
+use Rattle.module_meaning.specs.acceptance.Accepted.{is_accepted}
 use Rattle.module_meaning.specs.ExpressionForms.{global_is_written}
 use Rattle.module_meaning.specs.Types.{type_names}
-use Rattle.naga_form.proofs.DeclaredPrograms.{written_global}
-use Rattle.naga_form.proofs.GlobalValues.{has_value_of}
+use Rattle.naga_form.proofs.declarations.DeclaredPrograms.{written_global}
+use Rattle.naga_form.proofs.declarations.GlobalValues.{has_value_of}
 use Rattle.naga_form.specs.ConstantForms.{global_form}
 use Rattle.naga_form.specs.Declarations.{program_under}
 use Rattle.naga_form.specs.GlobalValues.{HasValueOf}
@@ -21,8 +21,8 @@ use Rattle.naga_wgsl_fns.specs.Errors.{IsWant}
 use Rattle.naga_wgsl_fns.specs.GlobalExpressions.{AppendsTheValue, GlobalWriting}
 use Rattle.naga_wgsl_fns.specs.GlobalExpressions.{IsGlobalRefusal}
 use Rattle.naga_wgsl_fns.specs.Refusals.{NamesGlobal}
-use Rattle.naga_wgsl_fns.specs.declared.error.Error.{Error}
-use Rattle.naga_wgsl_fns.specs.declared.error.Error.TheVariants.{FmtError, Memory}
+use Rattle.naga_wgsl_fns.specs.declared.refusals.error.Error.{Error}
+use Rattle.naga_wgsl_fns.specs.declared.refusals.error.Error.TheVariants.{FmtError, Memory}
 use Rattle.naga_wgsl_fns.proofs.SingleFunctions.{want_tells_nothing}
 use Rattle.naga_wgsl_fns.proofs.PlanRefusals.{no_global_sink}
 

@@ -1,6 +1,8 @@
 -- A function that is written by itself.
-use Rattle.std.proofs.Common.{◌≡◌, ◌+◌, ◌<◌, ◌^◌, ◌∙◌, ◌++◌, ℕ, Bool, List, [], None, Some, append-nil}
-use Rattle.std.proofs.Common.{ap, append_assoc, arith, drop, inl, inr, length, refl, slice_get, subst, sym}
+use Rattle.std.proofs.Common.{◌≡◌, ◌+◌, ◌<◌, ◌^◌, ◌∙◌, ◌++◌, ℕ, Bool, List, [], None, Some}
+use Rattle.std.proofs.Common.{append-nil}
+use Rattle.std.proofs.Common.{ap, append_assoc, arith, drop, inl, inr, length, refl, slice_get}
+use Rattle.std.proofs.Common.{subst, sym}
 use Rattle.std.proofs.Common.{codes, take, unwrap_or, ◌∷◌}
 use Rattle.std.specs.Prelude.{Err, IfErr, IsErrAnd, IsTrue, Ok, OnErr, OnOk, Result}
 use Rattle.std.specs.Option.{option_map_or}
@@ -13,17 +15,17 @@ use Rattle.naga_info.specs.declared.info.ModuleInfo.{ModuleInfo}
 use Rattle.naga_names.specs.Naming.{HasNamed, Names, name_after}
 use Rattle.naga_names.proofs.Refusal.{element}
 use Rattle.module_meaning.proofs.FunctionNumbers.{entry_point_among, function_among, number_within}
-use Rattle.module_meaning.specs.Accepted.{is_accepted}
+use Rattle.module_meaning.specs.acceptance.Accepted.{is_accepted}
 use Rattle.module_meaning.specs.ExpressionLabels.{expression_labels, name_of_label}
 use Rattle.module_meaning.specs.Names.{LabelNames, item_labels, labels_named_in, module_names}
 use Rattle.module_meaning.specs.Names.{wgsl_names}
 use Rattle.module_meaning.specs.DeclarationForms.{HeadHasForm, entry_point_numbered}
 use Rattle.module_meaning.specs.FunctionNumbers.{IsFunctionOf, all_functions, all_infos}
 use Rattle.module_meaning.specs.FunctionNumbers.{function_number}
-use Rattle.naga_form.proofs.AcceptedFunctions.{all_counted}
-use Rattle.naga_form.proofs.DeclaredPrograms.{stage_written}
-use Rattle.naga_form.proofs.WrittenFunctions.{entry_point_at}
-use Rattle.naga_form.proofs.Names.{is_identifier}
+use Rattle.naga_form.proofs.statements.AcceptedFunctions.{all_counted}
+use Rattle.naga_form.proofs.declarations.DeclaredPrograms.{stage_written}
+use Rattle.naga_form.proofs.statements.WrittenFunctions.{entry_point_at}
+use Rattle.naga_form.proofs.names.Names.{is_identifier}
 use Rattle.naga_form.proofs.Programs.{one_is}
 use Rattle.naga_form.specs.Attributes.{stage_attributes}
 use Rattle.naga_form.specs.Declarations.{program_under}
@@ -52,8 +54,8 @@ use Rattle.naga_wgsl_fns.specs.Items.{AppendsOne, FunctionWriting, IsFunctionRef
 use Rattle.naga_wgsl_fns.specs.Items.{HasNamedItemsOf, StandsIn, named_behind, text_behind}
 use Rattle.naga_wgsl_fns.specs.Refusals.{IsPlanRefusal, IsWritableAt, TellsOfModule}
 use Rattle.naga_wgsl_fns.specs.Stages.{stage_text}
-use Rattle.naga_wgsl_fns.specs.declared.error.Error.{Error}
-use Rattle.naga_wgsl_fns.specs.declared.error.Error.TheVariants.{FmtError, Memory}
+use Rattle.naga_wgsl_fns.specs.declared.refusals.error.Error.{Error}
+use Rattle.naga_wgsl_fns.specs.declared.refusals.error.Error.TheVariants.{FmtError, Memory}
 use Rattle.naga_wgsl_fns.proofs.ExpressionNames.{named_are, none_full}
 use Rattle.naga_wgsl_fns.proofs.FunctionRows.{no_entry_point, point_within}
 use Rattle.naga_wgsl_fns.proofs.MeantFunctions.{is_meant, own_function, own_point}

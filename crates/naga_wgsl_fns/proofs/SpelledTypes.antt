@@ -3,7 +3,8 @@
 -- Throughout, ps are the parts of a spelling (qs are others), n are the names of structs and
 -- overrides, knows says which overrides are known, f gives the parts of the type at a handle, h is
 -- the handle of a type, it one by itself, and levels is how deep types may name one another.
-use Rattle.std.proofs.Common.{◌≡◌, ℕ, zero, suc, Bool, true, false, List, [], ◌∷◌, ◌++◌, Option, Some}
+use Rattle.std.proofs.Common.{◌≡◌, ℕ, zero, suc, Bool, true, false, List, [], ◌∷◌, ◌++◌, Option}
+use Rattle.std.proofs.Common.{Some}
 use Rattle.std.proofs.Common.{None, refl, sym, ap, ◌∙◌, codes, slice_get, not}
 use Rattle.std.specs.Prelude.{if◌then◌else◌, IsTrue}
 use Rattle.std.specs.Option.{is_some, option_map}
@@ -23,20 +24,23 @@ use Rattle.naga_ir.specs.declared.types.Type_.{Type_}
 use Rattle.naga_ir.specs.declared.types.VectorSize.{VectorSize}
 use Rattle.naga_names.specs.Keys.{NameMap}
 use Rattle.naga_words.specs.Contexts.{Names, names_context, names_of, writer_context}
-use Rattle.naga_words.specs.Segments.{HasWritten, IsText, NoSegments, WordThen, ShownThen, known_text}
+use Rattle.naga_words.specs.Segments.{HasWritten, IsText, NoSegments, WordThen, ShownThen}
+use Rattle.naga_words.specs.Segments.{known_text}
 use Rattle.naga_words.specs.Segments.{Segment, Word, Shown, Missing}
-use Rattle.naga_words.specs.Spelling.{found_segments_by, inner_segments_by, is_struct, length_segments}
+use Rattle.naga_words.specs.Spelling.{found_segments_by, inner_segments_by, is_struct}
+use Rattle.naga_words.specs.Spelling.{length_segments}
 use Rattle.naga_words.specs.Spelling.{pointer_segments, segments_within, type_segments}
 use Rattle.naga_words.specs.Values.{access_segments, image_segments, pointer_in, scalar_segments_of}
 use Rattle.naga_words.specs.Values.{template_segments, value_pointer_segments, value_segments}
-use Rattle.naga_words.specs.Words.{cooperative_word, image_word, matrix_word, role_tail, vector_word}
+use Rattle.naga_words.specs.Words.{cooperative_word, image_word, matrix_word, role_tail}
+use Rattle.naga_words.specs.Words.{vector_word}
 use Rattle.wgsl_text.proofs.Text.{text-append}
 use Rattle.wgsl_text.specs.Reading.{type_layout}
 use Rattle.wgsl_words.specs.Words.{scalar_word, space_access_word, space_word}
 use Rattle.module_meaning.specs.AlikeTypes.{is_spelled, type_key}
 use Rattle.module_meaning.specs.Undeclared.{is_spellable, names_undeclared}
-use Rattle.naga_form.proofs.AlikeTypes.{form_is_read, form_read}
-use Rattle.naga_form.proofs.TypeTrees.{type_row}
+use Rattle.naga_form.proofs.types.AlikeTypes.{form_is_read, form_read}
+use Rattle.naga_form.proofs.types.TypeTrees.{type_row}
 use Rattle.naga_form.specs.TypeTrees.{type_tree}
 
 -- ---- debug texts

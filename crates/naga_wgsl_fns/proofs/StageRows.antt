@@ -1,7 +1,8 @@
 -- The texts of the stages of entry points, from what is written of them in turn.
 --
 -- Throughout, m is a module, e an entry point of it, and front is what stands in front of a variable.
-use Rattle.std.proofs.Common.{◌≡◌, ◌∙◌, ◌++◌, ◌==◌, ℕ, List, [], ◌∷◌, append_assoc, ap, arith, codes}
+use Rattle.std.proofs.Common.{◌≡◌, ◌∙◌, ◌++◌, ◌==◌, ℕ, List, [], ◌∷◌, append_assoc, ap, arith}
+use Rattle.std.proofs.Common.{codes}
 use Rattle.std.proofs.Common.{decimal, get_or, length, refl, slice_get, sym, true, zero, suc}
 use Rattle.std.specs.Prelude.{◌&&◌, Option, Some, None, IsTrue}
 use Rattle.std.specs.List.{list_all}
@@ -14,14 +15,15 @@ use Rattle.naga_ir.specs.declared.module.MeshStageInfo.{MeshStageInfo}
 use Rattle.naga_ir.specs.declared.module.Module.{Module}
 use Rattle.naga_ir.specs.declared.module.ShaderStage.TheVariants as stage
 use Rattle.module_meaning.proofs.Lists.{list_all_at}
-use Rattle.module_meaning.specs.Accepted.{is_accepted}
+use Rattle.module_meaning.specs.acceptance.Accepted.{is_accepted}
 use Rattle.module_meaning.specs.Names.{global_name, module_names}
-use Rattle.module_meaning.specs.AgreeingOperators.{module_operators_agree}
-use Rattle.module_meaning.specs.InfoSizes.{sizes_fit, type_is_fit}
-use Rattle.module_meaning.specs.Ranges.{all_placed, declarations_in_range, entry_point_in_range}
-use Rattle.module_meaning.specs.Ranges.{function_in_range, is_below, module_in_range}
-use Rattle.module_meaning.specs.Ranges.{module_ranges_fit}
-use Rattle.module_meaning.specs.Soundness.{module_is_sound}
+use Rattle.module_meaning.specs.acceptance.AgreeingOperators.{module_operators_agree}
+use Rattle.module_meaning.specs.acceptance.InfoSizes.{sizes_fit, type_is_fit}
+use Rattle.module_meaning.specs.acceptance.Ranges.{all_placed, declarations_in_range}
+use Rattle.module_meaning.specs.acceptance.Ranges.{entry_point_in_range}
+use Rattle.module_meaning.specs.acceptance.Ranges.{function_in_range, is_below, module_in_range}
+use Rattle.module_meaning.specs.acceptance.Ranges.{module_ranges_fit}
+use Rattle.module_meaning.specs.acceptance.Soundness.{module_is_sound}
 use Rattle.naga_form.specs.Attributes.{attribute_of, payload_attributes, size_attributes}
 use Rattle.naga_form.specs.Attributes.{stage_attributes}
 use Rattle.naga_words.specs.Output.{joined_texts}

@@ -23,7 +23,7 @@ use Rattle.naga_ir.specs.StatementViews.{tree_of, block_of}
 use Rattle.naga_ir.specs.declared.statement.Statement.{Statement}
 use Rattle.naga_back.specs.Indentation.{indentation}
 use Rattle.naga_ir.proofs.Listed.{first_of}
-use Rattle.module_meaning.specs.Ranges.{named_in_range, statement_in_range}
+use Rattle.module_meaning.specs.acceptance.Ranges.{named_in_range, statement_in_range}
 use Rattle.shader_runs.specs.Program as shapes
 use Rattle.shader_runs.specs.Program.{binds, from}
 use Rattle.shader_runs.specs.Form.{word_of}
@@ -37,7 +37,8 @@ use Rattle.naga_form.specs.Expressions.{as_value, as_reference, plain_form, valu
 use Rattle.naga_form.specs.Expressions.{unnamed_form}
 use Rattle.wgsl_text.specs.Statements.{Statements, NoStatements, Then}
 use Rattle.wgsl_text.specs.Statements.{CallStatement}
-use Rattle.naga_form.specs.Statements.{act_line, barrier_lines, cases_form, let_form, then_if, lets_form, jump_form, loop_form}
+use Rattle.naga_form.specs.Statements.{act_line, barrier_lines, cases_form, let_form, then_if}
+use Rattle.naga_form.specs.Statements.{lets_form, jump_form, loop_form}
 use Rattle.naga_form.specs.Statements.{line_form, lines_form, optional_form, shape_form}
 use Rattle.wgsl_text.proofs.Statements.{let_text as let_row_text, typed_let_text, assign_text}
 use Rattle.wgsl_text.proofs.Statements.{return_text as return_row_text, then_text}
@@ -52,9 +53,12 @@ use Rattle.naga_wgsl_fns.specs.FunctionText.{context, handles_in, let_annotation
 use Rattle.naga_wgsl_fns.specs.FunctionText.{naming, source}
 use Rattle.naga_wgsl_fns.specs.Names.{next_name_text}
 use Rattle.naga_wgsl_fns.specs.Expressions.{own_text, reference_text, value_text}
-use Rattle.naga_wgsl_fns.specs.Statements.{after_statement, around_text, assignment_text, block_text}
-use Rattle.naga_wgsl_fns.specs.Statements.{emitted_text, let_line, let_text, lets_text, left_to_continuing}
-use Rattle.naga_wgsl_fns.specs.Statements.{line_start, line_text, lines_text, named_behind, named_behind_statement}
+use Rattle.naga_wgsl_fns.specs.Statements.{after_statement, around_text, assignment_text}
+use Rattle.naga_wgsl_fns.specs.Statements.{block_text}
+use Rattle.naga_wgsl_fns.specs.Statements.{emitted_text, let_line, let_text, lets_text}
+use Rattle.naga_wgsl_fns.specs.Statements.{left_to_continuing}
+use Rattle.naga_wgsl_fns.specs.Statements.{line_start, line_text, lines_text, named_behind}
+use Rattle.naga_wgsl_fns.specs.Statements.{named_behind_statement}
 use Rattle.naga_wgsl_fns.specs.Statements.{act_text, act_word, is_act, statement_text, word_in}
 use Rattle.naga_wgsl_fns.specs.Types.{let_annotation_text, annotation_if}
 

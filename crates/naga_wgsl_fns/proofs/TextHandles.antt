@@ -1,5 +1,5 @@
 -- The handles that a function's statements and locals write by themselves are in its text.
-use Rattle.naga_form.proofs.WrittenHandles.{all_among}
+use Rattle.naga_form.proofs.statements.WrittenHandles.{all_among}
 use Rattle.module_meaning.specs.Written.{block_lets}
 use Rattle.naga_wgsl_fns.specs.FunctionText.{CanWriteBlock}
 use Rattle.std.proofs.Common.{subst}
@@ -9,22 +9,25 @@ use Rattle.naga_ir.specs.Operands.{own_result}
 use Rattle.std.proofs.Common.{ap, sym, ◌∙◌}
 use Rattle.std.specs.Prelude.{◌&&◌, nat_lt}
 use Rattle.std.proofs.lemmas.Bool.{and_parts, ltb-true}
-use Rattle.module_meaning.specs.Numbers.{label_fits_32_bits}
-use Rattle.module_meaning.specs.Ranges.{all_below, block_in_range, cases_in_range}
-use Rattle.module_meaning.specs.Ranges.{is_below, statement_in_range}
-use Rattle.module_meaning.specs.Written.{IsWrittenIn, block_roots, cases_roots, simple_roots, statement_roots}
+use Rattle.module_meaning.specs.acceptance.Numbers.{label_fits_32_bits}
+use Rattle.module_meaning.specs.acceptance.Ranges.{all_below, block_in_range, cases_in_range}
+use Rattle.module_meaning.specs.acceptance.Ranges.{is_below, statement_in_range}
+use Rattle.module_meaning.specs.Written.{IsWrittenIn, block_roots, cases_roots, simple_roots}
+use Rattle.module_meaning.specs.Written.{statement_roots}
 use Rattle.naga_ir.specs.Operands.{simple_result, simple_operands}
 use Rattle.naga_ir.specs.StatementTree.{SimpleStatement, emit}
-use Rattle.naga_ir.specs.StatementTree.{StatementTree, simple, block, branch, switch, loop, BlockTree, no_statements, statement}
+use Rattle.naga_ir.specs.StatementTree.{StatementTree, simple, block, branch, switch, loop}
+use Rattle.naga_ir.specs.StatementTree.{BlockTree, no_statements, statement}
 use Rattle.naga_ir.specs.StatementTree.{CaseTrees, no_cases, case}
 use Rattle.naga_wgsl_fns.proofs.StatementRows.{emit_within}
-use Rattle.std.proofs.Common.{◌≡◌, ℕ, suc, zero, ◌<◌, ◌≤◌, ◌+◌, ◌-◌, Bool, true, false, List, [], ◌∷◌, ◌++◌}
+use Rattle.std.proofs.Common.{◌≡◌, ℕ, suc, zero, ◌<◌, ◌≤◌, ◌+◌, ◌-◌, Bool, true, false, List, []}
+use Rattle.std.proofs.Common.{◌∷◌, ◌++◌}
 use Rattle.std.proofs.Common.{Option, Some, None, IsTrue, length, arith, refl}
 use Rattle.std.specs.Prelude.{if◌then◌else◌, slice_get}
 use Rattle.std.specs.List.{AllByRecursion, filter}
 use Rattle.std.specs.Option.{option_to_list}
-use Rattle.naga_form.proofs.AcceptedFunctions.{ranges_are}
-use Rattle.naga_form.proofs.WrittenHandles.{written_are_closed}
+use Rattle.naga_form.proofs.statements.AcceptedFunctions.{ranges_are}
+use Rattle.naga_form.proofs.statements.WrittenHandles.{written_are_closed}
 use Rattle.naga_ir.specs.declared.module.LocalVariable.{LocalVariable}
 use Rattle.shader_runs.specs.Program.{from}
 use Rattle.naga_wgsl_fns.proofs.Wanted.{first_within}

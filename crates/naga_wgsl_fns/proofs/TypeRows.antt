@@ -9,7 +9,7 @@ use Rattle.naga_ir.specs.declared.types.TypeInner.{TypeInner}
 use Rattle.naga_ir.specs.declared.types.TypeInner.TheVariants as inner
 use Rattle.wgsl_text.specs.Types.{Named}
 use Rattle.wgsl_text.proofs.Text.{text-append}
-use Rattle.naga_form.proofs.TypeTrees.{only_text, lacks_unknown, type_row, inner_tree_row}
+use Rattle.naga_form.proofs.types.TypeTrees.{only_text, lacks_unknown, type_row, inner_tree_row}
 use Rattle.naga_names.specs.Keys.{NameMap, names_in}
 use Rattle.naga_info.specs.declared.info.TypeResolution.{TypeResolution}
 use Rattle.naga_info.specs.declared.info.TypeResolution.TheVariants as resolution
@@ -32,11 +32,11 @@ use Rattle.naga_wgsl_fns.specs.FunctionText.{CanWrite}
 use Rattle.naga_wgsl_fns.specs.ModuleText.{CanWriteOf}
 use Rattle.naga_wgsl_fns.proofs.ModuleTexts.{can_of}
 use Rattle.module_meaning.specs.AlikeTypes.{key_within, found_key_by, handle_key, is_spelled}
-use Rattle.module_meaning.specs.Ranges.{resolution_fits}
+use Rattle.module_meaning.specs.acceptance.Ranges.{resolution_fits}
 use Rattle.module_meaning.specs.Types.{type_names}
-use Rattle.naga_form.proofs.PartTypes.{known_before, known_within, named_alike}
-use Rattle.naga_form.proofs.PartTypes.{type_before}
-use Rattle.naga_form.proofs.WrittenTypes.{resolution_same, tree_there}
+use Rattle.naga_form.proofs.types.PartTypes.{known_before, known_within, named_alike}
+use Rattle.naga_form.proofs.types.PartTypes.{type_before}
+use Rattle.naga_form.proofs.types.WrittenTypes.{resolution_same, tree_there}
 use Rattle.naga_ir.specs.declared.module.Module.{Module}
 use Rattle.naga_ir.specs.declared.types.ArraySize.{ArraySize}
 use Rattle.naga_ir.specs.declared.types.ArraySize.TheVariants as size

@@ -40,16 +40,17 @@ use Rattle.module_meaning.specs.DeclarationForms.IsPassed.{OfArgument as PassedA
 use Rattle.module_meaning.specs.DeclarationForms.IsPassed.{OfResult as PassedResult}
 use Rattle.naga_wgsl_fns.specs.Bindings.{passing_has_form}
 use Rattle.module_meaning.specs.ExpressionForms.{expression_is_written, known_passes}
-use Rattle.naga_form.proofs.AcceptedGroups.{fits_in_range, known_fits, known_is_fit}
-use Rattle.naga_form.proofs.PartTypes.{known_before}
+use Rattle.naga_form.proofs.declarations.AcceptedGroups.{fits_in_range, known_fits, known_is_fit}
+use Rattle.naga_form.proofs.types.PartTypes.{known_before}
 use Rattle.naga_info.specs.declared.info.ModuleInfo.{ModuleInfo}
 use Rattle.naga_words.specs.Spelling.{is_struct}
 use Rattle.module_meaning.specs.ExpressionOperators.{has_parts, is_composite, type_known}
 use Rattle.module_meaning.specs.ExpressionShapes.{Declared, component_letters, own_selector}
 use Rattle.module_meaning.specs.ExpressionShapes.{part_selector, selector}
-use Rattle.naga_form.proofs.AllowedParts.{LoadedMatrix, conversion, known_base, loaded_matrix}
-use Rattle.naga_form.proofs.AllowedParts.{selector_is, whole_is}
-use Rattle.naga_form.proofs.AllowedParts.{type_known_is as known_type_is}
+use Rattle.naga_form.proofs.operators.AllowedParts.{LoadedMatrix, conversion, known_base}
+use Rattle.naga_form.proofs.operators.AllowedParts.{loaded_matrix}
+use Rattle.naga_form.proofs.operators.AllowedParts.{selector_is, whole_is}
+use Rattle.naga_form.proofs.operators.AllowedParts.{type_known_is as known_type_is}
 use Rattle.naga_ir.specs.declared.types.ScalarKind.{ScalarKind}
 use Rattle.module_meaning.specs.Conversions.{conversion_target}
 use Rattle.naga_info.specs.Resolution.{InRange, handle_of, inner_of}
@@ -74,18 +75,19 @@ use Rattle.naga_wgsl_fns.specs.Expressions.{has_components, is_vector, selector_
 use Rattle.naga_wgsl_fns.specs.FunctionText.{source}
 use Rattle.std.proofs.lemmas.Option.{slice_get_within}
 use Rattle.std.specs.Prelude.{if◌then◌else◌}
-use Rattle.module_meaning.specs.Ranges.{is_below, local_in_range, names_in_range, resolution_fits}
+use Rattle.module_meaning.specs.acceptance.Ranges.{is_below, local_in_range, names_in_range}
+use Rattle.module_meaning.specs.acceptance.Ranges.{resolution_fits}
 use Rattle.module_meaning.specs.Premises.{OperandsStandBefore}
 use Rattle.module_meaning.specs.Types.{type_names}
 use Rattle.shader_runs.specs.Premises.{AllBelow}
 use Rattle.shader_runs.specs.Scope.{named_after, named_by}
-use Rattle.naga_form.proofs.AcceptedFunctions.{locals_are_in_range, names_are_in_range}
+use Rattle.naga_form.proofs.statements.AcceptedFunctions.{locals_are_in_range, names_are_in_range}
 use Rattle.naga_form.proofs.Fits.{named_by_is, named_is, named_one}
 use Rattle.module_meaning.specs.ExpressionLabels.{label_of, labels_in}
 use Rattle.naga_scope.specs.Availabilities.{name_of_bound, next_name}
 use Rattle.naga_wgsl_fns.specs.Names.{bound_text, next_name_text}
-use Rattle.naga_form.proofs.Ordered.{operands_stand_before}
-use Rattle.naga_form.proofs.WrittenTypes.{tree_there}
+use Rattle.naga_form.proofs.operators.Ordered.{operands_stand_before}
+use Rattle.naga_form.proofs.types.WrittenTypes.{tree_there}
 use Rattle.naga_wgsl_fns.proofs.Members.{found_none, found_struct, member_selected, no_struct}
 use Rattle.naga_form.specs.TypeTrees.{resolution_tree}
 use Rattle.naga_form.specs.Types.{annotated_type}
@@ -97,7 +99,7 @@ use Rattle.naga_back.specs.Flags.{annotates_types}
 use Rattle.module_meaning.specs.ExpressionOperators.{called_word}
 use Rattle.naga_wgsl_fns.specs.FunctionText.{callees, number}
 use Rattle.module_meaning.specs.Written.{IsWrittenIn, OfArgument, OfLet, OfLocal, OfResult}
-use Rattle.naga_form.proofs.WrittenHandles.{all_front, all_rest, written_are_closed}
+use Rattle.naga_form.proofs.statements.WrittenHandles.{all_front, all_rest, written_are_closed}
 use Rattle.std.specs.List.{AllByRecursion}
 use Rattle.std.proofs.Common.{◌∷◌}
 use Rattle.naga_wgsl_fns.specs.Types.{annotation_text, resolution_text, let_annotation_text}

@@ -2,7 +2,7 @@
 -- and both afterwards.
 use Rattle.std.specs.Prelude.{◌≡◌, ℕ, List, ◌++◌, Result, Ok, Err}
 use Rattle.naga_words.specs.Sink.{IsBehind}
-use Rattle.naga_wgsl_fns.specs.declared.error.Error.{Error}
+use Rattle.naga_wgsl_fns.specs.declared.refusals.error.Error.{Error}
 use Rattle.naga_wgsl_fns.specs.Errors.{IsWant}
 
 -- the text stands after what the sink held, and the sink has not failed

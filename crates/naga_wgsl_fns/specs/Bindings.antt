@@ -13,7 +13,7 @@ use Rattle.naga_words.specs.Sink.{IsBehind}
 use Rattle.naga_wgsl_fns.specs.Attributes.{binding_text}
 use Rattle.naga_wgsl_fns.specs.DeclarationRefusals.{NamesBuiltin}
 use Rattle.naga_wgsl_fns.specs.Errors.{IsWant}
-use Rattle.naga_wgsl_fns.specs.declared.error.Error.{Error}
+use Rattle.naga_wgsl_fns.specs.declared.refusals.error.Error.{Error}
 
 -- what passes in or out has a form where its binding has one, if it has a binding
 abbrev pub passing_has_form : Option Binding → Bool

@@ -30,8 +30,8 @@ use Rattle.naga_scope.specs.declared.declarations.FormlessHead.TheVariants as he
 use Rattle.naga_scope.specs.declared.plan.PlanError.{PlanError}
 use Rattle.naga_scope.specs.declared.plan.PlanError.TheVariants as plan_error
 use Rattle.naga_wgsl_fns.specs.Refusals.{converted, is_operation, made_type, pointed_scalar}
-use Rattle.naga_wgsl_fns.specs.declared.construct.Construct.{Construct}
-use Rattle.naga_wgsl_fns.specs.declared.construct.Construct.TheVariants as construct
+use Rattle.naga_wgsl_fns.specs.declared.refusals.construct.Construct.{Construct}
+use Rattle.naga_wgsl_fns.specs.declared.refusals.construct.Construct.TheVariants as construct
 
 -- ---- types
 -- if it is a scalar, it is this one

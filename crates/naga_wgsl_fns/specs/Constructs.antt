@@ -1,10 +1,10 @@
 -- What is told of a construct for which a module is refused.
 use Rattle.std.specs.Prelude.{◌≡◌, ℕ, List, codes, Option, Some, None}
 use Rattle.naga_wgsl_fns.specs.Errors.{IsCustom, IsUnimplemented, IsUnsupported}
-use Rattle.naga_wgsl_fns.specs.declared.construct.Construct.{Construct}
-use Rattle.naga_wgsl_fns.specs.declared.construct.Construct.TheVariants as construct
-use Rattle.naga_wgsl_fns.specs.declared.error.Error.{Error}
-use Rattle.naga_wgsl_fns.specs.declared.error.Error.TheVariants.{UnsupportedRelationalFunction}
+use Rattle.naga_wgsl_fns.specs.declared.refusals.construct.Construct.{Construct}
+use Rattle.naga_wgsl_fns.specs.declared.refusals.construct.Construct.TheVariants as construct
+use Rattle.naga_wgsl_fns.specs.declared.refusals.error.Error.{Error}
+use Rattle.naga_wgsl_fns.specs.declared.refusals.error.Error.TheVariants.{UnsupportedRelationalFunction}
 
 -- The words of a construct. Of one with a value they say what kind of thing that is, and its debug
 -- text is told after them.

@@ -24,8 +24,8 @@ use Rattle.naga_wgsl_fns.specs.Errors.{IsCustom, IsUnsupported}
 use Rattle.naga_wgsl_fns.specs.Refusals.{NamesGlobal, NamesType}
 use Rattle.naga_wgsl_fns.specs.Carried.{CarriesOfDeclaration}
 use Rattle.naga_wgsl_fns.specs.Constructs.{IsToldAs, Tells}
-use Rattle.naga_wgsl_fns.specs.declared.construct.Construct.{Construct}
-use Rattle.naga_wgsl_fns.specs.declared.error.Error.{Error}
+use Rattle.naga_wgsl_fns.specs.declared.refusals.construct.Construct.{Construct}
+use Rattle.naga_wgsl_fns.specs.declared.refusals.error.Error.{Error}
 use Rattle.wgsl_layout.specs.declared.members.Misplaced.{Misplaced}
 use Rattle.wgsl_layout.specs.declared.members.Misplaced.TheVariants.{OffAlignment, Overlapping}
 

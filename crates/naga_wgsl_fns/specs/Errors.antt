@@ -5,10 +5,12 @@ use Rattle.naga_words.specs.declared.error.TypeTextError.TheVariants.{Sink, NoFo
 use Rattle.naga_words.specs.declared.error.TypeTextError.TheVariants.{Memory as NoMemory}
 use Rattle.naga_words.specs.declared.sink.SinkError.{SinkError}
 use Rattle.naga_words.specs.declared.sink.SinkError.TheVariants.{Failed, Memory}
-use Rattle.naga_wgsl_fns.specs.declared.error.Error.{Error}
-use Rattle.naga_wgsl_fns.specs.declared.error.Error.TheVariants.{Custom as CustomError, FmtError}
-use Rattle.naga_wgsl_fns.specs.declared.error.Error.TheVariants.{Memory as Want, Unimplemented}
-use Rattle.naga_wgsl_fns.specs.declared.error.Error.TheVariants.{Unsupported}
+use Rattle.naga_wgsl_fns.specs.declared.refusals.error.Error.{Error}
+use Rattle.naga_wgsl_fns.specs.declared.refusals.error.Error.TheVariants.{Custom as CustomError}
+use Rattle.naga_wgsl_fns.specs.declared.refusals.error.Error.TheVariants.{FmtError}
+use Rattle.naga_wgsl_fns.specs.declared.refusals.error.Error.TheVariants.{Memory as Want}
+use Rattle.naga_wgsl_fns.specs.declared.refusals.error.Error.TheVariants.{Unimplemented}
+use Rattle.naga_wgsl_fns.specs.declared.refusals.error.Error.TheVariants.{Unsupported}
 
 -- want of memory is told as such, whoever wanted it
 abbrev pub error_of_sink : SinkError → Error

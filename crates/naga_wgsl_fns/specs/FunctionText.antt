@@ -15,10 +15,11 @@ use Rattle.naga_scope.specs.declared.points.Availability.{Availability}
 use Rattle.naga_scope.specs.Availabilities.{handles_of}
 use Rattle.naga_scope.specs.Tables.{AreTablesOf}
 use Rattle.naga_ir.specs.declared.expression.Expression.{Expression}
-use Rattle.module_meaning.specs.Accepted.{is_accepted}
+use Rattle.module_meaning.specs.acceptance.Accepted.{is_accepted}
 use Rattle.module_meaning.specs.DeclarationForms.{HeadHasForm}
-use Rattle.module_meaning.specs.Ranges.{block_in_range, cases_in_range, function_in_range}
-use Rattle.module_meaning.specs.Ranges.{statement_in_range}
+use Rattle.module_meaning.specs.acceptance.Ranges.{block_in_range, cases_in_range}
+use Rattle.module_meaning.specs.acceptance.Ranges.{function_in_range}
+use Rattle.module_meaning.specs.acceptance.Ranges.{statement_in_range}
 use Rattle.naga_ir.specs.StatementTree.{BlockTree, CaseTrees, StatementTree}
 use Rattle.naga_names.specs.Keys.{names_in}
 use Rattle.shader_runs.specs.Scope.{Handles, Naming}

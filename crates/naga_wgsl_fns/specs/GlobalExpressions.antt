@@ -5,7 +5,7 @@ use Rattle.std.specs.Prelude.{◌≡◌, ⊤, ℕ, ◌++◌, List, IfErr, IsFals
 use Rattle.std.specs.Prelude.{IsTrue, Ok, Err, OnErr, OnOk, Result}
 use Rattle.naga_ir.specs.declared.module.Module.{Module}
 use Rattle.naga_info.specs.declared.info.ModuleInfo.{ModuleInfo}
-use Rattle.module_meaning.specs.Accepted.{is_accepted}
+use Rattle.module_meaning.specs.acceptance.Accepted.{is_accepted}
 use Rattle.module_meaning.specs.ExpressionForms.{global_is_written}
 use Rattle.module_meaning.specs.Names.{LabelNames}
 use Rattle.naga_form.specs.Declarations.{program_under}
@@ -17,8 +17,8 @@ use Rattle.naga_words.specs.Sink.{IsBehind}
 use Rattle.naga_wgsl_fns.specs.Constants.{global_at, global_text}
 use Rattle.naga_wgsl_fns.specs.Errors.{IsSinkWant}
 use Rattle.naga_wgsl_fns.specs.Refusals.{NamesGlobal, TellsOfModule}
-use Rattle.naga_wgsl_fns.specs.declared.error.Error.{Error}
-use Rattle.naga_wgsl_fns.specs.declared.error.Error.TheVariants.{FmtError, Memory}
+use Rattle.naga_wgsl_fns.specs.declared.refusals.error.Error.{Error}
+use Rattle.naga_wgsl_fns.specs.declared.refusals.error.Error.TheVariants.{FmtError, Memory}
 use Rattle.naga_back.specs.declared.flags.WriterFlags.{WriterFlags}
 
 -- why it is refused, where the sink had failed so often before and has failed so often now

@@ -45,8 +45,8 @@ use Rattle.naga_wgsl_fns.specs.Functions.{text_under}
 use Rattle.naga_wgsl_fns.specs.GlobalExpressions.{RefusesGlobalOnlyFor}
 use Rattle.naga_wgsl_fns.specs.DeclarationRefusals.{NamesHead}
 use Rattle.naga_wgsl_fns.specs.Refusals.{HasNamedLabels, IsFault, IsWritableAt, TellsOfModule}
-use Rattle.naga_wgsl_fns.specs.declared.error.Error.{Error}
-use Rattle.naga_wgsl_fns.specs.declared.error.Error.TheVariants.{FmtError, Memory}
+use Rattle.naga_wgsl_fns.specs.declared.refusals.error.Error.{Error}
+use Rattle.naga_wgsl_fns.specs.declared.refusals.error.Error.TheVariants.{FmtError, Memory}
 
 -- with the words and prefixes of WGSL the namer has named the labels of the module's items, and
 -- others after them

@@ -59,10 +59,11 @@ use Rattle.naga_scope.specs.declared.statements.FormlessStatement.TheVariants as
 use Rattle.naga_scope.specs.FormlessStatements.{formless_statement as formless_statement_of}
 use Rattle.naga_scope.specs.declared.plan.PlanError.TheVariants as plan_error
 use Rattle.naga_wgsl_fns.specs.Errors.{IsCustom, IsUnimplemented, IsUnsupported}
-use Rattle.naga_wgsl_fns.specs.declared.error.Error.{Error}
-use Rattle.naga_wgsl_fns.specs.declared.error.Error.TheVariants.{FmtError, Custom}
-use Rattle.naga_wgsl_fns.specs.declared.error.Error.TheVariants.{Memory, Unimplemented, Unsupported}
-use Rattle.naga_wgsl_fns.specs.declared.error.Error.TheVariants.{UnsupportedRelationalFunction}
+use Rattle.naga_wgsl_fns.specs.declared.refusals.error.Error.{Error}
+use Rattle.naga_wgsl_fns.specs.declared.refusals.error.Error.TheVariants.{FmtError, Custom}
+use Rattle.naga_wgsl_fns.specs.declared.refusals.error.Error.TheVariants.{Memory, Unimplemented}
+use Rattle.naga_wgsl_fns.specs.declared.refusals.error.Error.TheVariants.{Unsupported}
+use Rattle.naga_wgsl_fns.specs.declared.refusals.error.Error.TheVariants.{UnsupportedRelationalFunction}
 
 -- the names of some labels that front ends gave in the function with this number can't be told
 -- after these earlier labels, since so many of them have one base

@@ -18,8 +18,8 @@ ghost use Rattle.naga_wgsl_fns.specs.DeclarationRefusals.{NamesBuiltin};
 ghost use Rattle.naga_wgsl_fns.specs.Errors.{IsWant};
 
 use crate::attributes::{write_if, write_interpolated, write_numbered, write_worded};
-use crate::error::{Error, error_of_want};
 use crate::implemented::to_wgsl_if_implemented;
+use crate::refusals::error::{Error, error_of_want};
 use naga_ir::{Binding, BuiltIn, Interpolation, Sampling};
 use naga_words::{Output, TextSink};
 use std::alloc::Global;

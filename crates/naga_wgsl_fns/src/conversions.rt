@@ -5,7 +5,7 @@ ghost use Rattle.std.specs.Option.{is_some};
 ghost use Rattle.module_meaning.specs.Conversions.{conversion_target, keeps_bits};
 ghost use Rattle.module_meaning.specs.AlikeTypes.{is_spelled};
 ghost use Rattle.module_meaning.specs.ExpressionForms.{expression_is_written};
-ghost use Rattle.module_meaning.specs.Ranges.{resolution_fits};
+ghost use Rattle.module_meaning.specs.acceptance.Ranges.{resolution_fits};
 ghost use Rattle.naga_ir.specs.declared.expression.Expression.TheVariants.{As};
 ghost use Rattle.naga_wgsl_fns.specs.Expressions.{bitcast_text, callee_text, cast_text};
 ghost use Rattle.naga_wgsl_fns.specs.Expressions.{conversion_callee, made_text};

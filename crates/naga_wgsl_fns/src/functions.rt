@@ -2,7 +2,7 @@
 
 ghost use Rattle.std.specs.Prelude.{◌≡◌, ◌<◌, ◌++◌, IfErr, IsTrue, OnErr, OnOk, Some, length};
 ghost use Rattle.std.specs.Prelude.{slice_get, true};
-ghost use Rattle.module_meaning.specs.Accepted.{is_accepted};
+ghost use Rattle.module_meaning.specs.acceptance.Accepted.{is_accepted};
 ghost use Rattle.module_meaning.specs.AlikeTypes.{is_spelled};
 ghost use Rattle.naga_info.specs.declared.info.TypeResolution.TheVariants as resolution;
 ghost use Rattle.module_meaning.specs.DeclarationForms.{HeadHasForm, binding_has_form};
@@ -31,9 +31,9 @@ ghost use Rattle.naga_wgsl_fns.specs.Functions.{names_of, text_under};
 
 use crate::Error;
 use crate::bindings::write_passing;
-use crate::error::error_of_want;
 use crate::indent::Indent;
 use crate::lines::Position;
+use crate::refusals::error::error_of_want;
 use naga_back::{FunctionType, WriterFlags};
 use naga_info::{FunctionInfo, ModuleInfo};
 use naga_ir::{

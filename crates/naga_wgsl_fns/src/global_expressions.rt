@@ -1,7 +1,7 @@
 //! A module's own expressions, written one by one.
 
 ghost use Rattle.std.specs.Prelude.{◌≡◌, ◌<◌, ◌++◌, IfErr, IsTrue, OnErr, OnOk, length};
-ghost use Rattle.module_meaning.specs.Accepted.{is_accepted};
+ghost use Rattle.module_meaning.specs.acceptance.Accepted.{is_accepted};
 ghost use Rattle.module_meaning.specs.Names.{HasNamesOf};
 ghost use Rattle.module_meaning.specs.ExpressionForms.{global_is_written};
 ghost use Rattle.naga_info.specs.declared.info.ModuleInfo.{ModuleInfo};
@@ -12,9 +12,9 @@ ghost use Rattle.naga_wgsl_fns.specs.Errors.{IsWant};
 ghost use Rattle.naga_wgsl_fns.specs.GlobalExpressions.{GlobalWriting};
 ghost use Rattle.naga_wgsl_fns.specs.ModuleText.{CanWriteIn};
 
-use crate::error::{Error, error_of_want};
-use crate::formless_constants::global_without_form;
 use crate::module_text::ModuleText;
+use crate::refusals::constants::global_without_form;
+use crate::refusals::error::{Error, error_of_want};
 use naga_ir::{Expression, Handle, Module};
 use naga_names::NameKey;
 use naga_scope::ModuleTables;

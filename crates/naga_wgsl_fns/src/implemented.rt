@@ -3,7 +3,7 @@
 ghost use Rattle.std.specs.Prelude.{◌≡◌, IfErr, IfOk, IsErr, None, Some};
 ghost use Rattle.naga_wgsl_fns.specs.Errors.{IsUnsupported};
 
-use crate::error::Error;
+use crate::refusals::error::Error;
 use std::alloc::Global;
 use std::fmt::Debug;
 use wgsl_words::TryToWgsl;

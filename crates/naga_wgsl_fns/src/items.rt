@@ -1,7 +1,7 @@
 //! A module's functions, written one by one.
 
 ghost use Rattle.std.specs.Prelude.{◌≡◌, ℕ, List, IsTrue};
-ghost use Rattle.module_meaning.specs.Accepted.{is_accepted};
+ghost use Rattle.module_meaning.specs.acceptance.Accepted.{is_accepted};
 ghost use Rattle.module_meaning.specs.DeclarationForms.{HeadHasForm};
 ghost use Rattle.module_meaning.specs.FunctionNumbers.{IsFunctionOf, function_number};
 ghost use Rattle.module_meaning.specs.Names.{HasNamesOf, wgsl_names};
@@ -11,10 +11,10 @@ ghost use Rattle.naga_scope.specs.ExpressionNames.{HasOtherUses};
 ghost use Rattle.naga_wgsl_fns.specs.Items.{AnswersShowAllOfItems, AnswersShowFunctions};
 ghost use Rattle.naga_wgsl_fns.specs.Items.{AnswersShowItems, FunctionWriting, HasNamedItemsOf};
 
-use crate::error::Error;
-use crate::formless_declarations::head_without_form;
 use crate::functions::write_planned;
 use crate::plans::plan_of;
+use crate::refusals::declarations::head_without_form;
+use crate::refusals::error::Error;
 use naga_back::{FunctionType, WriterFlags};
 use naga_info::ModuleInfo;
 use naga_ir::Module;

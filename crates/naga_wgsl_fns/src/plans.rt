@@ -3,7 +3,7 @@
 ghost use Rattle.std.specs.Prelude.{◌≡◌, [], ℕ, List, IfErr, IfOk, IsFalse, IsTrue, OnErr, OnOk};
 ghost use Rattle.std.specs.Prelude.{Some};
 ghost use Rattle.std.specs.Prelude.{slice_get};
-ghost use Rattle.module_meaning.specs.Accepted.{is_accepted};
+ghost use Rattle.module_meaning.specs.acceptance.Accepted.{is_accepted};
 ghost use Rattle.module_meaning.specs.FunctionNumbers.{IsFunctionOf, function_number};
 ghost use Rattle.module_meaning.specs.Names.{HasNamesOf, labels_named_in, wgsl_names};
 ghost use Rattle.naga_ir.specs.declared.expression.Expression.{Expression};
@@ -22,12 +22,12 @@ ghost use Rattle.naga_wgsl_fns.specs.Refusals.{IsErrorOfNames, TellsPlanError};
 ghost use Rattle.naga_wgsl_fns.specs.Unplanned.{IsToldOfUnplanned, IsUnplanned, TellsUnplanned};
 ghost use Rattle.naga_wgsl_fns.specs.Unplanned.{is_names_want};
 ghost use Rattle.naga_wgsl_fns.specs.Unplanned.{is_want, part_of};
-ghost use Rattle.naga_wgsl_fns.specs.declared.error.Error.TheVariants.{Memory};
+ghost use Rattle.naga_wgsl_fns.specs.declared.refusals.error.Error.TheVariants.{Memory};
 ghost use Rattle.naga_names.specs.declared.error.NamerError.TheVariants as namer_error;
 
-use crate::construct::Construct;
-use crate::error::Error;
-use crate::forms::{statement_without_form, type_without_form, without_form};
+use crate::refusals::construct::Construct;
+use crate::refusals::error::Error;
+use crate::refusals::forms::{statement_without_form, type_without_form, without_form};
 use naga_back::{FunctionType, WriterFlags, annotates_types};
 use naga_info::{FunctionInfo, ModuleInfo, TypeResolution};
 use naga_ir::{Expression, Function, Handle, Module, Type_};

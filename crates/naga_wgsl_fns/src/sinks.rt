@@ -2,7 +2,7 @@
 
 ghost use Rattle.naga_wgsl_fns.specs.Appends.{Appends};
 
-use crate::error::Error;
+use crate::refusals::error::Error;
 use naga_words::TextSink;
 
 /// Writes a piece of text after what the sink holds. Want of memory is told as

@@ -2,7 +2,7 @@
 
 ghost use Rattle.std.specs.Prelude.{◌<◌, IsTrue, length};
 ghost use Rattle.module_meaning.specs.AlikeTypes.{is_spelled};
-ghost use Rattle.module_meaning.specs.Ranges.{resolution_fits};
+ghost use Rattle.module_meaning.specs.acceptance.Ranges.{resolution_fits};
 ghost use Rattle.naga_info.specs.declared.info.TypeResolution.TheVariants as resolution;
 ghost use Rattle.naga_words.specs.Output.{Writes};
 ghost use Rattle.naga_back.specs.Flags.{annotates_types};

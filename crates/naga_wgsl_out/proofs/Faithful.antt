@@ -1,18 +1,19 @@
 -- What was written is faithful to the module.
 use Rattle.std.proofs.Common.{◌≡◌, ◌<◌, ◌∙◌, ◌++◌, ℕ, Bool, false, List, [], ◌∷◌, Ok, Err}
-use Rattle.std.proofs.Common.{ap, append-nil, drop, inl, inr, length, subst, sym, None, Option, Some, refl}
+use Rattle.std.proofs.Common.{ap, append-nil, drop, inl, inr, length, subst, sym, None, Option}
+use Rattle.std.proofs.Common.{Some, refl}
 use Rattle.std.proofs.Common.{slice_get}
 use Rattle.std.proofs.lemmas.Option.{slice_get_within}
 use Rattle.naga_ir.specs.declared.module.Function.{Function}
 use Rattle.std.specs.Prelude.{◌⊎◌, IfErr, IsErrAnd, IsTrue, OnErr, OnOk, Result}
 use Rattle.naga_ir.specs.declared.module.Module.{Module}
-use Rattle.module_meaning.specs.Accepted.{is_accepted}
+use Rattle.module_meaning.specs.acceptance.Accepted.{is_accepted}
 use Rattle.module_meaning.specs.DeclarationForms.{DeclarationsHaveForms}
 use Rattle.wgsl_text.specs.Declarations.{Program}
 use Rattle.naga_form.specs.Declarations.{written_program}
 use Rattle.module_meaning.specs.FunctionNumbers.{all_functions}
-use Rattle.naga_form.proofs.Resolution.{resolves}
-use Rattle.naga_form.proofs.Interface.{has_interface}
+use Rattle.naga_form.proofs.names.Resolution.{resolves}
+use Rattle.naga_form.proofs.declarations.Interface.{has_interface}
 use Rattle.naga_form.proofs.Programs.{is_program}
 use Rattle.naga_info.specs.declared.info.ModuleInfo.{ModuleInfo}
 use Rattle.naga_names.specs.Keys.{NameMap}
@@ -20,7 +21,7 @@ use Rattle.wgsl_text.specs.Reading.{Reads, HasOneReading}
 use Rattle.wgsl_text.specs.Text.{tokens}
 use Rattle.wgsl_text.proofs.Reading.{program_has_one_reading}
 use Rattle.module_meaning.specs.Faithful.{HasInterfaceOf, RunsAs}
-use Rattle.naga_form.proofs.Bindings.{binds_as}
+use Rattle.naga_form.proofs.statements.Bindings.{binds_as}
 use Rattle.naga_form.proofs.Runs.{runs_as}
 use Rattle.naga_words.specs.Sink.{IsBehind}
 use Rattle.naga_words.proofs.Writing.{behind_then}
@@ -28,15 +29,17 @@ use Rattle.naga_wgsl_fns.proofs.SingleFunctions.{same_behind}
 use Rattle.naga_wgsl_fns.proofs.Appending.{stopped_first, stopped_then, wrote_then}
 use Rattle.naga_wgsl_fns.specs.Appends.{StoppedWithin, Wrote}
 use Rattle.naga_wgsl_fns.specs.Errors.{IsWant}
-use Rattle.naga_wgsl_fns.specs.declared.error.Error.{Error}
-use Rattle.naga_wgsl_fns.specs.declared.error.Error.TheVariants.{FmtError, Custom, Memory}
+use Rattle.naga_wgsl_fns.specs.declared.refusals.error.Error.{Error}
+use Rattle.naga_wgsl_fns.specs.declared.refusals.error.Error.TheVariants.{FmtError, Custom, Memory}
 use Rattle.naga_back.specs.declared.flags.WriterFlags.{WriterFlags}
 use Rattle.naga_back.specs.Flags.{annotates_types}
 use Rattle.naga_wgsl_out.specs.Writing.{HasPlan, MetNoPlan, WritesFunctions, WroteFunctions}
-use Rattle.naga_wgsl_out.specs.Writing.{WroteFunctionsBefore, front_text, lines_before, module_lines}
+use Rattle.naga_wgsl_out.specs.Writing.{WroteFunctionsBefore, front_text, lines_before}
+use Rattle.naga_wgsl_out.specs.Writing.{module_lines}
 use Rattle.naga_wgsl_out.specs.Writing.{AppendsItsText, written_text}
 use Rattle.naga_wgsl_out.proofs.Functions.{lines_behind, lines_split, written_lines}
-use Rattle.naga_wgsl_out.proofs.ModuleScopes.{all_planned_counted, all_planned_formed, all_planned_hold}
+use Rattle.naga_wgsl_out.proofs.ModuleScopes.{all_planned_counted, all_planned_formed}
+use Rattle.naga_wgsl_out.proofs.ModuleScopes.{all_planned_hold}
 use Rattle.naga_wgsl_out.proofs.ModuleScopes.{fault_refuses, fault_reported}
 use Rattle.naga_wgsl_fns.specs.Refusals.{TellsOfForm, TellsOfFullNamer, TellsOfModule, TellsOfScope}
 use Rattle.naga_wgsl_out.specs.ModuleRefusals.{ComesBeforeText, HasAllNames, IsNamesRefusal}

@@ -1,5 +1,6 @@
 -- What names an expression, a type or a statement without a form tells of one by its text.
-use Rattle.std.proofs.Common.{◌≡◌, ℕ, Bool, true, false, List, None, Option, Some, arith, codes, inl}
+use Rattle.std.proofs.Common.{◌≡◌, ℕ, Bool, true, false, List, None, Option, Some, arith, codes}
+use Rattle.std.proofs.Common.{inl}
 use Rattle.std.proofs.Common.{inr, refl, subst, sym}
 use Rattle.std.specs.List.{IsAmong}
 use Rattle.std.specs.Prelude.{IsSomeAnd, slice_get}
@@ -27,9 +28,10 @@ use Rattle.naga_wgsl_fns.specs.Refusals.{NamesScalar, NamesStatement, NamesType,
 use Rattle.naga_wgsl_fns.specs.Refusals.{OfConstant, OfLiteral, OfOperand, OfOperation, OfType}
 use Rattle.naga_wgsl_fns.specs.Refusals.{TellsOfForm, TellsOfModule, converted, custom_texts}
 use Rattle.naga_wgsl_fns.specs.Refusals.{pointed_scalar, unimplemented_texts, unsupported_kinds}
-use Rattle.naga_wgsl_fns.specs.declared.error.Error.{Error}
-use Rattle.naga_wgsl_fns.specs.declared.error.Error.TheVariants.{Custom, Memory, Unimplemented}
-use Rattle.naga_wgsl_fns.specs.declared.error.Error.TheVariants.{Unsupported}
+use Rattle.naga_wgsl_fns.specs.declared.refusals.error.Error.{Error}
+use Rattle.naga_wgsl_fns.specs.declared.refusals.error.Error.TheVariants.{Custom, Memory}
+use Rattle.naga_wgsl_fns.specs.declared.refusals.error.Error.TheVariants.{Unimplemented}
+use Rattle.naga_wgsl_fns.specs.declared.refusals.error.Error.TheVariants.{Unsupported}
 
 -- ---- listed texts
 by_custom : (error : Error) (text : List ℕ) → IsAmong custom_texts text → IsCustom text error →

@@ -1,5 +1,6 @@
 -- The text of a module from those of its functions and entry points.
-use Rattle.std.proofs.Common.{◌≡◌, ◌+◌, ◌-◌, ◌<◌, ◌≤◌, ◌∙◌, ◌++◌, ◌^◌, ℕ, zero, suc, List, [], ◌∷◌, Some}
+use Rattle.std.proofs.Common.{◌≡◌, ◌+◌, ◌-◌, ◌<◌, ◌≤◌, ◌∙◌, ◌++◌, ◌^◌, ℕ, zero, suc, List, [], ◌∷◌}
+use Rattle.std.proofs.Common.{Some}
 use Rattle.std.proofs.Common.{Bool, true, false, None, Option, nat_lt}
 use Rattle.std.proofs.Common.{append-nil, append_assoc, add-one, ap, arith, below_more, codes, drop}
 use Rattle.std.proofs.Common.{drop-cons, get_or, inl, inr, length, pred, refl, slice_get, subst}
@@ -17,7 +18,7 @@ use Rattle.naga_ir.specs.declared.module.Function.{Function}
 use Rattle.naga_ir.specs.declared.module.Module.{Module}
 use Rattle.naga_info.specs.declared.info.ExpressionInfo.{ExpressionInfo}
 use Rattle.naga_info.specs.declared.info.ModuleInfo.{ModuleInfo}
-use Rattle.module_meaning.specs.Accepted.{is_accepted}
+use Rattle.module_meaning.specs.acceptance.Accepted.{is_accepted}
 use Rattle.module_meaning.specs.DeclarationForms.{entry_point_numbered}
 use Rattle.module_meaning.specs.FunctionNumbers.{all_functions, entry_functions, function_type}
 use Rattle.naga_back.specs.declared.context.FunctionType.{FunctionType}
@@ -32,8 +33,8 @@ use Rattle.naga_form.specs.Declarations.{entry_point_form, entry_points_form, wr
 use Rattle.naga_form.specs.Functions.{function_form, functions_form}
 use Rattle.wgsl_text.proofs.Text.{text-append}
 use Rattle.naga_names.proofs.Refusal.{element}
-use Rattle.naga_form.proofs.AcceptedFunctions.{entry_points_counted, functions_counted}
-use Rattle.naga_form.proofs.AcceptedFunctions.{entry_info_among}
+use Rattle.naga_form.proofs.statements.AcceptedFunctions.{entry_points_counted, functions_counted}
+use Rattle.naga_form.proofs.statements.AcceptedFunctions.{entry_info_among}
 use Rattle.wgsl_text.specs.Text.{text}
 use Rattle.naga_names.specs.Naming.{Names}
 use Rattle.naga_scope.specs.ExpressionNames.{NamesLabels}
@@ -46,8 +47,8 @@ use Rattle.naga_wgsl_fns.specs.Attributes.{attributes_text}
 use Rattle.naga_back.specs.Flags.{annotates_types}
 use Rattle.naga_wgsl_fns.specs.Functions.{known_of, text_of, text_of_function}
 use Rattle.naga_wgsl_fns.specs.Stages.{stage_text}
-use Rattle.naga_wgsl_fns.specs.declared.error.Error.{Error}
-use Rattle.naga_wgsl_fns.specs.declared.error.Error.TheVariants.{Memory}
+use Rattle.naga_wgsl_fns.specs.declared.refusals.error.Error.{Error}
+use Rattle.naga_wgsl_fns.specs.declared.refusals.error.Error.TheVariants.{Memory}
 use Rattle.naga_wgsl_fns.proofs.Appending.{stopped_first, stopped_then, wrote_nothing, wrote_then}
 use Rattle.naga_back.specs.declared.flags.WriterFlags.{WriterFlags}
 use Rattle.naga_wgsl_fns.specs.Refusals.{IsFault, IsPlanRefusal, TellsOfModule}
@@ -63,7 +64,7 @@ use Rattle.naga_wgsl_out.proofs.ExpressionNames.{named_plan, none_full}
 use Rattle.naga_wgsl_fns.proofs.PlanRefusals.{fault_fails}
 use Rattle.naga_wgsl_out.proofs.ModuleScopes.{has_plan_holds}
 use Rattle.module_meaning.proofs.FunctionNumbers.{info_among, type_of_entry_point, type_of_function}
-use Rattle.naga_form.proofs.WrittenFunctions.{entry_point_at}
+use Rattle.naga_form.proofs.statements.WrittenFunctions.{entry_point_at}
 use Rattle.naga_wgsl_fns.proofs.FunctionRows.{no_entry_point}
 use Rattle.naga_names.proofs.Refusal.{run_out_unfit}
 use Rattle.naga_names.proofs.Reset.{enumerate_from-append}

@@ -21,17 +21,18 @@ use Rattle.naga_names.proofs.NamedItems.{constant_stands, global_stands, named_t
 use Rattle.naga_names.proofs.NamedItems.{override_stands, type_stands}
 use Rattle.module_meaning.specs.Names.{reserved_prefixes, wgsl_names, module_names, function_name}
 use Rattle.module_meaning.specs.Names.{HasNamesOf, item_labels}
-use Rattle.naga_form.proofs.Names.{name_is, function_item, argument_item, function_there}
-use Rattle.naga_form.proofs.Names.{argument_there}
-use Rattle.naga_form.proofs.MemberNames.{puts}
+use Rattle.naga_form.proofs.names.Names.{name_is, function_item, argument_item, function_there}
+use Rattle.naga_form.proofs.names.Names.{argument_there}
+use Rattle.naga_form.proofs.names.MemberNames.{puts}
 use Rattle.naga_names.proofs.Refusal.{element}
 use Rattle.module_meaning.proofs.Lists.{list_all_at}
-use Rattle.naga_form.proofs.Names.{local_item, local_there}
+use Rattle.naga_form.proofs.names.Names.{local_item, local_there}
 use Rattle.module_meaning.specs.FunctionNumbers.{all_functions, function_type}
 use Rattle.naga_back.specs.FunctionContext.{argument_key, function_key}
 use Rattle.naga_back.specs.declared.context.FunctionType.{FunctionType}
 use Rattle.naga_back.specs.declared.context.FunctionType.TheVariants as item
-use Rattle.naga_wgsl_out.specs.ModuleRefusals.{ItemsAreFull, KeyIsOutOfRange, HasAllNames, HasNamedBefore}
+use Rattle.naga_wgsl_out.specs.ModuleRefusals.{ItemsAreFull, KeyIsOutOfRange, HasAllNames}
+use Rattle.naga_wgsl_out.specs.ModuleRefusals.{HasNamedBefore}
 
 -- the number of an argument whose key can be told
 number_fits : (ty : FunctionType) (n : ℕ) → key_fits (argument_key ty n) ≡ true → nat_lt n (2 ^ 32) ≡ true

@@ -1,15 +1,17 @@
 -- Where a construct stands for which a module is refused.
-use Rattle.std.proofs.Common.{◌≡◌, ◌+◌, ◌<◌, ℕ, Bool, false, List, Some, None, Option, arith, below_more, inl, inr, length, slice_get, subst, sym, refl}
-use Rattle.std.specs.Prelude.{Err, IfErr, IfOk, IsErrAnd, IsFalse, IsSomeAnd, IsTrue, MatchOption, Ok, Result}
+use Rattle.std.proofs.Common.{◌≡◌, ◌+◌, ◌<◌, ℕ, Bool, false, List, Some, None, Option, arith}
+use Rattle.std.proofs.Common.{below_more, inl, inr, length, slice_get, subst, sym, refl}
+use Rattle.std.specs.Prelude.{Err, IfErr, IfOk, IsErrAnd, IsFalse, IsSomeAnd, IsTrue, MatchOption}
+use Rattle.std.specs.Prelude.{Ok, Result}
 use Rattle.std.proofs.lemmas.Option.{slice_get_within}
-use Rattle.module_meaning.specs.Accepted.{is_accepted}
+use Rattle.module_meaning.specs.acceptance.Accepted.{is_accepted}
 use Rattle.module_meaning.specs.DeclarationForms.{DeclarationsHaveForms}
 use Rattle.module_meaning.specs.ExpressionForms.{expression_has_form}
 use Rattle.module_meaning.specs.FunctionNumbers.{all_functions, all_infos, function_number}
 use Rattle.module_meaning.specs.Names.{labels_before, wgsl_names}
 use Rattle.module_meaning.specs.Undeclared.{is_spellable}
 use Rattle.module_meaning.specs.Written.{IsSpelledIn}
-use Rattle.naga_form.proofs.AcceptedFunctions.{all_counted}
+use Rattle.naga_form.proofs.statements.AcceptedFunctions.{all_counted}
 use Rattle.naga_info.specs.declared.info.ExpressionInfo.{ExpressionInfo}
 use Rattle.naga_info.specs.declared.info.ModuleInfo.{ModuleInfo}
 use Rattle.naga_ir.specs.declared.expression.Expression.{Expression}
@@ -28,14 +30,16 @@ use Rattle.naga_wgsl_fns.proofs.PlanRefusals.{full_is, is_full}
 use Rattle.naga_wgsl_fns.specs.Appends.{Appends, StoppedWithin}
 use Rattle.naga_wgsl_fns.specs.Carried.{CarriesOfExpression, CarriesOfPlan, CarriesOfType}
 use Rattle.naga_wgsl_fns.specs.Constructs.{Tells}
-use Rattle.naga_wgsl_fns.specs.Refusals.{IsErrorOfNames, NamesExpression, NamesType, TellsOfModule, TellsPlanError}
-use Rattle.naga_wgsl_fns.specs.Unplanned.{IsRefusedFor, IsToldOfUnplanned, IsUnplanned, is_names_want, is_want, part_of}
-use Rattle.naga_wgsl_fns.specs.declared.error.Error.{Error}
-use Rattle.naga_wgsl_fns.specs.declared.error.Error.TheVariants.{Custom, Memory}
+use Rattle.naga_wgsl_fns.specs.Refusals.{IsErrorOfNames, NamesExpression, NamesType, TellsOfModule}
+use Rattle.naga_wgsl_fns.specs.Refusals.{TellsPlanError}
+use Rattle.naga_wgsl_fns.specs.Unplanned.{IsRefusedFor, IsToldOfUnplanned, IsUnplanned}
+use Rattle.naga_wgsl_fns.specs.Unplanned.{is_names_want, is_want, part_of}
+use Rattle.naga_wgsl_fns.specs.declared.refusals.error.Error.{Error}
+use Rattle.naga_wgsl_fns.specs.declared.refusals.error.Error.TheVariants.{Custom, Memory}
 use Rattle.naga_wgsl_fns.specs.declared.plans.Unplanned.{Unplanned}
 use Rattle.naga_wgsl_fns.specs.declared.plans.Unplanned.TheVariants as unplanned
-use Rattle.naga_wgsl_fns.specs.declared.construct.Construct.{Construct}
-use Rattle.naga_wgsl_fns.specs.declared.construct.Construct.TheVariants as construct
+use Rattle.naga_wgsl_fns.specs.declared.refusals.construct.Construct.{Construct}
+use Rattle.naga_wgsl_fns.specs.declared.refusals.construct.Construct.TheVariants as construct
 use Rattle.naga_wgsl_fns.specs.declared.plans.FunctionPart.{FunctionPart}
 use Rattle.naga_wgsl_out.proofs.ExpressionNames.{none_past}
 use Rattle.naga_wgsl_out.proofs.ModuleScopes.{all_planned_formed, all_planned_hold}
@@ -43,9 +47,12 @@ use Rattle.naga_back.specs.Flags.{annotates_types}
 use Rattle.naga_back.specs.declared.flags.WriterFlags.{WriterFlags}
 use Rattle.naga_wgsl_out.proofs.Faithful.{want_tells_nothing}
 use Rattle.naga_wgsl_out.proofs.Functions.{IsUpTo}
-use Rattle.naga_wgsl_out.specs.ModuleRefusals.{HasAllNames, HasNamedBefore, IsNamesRefusal, NamerIsFull, NothingIsRefused}
-use Rattle.naga_wgsl_out.specs.Unwritable.{AreWritableBefore, IsFirst, IsFoundOf, IsRefusalOf, IsUnspelled, IsWritable, LabelsGetNamesIn, StandsAt}
-use Rattle.naga_wgsl_out.specs.Unwritable.{StandsAtPart, StandsIn, StandsInFunction, StandsInLabels, TellsFirst, TellsRefusalOf, place_at}
+use Rattle.naga_wgsl_out.specs.ModuleRefusals.{HasAllNames, HasNamedBefore, IsNamesRefusal}
+use Rattle.naga_wgsl_out.specs.ModuleRefusals.{NamerIsFull, NothingIsRefused}
+use Rattle.naga_wgsl_out.specs.Unwritable.{AreWritableBefore, IsFirst, IsFoundOf, IsRefusalOf}
+use Rattle.naga_wgsl_out.specs.Unwritable.{IsUnspelled, IsWritable, LabelsGetNamesIn, StandsAt}
+use Rattle.naga_wgsl_out.specs.Unwritable.{StandsAtPart, StandsIn, StandsInFunction, StandsInLabels}
+use Rattle.naga_wgsl_out.specs.Unwritable.{TellsFirst, TellsRefusalOf, place_at}
 use Rattle.naga_wgsl_out.specs.declared.unwritable.Refusal.{Refusal}
 use Rattle.naga_wgsl_out.specs.declared.unwritable.RefusalPlace.TheVariants as place
 use Rattle.naga_back.specs.declared.context.FunctionType.{FunctionType}

@@ -17,8 +17,8 @@ use Rattle.naga_wgsl_fns.specs.DeclarationRefusals.{NamesDeclaration}
 use Rattle.naga_wgsl_fns.specs.Errors.{IsSinkWant}
 use Rattle.naga_wgsl_fns.specs.Refusals.{ExpressionNamesAreFullIn, HasFormlessIn, HasNamedLabels}
 use Rattle.naga_wgsl_fns.specs.Refusals.{TellsOfForm, TellsOfFullNamer, TellsOfModule, TellsOfScope}
-use Rattle.naga_wgsl_fns.specs.declared.error.Error.{Error}
-use Rattle.naga_wgsl_fns.specs.declared.error.Error.TheVariants.{FmtError, Custom, Memory}
+use Rattle.naga_wgsl_fns.specs.declared.refusals.error.Error.{Error}
+use Rattle.naga_wgsl_fns.specs.declared.refusals.error.Error.TheVariants.{FmtError, Custom, Memory}
 
 -- the names of some items of the module can't be told, since so many of them have one base; or
 -- those of some labels that front ends gave in a function, after all labels in front of them; or,

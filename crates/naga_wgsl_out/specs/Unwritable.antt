@@ -36,8 +36,8 @@ use Rattle.naga_wgsl_fns.specs.Errors.{IsCustom}
 use Rattle.naga_wgsl_fns.specs.Refusals.{ExpressionNamesAreFullIn, NamesExpression, NamesStatement}
 use Rattle.naga_wgsl_fns.specs.Refusals.{NamesType}
 use Rattle.naga_wgsl_fns.specs.Unplanned.{part_of}
-use Rattle.naga_wgsl_fns.specs.declared.construct.Construct.{Construct}
-use Rattle.naga_wgsl_fns.specs.declared.error.Error.{Error}
+use Rattle.naga_wgsl_fns.specs.declared.refusals.construct.Construct.{Construct}
+use Rattle.naga_wgsl_fns.specs.declared.refusals.error.Error.{Error}
 use Rattle.naga_wgsl_fns.specs.declared.plans.FunctionPart.{FunctionPart}
 use Rattle.naga_wgsl_fns.specs.declared.plans.FunctionPart.TheVariants as part
 use Rattle.naga_wgsl_fns.specs.declared.plans.Unplanned.{Unplanned}

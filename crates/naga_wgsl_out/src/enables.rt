@@ -24,7 +24,7 @@ use naga_ir::{
     TypeInner, UniqueArena,
 };
 use naga_wgsl_fns::Error;
-use naga_wgsl_fns::error::error_of_want;
+use naga_wgsl_fns::refusals::error::error_of_want;
 use naga_words::{Output, TextSink};
 
 /// Writes a line for each extension that a text of the module enables, written with these flags,

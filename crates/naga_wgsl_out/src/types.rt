@@ -2,7 +2,7 @@
 
 ghost use Rattle.std.specs.Prelude.{◌≡◌, ◌<◌, IsTrue, length};
 ghost use Rattle.std.specs.Option.{option_map};
-ghost use Rattle.module_meaning.specs.Ranges.{parts_stand_before};
+ghost use Rattle.module_meaning.specs.acceptance.Ranges.{parts_stand_before};
 ghost use Rattle.naga_layout.specs.Types.{layout_at, told, told_rule};
 
 use naga_ir::{Handle, Type_, UniqueArena};

@@ -2,7 +2,7 @@
 
 ghost use Rattle.std.specs.Prelude.{◌≡◌, [], IfErr, IfOk, IsTrue, OnOk};
 ghost use Rattle.std.specs.Prelude.{string_bytes};
-ghost use Rattle.module_meaning.specs.Accepted.{is_accepted};
+ghost use Rattle.module_meaning.specs.acceptance.Accepted.{is_accepted};
 ghost use Rattle.module_meaning.specs.DeclarationForms.{DeclarationsHaveForms};
 ghost use Rattle.module_meaning.specs.FunctionNumbers.{IsFunctionOf, function_number};
 ghost use Rattle.naga_names.specs.Keys.{names_in};
@@ -35,7 +35,7 @@ use naga_names::keyword_set::CaseInsensitiveKeywordSet;
 use naga_names::keywords::RESERVED_PREFIXES;
 use naga_names::namer::{NameKey, Namer, NamerError};
 use naga_scope::{ModuleTables, Plan, formless_declaration};
-use naga_wgsl_fns::error::names_error;
+use naga_wgsl_fns::refusals::error::names_error;
 use naga_wgsl_fns::{Error, declaration_without_form, plan_of, put, write_planned};
 use naga_words::TextSink;
 use std::alloc::Global;

@@ -28,34 +28,46 @@ use Rattle.naga_info.specs.declared.info.ExpressionInfo.{ExpressionInfo}
 use Rattle.naga_info.specs.declared.info.ModuleInfo.{ModuleInfo}
 use Rattle.naga_info.specs.declared.info.TypeResolution.{TypeResolution}
 use Rattle.naga_info.specs.declared.info.TypeResolution.TheVariants as type_of
-use Rattle.module_meaning.specs.Accepted.{is_accepted}
-use Rattle.module_meaning.specs.AgreeingOperators.{expression_use, further_groups_of, Group}
-use Rattle.module_meaning.specs.AgreeingOperators.{function_groups, module_operators_agree, uses_of}
-use Rattle.module_meaning.specs.ExpressionTypes.{has_its_type, is_wanted}
-use Rattle.module_meaning.specs.ExpressionTypes.{LikeThis, only, result_type, wanted_type}
-use Rattle.module_meaning.specs.InfoSizes.{all_known, entry_point_size_fits, function_size_fits}
-use Rattle.module_meaning.specs.InfoSizes.{sizes_fit, type_is_fit}
-use Rattle.module_meaning.specs.Initialisers.{initialisers_fit, locals_are_sound}
-use Rattle.module_meaning.specs.Operations.{all_agree}
-use Rattle.module_meaning.specs.OperandDemands.{operand_is, operands_fit}
-use Rattle.module_meaning.specs.Ranges.{all_below, all_placed, block_in_range, constant_in_range}
-use Rattle.module_meaning.specs.Ranges.{declarations_in_range, entry_point_in_range}
-use Rattle.module_meaning.specs.Ranges.{expression_in_range, expressions_in_range}
-use Rattle.module_meaning.specs.Ranges.{function_in_range, global_expression_in_range}
-use Rattle.module_meaning.specs.Ranges.{global_in_range, initialiser_before, is_below}
-use Rattle.module_meaning.specs.Ranges.{local_in_range, module_in_range, module_ranges_fit}
-use Rattle.module_meaning.specs.Ranges.{names_in_range, override_in_range, resolution_fits}
-use Rattle.module_meaning.specs.Ranges.{signature_fits, special_types_fit, types_in_range}
-use Rattle.module_meaning.specs.Numbers.{workgroup_fits_32_bits}
-use Rattle.module_meaning.specs.Soundness.{entry_point_is_sound, expressions_are_sound}
-use Rattle.module_meaning.specs.Soundness.{function_is_sound}
-use Rattle.module_meaning.specs.Soundness.{module_is_sound, typed_function_is_sound}
-use Rattle.module_meaning.specs.StatementsFit.{are_passed, block_is_sound, calls, cases_are_sound}
-use Rattle.module_meaning.specs.StatementsFit.{is_answered, is_atomic_result, is_ballot_result}
-use Rattle.module_meaning.specs.StatementsFit.{is_call, is_condition, is_result, is_result_if, is_returned}
-use Rattle.module_meaning.specs.StatementsFit.{is_result_of, is_selection, is_subgroup_result}
-use Rattle.module_meaning.specs.StatementsFit.{is_uniform_load_result}
-use Rattle.module_meaning.specs.StatementsFit.{simple_is_sound, statement_is_sound}
+use Rattle.module_meaning.specs.acceptance.Accepted.{is_accepted}
+use Rattle.module_meaning.specs.acceptance.AgreeingOperators.{expression_use, further_groups_of}
+use Rattle.module_meaning.specs.acceptance.AgreeingOperators.{Group}
+use Rattle.module_meaning.specs.acceptance.AgreeingOperators.{function_groups}
+use Rattle.module_meaning.specs.acceptance.AgreeingOperators.{module_operators_agree, uses_of}
+use Rattle.module_meaning.specs.acceptance.ExpressionTypes.{has_its_type, is_wanted}
+use Rattle.module_meaning.specs.acceptance.ExpressionTypes.{LikeThis, only, result_type}
+use Rattle.module_meaning.specs.acceptance.ExpressionTypes.{wanted_type}
+use Rattle.module_meaning.specs.acceptance.InfoSizes.{all_known, entry_point_size_fits}
+use Rattle.module_meaning.specs.acceptance.InfoSizes.{function_size_fits}
+use Rattle.module_meaning.specs.acceptance.InfoSizes.{sizes_fit, type_is_fit}
+use Rattle.module_meaning.specs.acceptance.Initialisers.{initialisers_fit, locals_are_sound}
+use Rattle.module_meaning.specs.acceptance.Operations.{all_agree}
+use Rattle.module_meaning.specs.acceptance.OperandDemands.{operand_is, operands_fit}
+use Rattle.module_meaning.specs.acceptance.Ranges.{all_below, all_placed, block_in_range}
+use Rattle.module_meaning.specs.acceptance.Ranges.{constant_in_range}
+use Rattle.module_meaning.specs.acceptance.Ranges.{declarations_in_range, entry_point_in_range}
+use Rattle.module_meaning.specs.acceptance.Ranges.{expression_in_range, expressions_in_range}
+use Rattle.module_meaning.specs.acceptance.Ranges.{function_in_range, global_expression_in_range}
+use Rattle.module_meaning.specs.acceptance.Ranges.{global_in_range, initialiser_before, is_below}
+use Rattle.module_meaning.specs.acceptance.Ranges.{local_in_range, module_in_range}
+use Rattle.module_meaning.specs.acceptance.Ranges.{module_ranges_fit}
+use Rattle.module_meaning.specs.acceptance.Ranges.{names_in_range, override_in_range}
+use Rattle.module_meaning.specs.acceptance.Ranges.{resolution_fits}
+use Rattle.module_meaning.specs.acceptance.Ranges.{signature_fits, special_types_fit}
+use Rattle.module_meaning.specs.acceptance.Ranges.{types_in_range}
+use Rattle.module_meaning.specs.acceptance.Numbers.{workgroup_fits_32_bits}
+use Rattle.module_meaning.specs.acceptance.Soundness.{entry_point_is_sound, expressions_are_sound}
+use Rattle.module_meaning.specs.acceptance.Soundness.{function_is_sound}
+use Rattle.module_meaning.specs.acceptance.Soundness.{module_is_sound, typed_function_is_sound}
+use Rattle.module_meaning.specs.acceptance.StatementsFit.{are_passed, block_is_sound, calls}
+use Rattle.module_meaning.specs.acceptance.StatementsFit.{cases_are_sound}
+use Rattle.module_meaning.specs.acceptance.StatementsFit.{is_answered, is_atomic_result}
+use Rattle.module_meaning.specs.acceptance.StatementsFit.{is_ballot_result}
+use Rattle.module_meaning.specs.acceptance.StatementsFit.{is_call, is_condition, is_result}
+use Rattle.module_meaning.specs.acceptance.StatementsFit.{is_result_if, is_returned}
+use Rattle.module_meaning.specs.acceptance.StatementsFit.{is_result_of, is_selection}
+use Rattle.module_meaning.specs.acceptance.StatementsFit.{is_subgroup_result}
+use Rattle.module_meaning.specs.acceptance.StatementsFit.{is_uniform_load_result}
+use Rattle.module_meaning.specs.acceptance.StatementsFit.{simple_is_sound, statement_is_sound}
 use Rattle.module_meaning.specs.TypeParts.{points_to_atomic}
 use Rattle.told_floats.specs.Told.{IsToldEntryPoint, IsToldExpression, same, told}
 use Rattle.told_floats.specs.Told.{IsToldFunction, IsToldModule}

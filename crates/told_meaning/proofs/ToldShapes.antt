@@ -24,11 +24,11 @@ use Rattle.module_meaning.specs.ExpressionContexts.{declared, types_known}
 use Rattle.module_meaning.specs.ExpressionOperators.{applied_operator}
 use Rattle.module_meaning.specs.ExpressionShapes.{constant_tree, Declared, sample_shape, shape_of}
 use Rattle.module_meaning.specs.ExpressionShapes.{tree_over, tree_within}
-use Rattle.module_meaning.specs.ExpressionTypes.{variable_type}
+use Rattle.module_meaning.specs.acceptance.ExpressionTypes.{variable_type}
 use Rattle.module_meaning.specs.FunctionNumbers.{all_functions, all_infos}
 use Rattle.module_meaning.specs.FunctionShapes.{function_shape, function_shapes, shapes_from}
 use Rattle.module_meaning.specs.FunctionShapes.{statements_shape}
-use Rattle.module_meaning.specs.InfoSizes.{is_handle_space}
+use Rattle.module_meaning.specs.acceptance.InfoSizes.{is_handle_space}
 use Rattle.module_meaning.specs.ModuleShapes.{module_shape, named_constants}
 use Rattle.module_meaning.specs.Shapes.{named_from}
 use Rattle.shader_runs.specs.Program.{AtPlace, Constant, Fixed, Held}

@@ -1,15 +1,16 @@
 -- What a call tells, from what its steps say.
-use Rattle.std.proofs.Common.{◌≡◌, ◌≤◌, ◌∙◌, ℕ, List, [], Err, None, Ok, Option, Result, Some, ap, inl, inr, is_none, length, refl, subst, sym, arith}
+use Rattle.std.proofs.Common.{◌≡◌, ◌≤◌, ◌∙◌, ℕ, List, [], Err, None, Ok, Option, Result, Some, ap}
+use Rattle.std.proofs.Common.{inl, inr, is_none, length, refl, subst, sym, arith}
 use Rattle.std.proofs.lemmas.Bool.{le-leb, lt-leb}
 use Rattle.told_floats.specs.Told.{IsToldModule}
 use Rattle.std.specs.Prelude.{◌<◌, ◌%◌, ◌⊎◌, IfSome, IsTrue}
 use Rattle.naga_ir.specs.declared.module.Module.{Module}
 use Rattle.naga_info.specs.declared.info.ModuleInfo.{ModuleInfo}
-use Rattle.module_meaning.specs.Accepted.{is_accepted}
+use Rattle.module_meaning.specs.acceptance.Accepted.{is_accepted}
 use Rattle.naga_back.specs.declared.flags.WriterFlags.{WriterFlags}
 use Rattle.naga_back.specs.Flags.{bits_of}
-use Rattle.naga_wgsl_fns.specs.declared.error.Error.{Error}
-use Rattle.naga_wgsl_fns.specs.declared.error.Error.TheVariants as error
+use Rattle.naga_wgsl_fns.specs.declared.refusals.error.Error.{Error}
+use Rattle.naga_wgsl_fns.specs.declared.refusals.error.Error.TheVariants as error
 use Rattle.naga_wgsl_out.specs.Checked.{IsCounted}
 use Rattle.naga_wgsl_out.specs.Headline.{FaithfulWriting}
 use Rattle.naga_wgsl_out.specs.Writing.{AppendsItsText}
@@ -18,8 +19,11 @@ use Rattle.naga_acceptance.specs.declared.faults.Unaccepted.{Unaccepted}
 use Rattle.module_answers.specs.Within.{IsUnwritten, TellsDepth}
 use Rattle.module_answers.specs.declared.within.Unwritten.{Unwritten}
 use Rattle.module_answers.specs.declared.within.Unwritten.TheVariants as unwritten
-use Rattle.yorwethul_c.specs.Answers.{IsAccepted, IsNotAccepted, IsStopped, IsTooDeep, IsTooLong, IsWritten, LacksMemory, Says, SaysOfError, SaysOfUnwritten, SaysOfWritten, deepest_nesting, longest_text}
-use Rattle.yorwethul_c.specs.Answers.{TellsOfChecking, TellsOfLayouts, TellsOfReading, TellsOfWriting}
+use Rattle.yorwethul_c.specs.Answers.{IsAccepted, IsNotAccepted, IsStopped, IsTooDeep, IsTooLong}
+use Rattle.yorwethul_c.specs.Answers.{IsWritten, LacksMemory, Says, SaysOfError, SaysOfUnwritten}
+use Rattle.yorwethul_c.specs.Answers.{SaysOfWritten, deepest_nesting, longest_text}
+use Rattle.yorwethul_c.specs.Answers.{TellsOfChecking, TellsOfLayouts, TellsOfReading}
+use Rattle.yorwethul_c.specs.Answers.{TellsOfWriting}
 use Rattle.yorwethul_c.specs.Answers.{IsAsAsked, status_of_error, tells_floats}
 use Rattle.yorwethul_c.specs.declared.status.Status.{Status}
 use Rattle.yorwethul_c.specs.declared.status.Status.TheVariants as status

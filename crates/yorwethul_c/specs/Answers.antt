@@ -11,15 +11,15 @@ use Rattle.naga_back.specs.Flags.{bits_of}
 use Rattle.naga_back.specs.declared.flags.WriterFlags.{WriterFlags}
 use Rattle.naga_acceptance.specs.Faults.{Fails}
 use Rattle.naga_acceptance.specs.declared.faults.Unaccepted.{Unaccepted}
-use Rattle.module_meaning.specs.Accepted.{is_accepted}
+use Rattle.module_meaning.specs.acceptance.Accepted.{is_accepted}
 use Rattle.module_answers.specs.declared.within.Unwritten.{Unwritten}
 use Rattle.module_answers.specs.declared.within.Unwritten.TheVariants as unwritten
 use Rattle.module_limits.specs.Nesting.{nested_past}
 use Rattle.module_limits.specs.declared.nesting.Nested.{Nested}
 use Rattle.naga_form.specs.Declarations.{written_program}
 use Rattle.wgsl_text.specs.Reading.{layout}
-use Rattle.naga_wgsl_fns.specs.declared.error.Error.{Error}
-use Rattle.naga_wgsl_fns.specs.declared.error.Error.TheVariants as error
+use Rattle.naga_wgsl_fns.specs.declared.refusals.error.Error.{Error}
+use Rattle.naga_wgsl_fns.specs.declared.refusals.error.Error.TheVariants as error
 use Rattle.naga_wgsl_out.specs.Checked.{IsCounted}
 use Rattle.naga_wgsl_out.specs.Headline.{FaithfulWriting}
 use Rattle.told_floats.specs.Told.{IsToldModule}

@@ -5,11 +5,14 @@ ghost use Rattle.std.specs.List.{list_all};
 ghost use Rattle.std.specs.Option.{option_map_or};
 ghost use Rattle.naga_ir.specs.StatementViews.{cases_of};
 ghost use Rattle.naga_acceptance.specs.TextOrder.{labels_fit_32_bits};
-ghost use Rattle.module_meaning.specs.Numbers.{binding_fits_32_bits, fits_16_bits, fits_32_bits};
-ghost use Rattle.module_meaning.specs.Numbers.{label_fits_32_bits, member_fits_32_bits};
-ghost use Rattle.module_meaning.specs.Numbers.{pattern_is_whole, resource_fits_32_bits};
-ghost use Rattle.module_meaning.specs.Numbers.{signature_fits_32_bits, size_fits_32_bits};
-ghost use Rattle.module_meaning.specs.Numbers.{type_fits_32_bits, workgroup_fits_32_bits};
+ghost use Rattle.module_meaning.specs.acceptance.Numbers.{binding_fits_32_bits, fits_16_bits};
+ghost use Rattle.module_meaning.specs.acceptance.Numbers.{fits_32_bits};
+ghost use Rattle.module_meaning.specs.acceptance.Numbers.{label_fits_32_bits, member_fits_32_bits};
+ghost use Rattle.module_meaning.specs.acceptance.Numbers.{pattern_is_whole, resource_fits_32_bits};
+ghost use Rattle.module_meaning.specs.acceptance.Numbers.{signature_fits_32_bits};
+ghost use Rattle.module_meaning.specs.acceptance.Numbers.{size_fits_32_bits};
+ghost use Rattle.module_meaning.specs.acceptance.Numbers.{type_fits_32_bits};
+ghost use Rattle.module_meaning.specs.acceptance.Numbers.{workgroup_fits_32_bits};
 
 use naga_ir::{
     ArraySize, Binding, Function, FunctionArgument, FunctionResult, ResourceBinding, StructMember,

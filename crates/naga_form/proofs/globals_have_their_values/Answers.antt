@@ -1,4 +1,4 @@
-use Rattle.naga_form.proofs.GlobalValues.{has_value_of}
+use Rattle.naga_form.proofs.declarations.GlobalValues.{has_value_of}
 use Rattle.naga_form.proofs.globals_have_their_values.Goals as goal
 
 pub returns : goal.returns

@@ -1,5 +1,5 @@
-use Rattle.naga_form.proofs.ConsistentModules.{consistent, has_meaning}
-use Rattle.naga_form.proofs.DistinguishedItems.{items_are_distinguished}
+use Rattle.naga_form.proofs.operators.ConsistentModules.{consistent, has_meaning}
+use Rattle.naga_form.proofs.names.DistinguishedItems.{items_are_distinguished}
 use Rattle.naga_form.proofs.has_a_typed_meaning.Goals as goal
 
 pub returns-clause-consistent : goal.returns-clause-consistent

@@ -1,6 +1,6 @@
 use Rattle.naga_form.proofs.FreeModules as every
 use Rattle.naga_form.proofs.Meanings.{never_stuck}
-use Rattle.naga_form.proofs.DistinguishedItems.{types_are_distinguished}
+use Rattle.naga_form.proofs.names.DistinguishedItems.{types_are_distinguished}
 use Rattle.naga_form.proofs.is_never_stuck.Goals as goal
 
 pub returns-clause-written : goal.returns-clause-written

@@ -1,4 +1,4 @@
-use Rattle.naga_form.proofs.Layouts.{keeps_layouts}
+use Rattle.naga_form.proofs.types.Layouts.{keeps_layouts}
 use Rattle.naga_form.proofs.keeps_the_layouts.Goals as goal
 
 pub returns : goal.returns

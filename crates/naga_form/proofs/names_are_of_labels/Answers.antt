@@ -1,5 +1,5 @@
-use Rattle.naga_form.proofs.ExpressionNames.{expression_names_are, names_behind_are}
-use Rattle.naga_form.proofs.ExpressionNames.{names_of_each_are}
+use Rattle.naga_form.proofs.names.ExpressionNames.{expression_names_are, names_behind_are}
+use Rattle.naga_form.proofs.names.ExpressionNames.{names_of_each_are}
 use Rattle.naga_form.proofs.names_are_of_labels.Goals as goal
 
 pub returns-clause-whole : goal.returns-clause-whole

@@ -5,7 +5,7 @@ use Rattle.module_meaning.specs.Namings.{outer_names}
 use Rattle.shader_runs.specs.Correct.{ModuleFits}
 use Rattle.shader_runs.proofs.Points.{points_agree}
 use Rattle.naga_form.proofs.ModuleFits.{module_fits_under}
-use Rattle.naga_form.proofs.ScopeRules.{scopes_are_checked_under}
+use Rattle.naga_form.proofs.statements.ScopeRules.{scopes_are_checked_under}
 use Rattle.naga_form.proofs.points_agree.Goals as goal
 
 pub returns : goal.returns

@@ -1,5 +1,5 @@
-use Rattle.naga_form.proofs.OneFunction.{resolves_at}
-use Rattle.naga_form.proofs.Resolution.{resolves_under}
+use Rattle.naga_form.proofs.statements.OneFunction.{resolves_at}
+use Rattle.naga_form.proofs.names.Resolution.{resolves_under}
 use Rattle.naga_form.proofs.resolves_as_meant.Goals as goal
 
 pub returns-clause-whole : goal.returns-clause-whole

@@ -1,4 +1,4 @@
-use Rattle.naga_form.proofs.OneFunction.{numbered_runs_at}
+use Rattle.naga_form.proofs.statements.OneFunction.{numbered_runs_at}
 use Rattle.naga_form.proofs.Runs.{runs_as_under}
 use Rattle.naga_form.proofs.runs_as_the_module.Goals as goal
 

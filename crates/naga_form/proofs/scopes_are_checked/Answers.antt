@@ -1,4 +1,4 @@
-use Rattle.naga_form.proofs.ScopeRules.{scopes_are_checked}
+use Rattle.naga_form.proofs.statements.ScopeRules.{scopes_are_checked}
 use Rattle.naga_form.proofs.scopes_are_checked.Goals as goal
 
 pub returns : goal.returns

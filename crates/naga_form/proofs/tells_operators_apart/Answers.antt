@@ -1,5 +1,5 @@
-use Rattle.naga_form.proofs.OperatorTable.{counted_apart, keeps_word}
-use Rattle.naga_form.proofs.TypedWords.{share_a_word}
+use Rattle.naga_form.proofs.operators.OperatorTable.{counted_apart, keeps_word}
+use Rattle.naga_form.proofs.operators.TypedWords.{share_a_word}
 use Rattle.naga_form.proofs.tells_operators_apart.Goals as goal
 
 pub returns-clause-words : goal.returns-clause-words

@@ -1,4 +1,4 @@
-use Rattle.naga_form.proofs.Layouts.{tells_layouts}
+use Rattle.naga_form.proofs.types.Layouts.{tells_layouts}
 use Rattle.naga_form.proofs.tells_the_layouts.Goals as goal
 
 pub returns : goal.returns

@@ -1,5 +1,5 @@
-use Rattle.naga_form.proofs.TypeIdentity.{alike_distinguished, unspelled_apart}
-use Rattle.naga_form.proofs.DistinguishedItems.{types_are_distinguished}
+use Rattle.naga_form.proofs.types.TypeIdentity.{alike_distinguished, unspelled_apart}
+use Rattle.naga_form.proofs.names.DistinguishedItems.{types_are_distinguished}
 use Rattle.naga_form.proofs.tells_types_apart.Goals as goal
 
 pub returns-clause-alike : goal.returns-clause-alike

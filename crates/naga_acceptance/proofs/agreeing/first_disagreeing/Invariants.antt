@@ -1,6 +1,6 @@
 use Rattle.std.proofs.Common.{◌≡◌, true}
-use Rattle.module_meaning.specs.AgreeingOperators.{groups_of}
-use Rattle.module_meaning.specs.Operations.{all_agree}
+use Rattle.module_meaning.specs.acceptance.AgreeingOperators.{groups_of}
+use Rattle.module_meaning.specs.acceptance.Operations.{all_agree}
 use Rattle.naga_acceptance.specs.Uses.{Remembers, earlier_uses, group_of, part_uses}
 use Rattle.naga_acceptance.proofs.agreeing.first_disagreeing.Given as goal
 

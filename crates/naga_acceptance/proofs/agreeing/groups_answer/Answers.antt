@@ -1,6 +1,6 @@
 use Rattle.std.proofs.Common.{◌≡◌, ℕ, ◌+◌, suc, true, false, ap, sym, ◌∙◌, arith, slice_get, []}
 use Rattle.std.specs.Option.{is_some, option_map_or}
-use Rattle.module_meaning.specs.AgreeingOperators.{groups_of, uses_of}
+use Rattle.module_meaning.specs.acceptance.AgreeingOperators.{groups_of, uses_of}
 use Rattle.naga_acceptance.specs.Uses.{first_answer, operation}
 use Rattle.naga_acceptance.proofs.EarlierUses.{found_further, none_further}
 use Rattle.naga_acceptance.proofs.agreeing.groups_answer.Goals as goal

@@ -1,5 +1,5 @@
 use Rattle.std.proofs.Common.{◌≡◌, None}
-use Rattle.module_meaning.specs.AgreeingOperators.{groups_of}
+use Rattle.module_meaning.specs.acceptance.AgreeingOperators.{groups_of}
 use Rattle.naga_acceptance.specs.Uses.{first_answer, group_uses, operation}
 use Rattle.naga_acceptance.proofs.agreeing.groups_answer.Given as goal
 

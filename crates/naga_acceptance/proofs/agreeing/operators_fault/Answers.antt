@@ -1,6 +1,6 @@
 use Rattle.std.proofs.Common.{◌<◌, length, arith}
 use Rattle.std.proofs.lemmas.Option.{slice_get_within}
-use Rattle.module_meaning.specs.AgreeingOperators.{groups_of}
+use Rattle.module_meaning.specs.acceptance.AgreeingOperators.{groups_of}
 use Rattle.naga_acceptance.proofs.Groups.{groups_within}
 use Rattle.naga_acceptance.proofs.agreeing.operators_fault.Goals as goal
 

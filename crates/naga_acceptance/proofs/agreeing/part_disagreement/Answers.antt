@@ -2,8 +2,8 @@ use Rattle.std.proofs.Common.{◌≡◌, ◌≤◌, ◌<◌, ◌+◌, ap, sym, �
 use Rattle.std.proofs.Common.{ℕ, Some, None, true, inl, inr, List, ◌⊎◌, get_or}
 use Rattle.std.specs.Option.{is_none}
 use Rattle.std.proofs.lemmas.Option.{slice_get_within, slice_get_cases}
-use Rattle.module_meaning.specs.AgreeingOperators.{groups_of}
-use Rattle.module_meaning.specs.Operations.{all_agree}
+use Rattle.module_meaning.specs.acceptance.AgreeingOperators.{groups_of}
+use Rattle.module_meaning.specs.acceptance.Operations.{all_agree}
 use Rattle.naga_acceptance.specs.declared.agreeing.TheConstants.{SLOTS}
 use Rattle.naga_acceptance.specs.Uses.{group_of, group_uses, part_uses}
 use Rattle.naga_acceptance.proofs.Remembering.{none_remembered, remembers_same}

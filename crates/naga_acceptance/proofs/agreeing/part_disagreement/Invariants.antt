@@ -1,6 +1,6 @@
 use Rattle.std.proofs.Common.{◌≡◌, ◌≤◌, ◌-◌, true, length}
-use Rattle.module_meaning.specs.AgreeingOperators.{groups_of}
-use Rattle.module_meaning.specs.Operations.{all_agree}
+use Rattle.module_meaning.specs.acceptance.AgreeingOperators.{groups_of}
+use Rattle.module_meaning.specs.acceptance.Operations.{all_agree}
 use Rattle.naga_acceptance.specs.declared.agreeing.TheConstants.{SLOTS}
 use Rattle.naga_acceptance.specs.Uses.{Remembers, group_uses, part_uses}
 use Rattle.naga_acceptance.proofs.agreeing.part_disagreement.Given as goal

@@ -1,11 +1,13 @@
 use Rattle.std.proofs.Common.{◌≡◌, ap, sym, ◌∙◌, arith, Some, true}
 use Rattle.std.specs.Option.{option_and_then}
 use Rattle.std.specs.Prelude.{unwrap_or}
-use Rattle.module_meaning.specs.AgreeingOperators.{groups_of}
+use Rattle.module_meaning.specs.acceptance.AgreeingOperators.{groups_of}
 use Rattle.naga_acceptance.specs.declared.agreeing.Site.{Site}
-use Rattle.naga_acceptance.specs.Uses.{earlier_uses, group_of, has_hash, is_in, operation, part_uses, use_at, use_in}
+use Rattle.naga_acceptance.specs.Uses.{earlier_uses, group_of, has_hash, is_in, operation}
+use Rattle.naga_acceptance.specs.Uses.{part_uses, use_at, use_in}
 use Rattle.naga_acceptance.proofs.Agreement.{sought_agrees}
-use Rattle.naga_acceptance.proofs.OperatorParts.{first_taken, one_more_agrees, part_use_more, same_part}
+use Rattle.naga_acceptance.proofs.OperatorParts.{first_taken, one_more_agrees, part_use_more}
+use Rattle.naga_acceptance.proofs.OperatorParts.{same_part}
 use Rattle.naga_acceptance.proofs.Remembering.{empty_probe, entered_remembered, full_found}
 use Rattle.naga_acceptance.proofs.Remembering.{further_remembered, remembers_same, seen_found}
 use Rattle.naga_acceptance.proofs.Remembering.{seen_probe, slot_within}

@@ -2,7 +2,8 @@ use Rattle.std.proofs.Common.{◌≡◌, ◌∙◌, ap, sym, Option, Some, None}
 use Rattle.std.specs.Option.{option_copied, option_map, option_map_or}
 use Rattle.naga_ir.specs.declared.types.TypeInner.{TypeInner}
 use Rattle.naga_info.specs.declared.info.TypeResolution.TheVariants.{Value}
-use Rattle.module_meaning.specs.AgreeingOperators.{conversion_key, formless_key, target_key}
+use Rattle.module_meaning.specs.acceptance.AgreeingOperators.{conversion_key, formless_key}
+use Rattle.module_meaning.specs.acceptance.AgreeingOperators.{target_key}
 use Rattle.module_meaning.specs.Conversions.{conversion_target}
 use Rattle.naga_acceptance.specs.KnownTypes.{inferred}
 use Rattle.naga_acceptance.specs.OperatorKeys.{key}

@@ -1,6 +1,6 @@
 use Rattle.std.proofs.Common.{◌≡◌, drop}
 use Rattle.naga_ir.specs.StatementViews.{cases_of}
-use Rattle.module_meaning.specs.StatementsFit.{has_label}
+use Rattle.module_meaning.specs.acceptance.StatementsFit.{has_label}
 use Rattle.naga_acceptance.proofs.statements.has_label.Given as goal
 
 abbrev pub invariant-loop-case : goal.invariant-loop-case

@@ -1,5 +1,6 @@
-use Rattle.naga_form.proofs.AlikeLaw.{alike_by_numbers}
-use Rattle.naga_form.proofs.Readable.{alike_itself, alike_back, alike_through, strides_are_alike}
+use Rattle.naga_form.proofs.types.AlikeLaw.{alike_by_numbers}
+use Rattle.naga_form.proofs.types.Readable.{alike_itself, alike_back, alike_through}
+use Rattle.naga_form.proofs.types.Readable.{strides_are_alike}
 use Rattle.naga_form.proofs.types.alike_types.Goals as goal
 
 pub returns : goal.returns

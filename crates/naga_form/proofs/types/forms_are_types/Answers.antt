@@ -1,4 +1,4 @@
-use Rattle.naga_form.proofs.TypeTrees.{resolution_is}
+use Rattle.naga_form.proofs.types.TypeTrees.{resolution_is}
 use Rattle.naga_form.proofs.types.forms_are_types.Goals as goal
 
 pub returns : goal.returns

@@ -1,4 +1,4 @@
-use Rattle.naga_form.proofs.TypeTrees.{only_text, lacks_unknown, type_row, inner_tree_row}
+use Rattle.naga_form.proofs.types.TypeTrees.{only_text, lacks_unknown, type_row, inner_tree_row}
 use Rattle.naga_form.proofs.types.text_of_a_form.Goals as goal
 
 pub returns : goal.returns

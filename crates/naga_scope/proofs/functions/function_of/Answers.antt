@@ -1,6 +1,6 @@
 use Rattle.std.proofs.Common.{◌≡◌, ◌<◌, ap, arith, length, slice_get, subst, sym, ◌+◌, ◌∙◌}
 use Rattle.std.proofs.lemmas.Option.{slice_get_read}
-use Rattle.naga_form.proofs.AcceptedFunctions.{entry_points_counted, functions_counted}
+use Rattle.naga_form.proofs.statements.AcceptedFunctions.{entry_points_counted, functions_counted}
 use Rattle.module_meaning.proofs.FunctionNumbers.{behind_left, entry_point_among, function_among}
 use Rattle.module_meaning.proofs.FunctionNumbers.{info_among}
 use Rattle.module_meaning.specs.FunctionNumbers.{IsFunctionOf, all_functions, all_infos}

@@ -1,8 +1,9 @@
-use Rattle.std.proofs.Common.{◌≡◌, ◌∙◌, Err, IfErr, IfOk, Ok, ap, length, refl, subst, sym, string_bytes, ◌≤◌, ℕ, []}
+use Rattle.std.proofs.Common.{◌≡◌, ◌∙◌, Err, IfErr, IfOk, Ok, ap, length, refl, subst, sym}
+use Rattle.std.proofs.Common.{string_bytes, ◌≤◌, ℕ, []}
 use Rattle.std.specs.Prelude.{IsTrue}
 use Rattle.module_answers.specs.Within.{IsUnwritten}
 use Rattle.module_answers.specs.declared.within.Unwritten.TheVariants as unwritten
-use Rattle.module_meaning.specs.Accepted.{is_accepted}
+use Rattle.module_meaning.specs.acceptance.Accepted.{is_accepted}
 use Rattle.naga_wgsl_out.specs.Checked.{IsCounted}
 use Rattle.naga_wgsl_out.specs.Headline.{FaithfulWriting}
 use Rattle.naga_wgsl_out.specs.Writing.{AppendsItsText}

@@ -4,9 +4,9 @@ use Rattle.module_meaning.specs.ExpressionLabels.{expression_labels}
 use Rattle.module_meaning.specs.FunctionNumbers.{function_number}
 use Rattle.module_meaning.specs.Names.{labels_named_in}
 use Rattle.naga_scope.proofs.Results.{results_fit}
-use Rattle.naga_form.proofs.AcceptedGroups.{fits_in_range, known_is_fit}
-use Rattle.naga_form.proofs.AcceptedFunctions.{of_number, ranges_are}
-use Rattle.naga_form.proofs.Ordered.{operands_stand_before}
+use Rattle.naga_form.proofs.declarations.AcceptedGroups.{fits_in_range, known_is_fit}
+use Rattle.naga_form.proofs.statements.AcceptedFunctions.{of_number, ranges_are}
+use Rattle.naga_form.proofs.operators.Ordered.{operands_stand_before}
 use Rattle.std.specs.Prelude.{IfOk, OnErr}
 use Rattle.naga_scope.specs.ExpressionNames.{HasBegunLabels, NamesLabels}
 use Rattle.naga_scope.specs.Plans.{IsFirstToPlan, IsPlan, IsRefusalToPlan, LabelsGetNames}

@@ -111,11 +111,10 @@ pub returns-in_err-check_function-clause-first : goal.returns-in_err-check_funct
 returns-in_err-check_function-clause-first c =
     let fault = c.in_err-check_function.field-0.0 in
     if_err c.from_residual-in_err-check_function.result (OutOfScope fault)
-    (IsFirstToPlanFor c.args.explicit c.args.known.now c.args.namer.now) c.from_residual-in_err-check_function.ensures.1
-    (
+    (IsFirstToPlanFor c.args.explicit c.args.known.now c.args.namer.now) c.from_residual-in_err-check_function.ensures.1 (
       none_full
-      (named_all c.args.known.now (trees_of c.as_slice-statements.result.now)
-      (ap trees_of c.as_slice-statements.ensures.value ∙ c.in_ok-found.ensures) c.in_ok-named.ensures.ok),
+          (named_all c.args.known.now (trees_of c.as_slice-statements.result.now)
+          (ap trees_of c.as_slice-statements.ensures.value ∙ c.in_ok-found.ensures) c.in_ok-named.ensures.ok),
       sym c.in_err-check_function.ensures.check,
     )
 

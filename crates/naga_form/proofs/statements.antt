@@ -1,0 +1,19 @@
+-- Functions, their statements, and the `let`s that are written for them.
+pub mod Abstraction
+pub mod AcceptedFunctions
+pub mod Bindings
+pub mod EmptyCases
+pub mod FirstFunctions
+pub mod FittingStatements
+pub mod FunctionsFit
+pub mod OneFunction
+pub mod Regular
+pub mod ScopeRules
+pub mod SimpleShapes
+pub mod StatementPrograms
+pub mod SwitchLabels
+pub mod Switches
+pub mod WellFormed
+pub mod Worded
+pub mod WrittenFunctions
+pub mod WrittenHandles

@@ -1,0 +1,22 @@
+-- The types of a module: trees, parts, layouts, and which are alike.
+pub mod AlikeLaw
+pub mod AlikeNumbers
+pub mod AlikeParts
+pub mod AlikeTypes
+pub mod LayoutParts
+pub mod LayoutWords
+pub mod Layouts
+pub mod LiteralTypes
+pub mod LogicalTypes
+pub mod PartTypes
+pub mod PartsFit
+pub mod PlaceParts
+pub mod PointerParts
+pub mod Readable
+pub mod SameValues
+pub mod TakenMembers
+pub mod TypeIdentity
+pub mod TypeItems
+pub mod TypeTrees
+pub mod WrittenSizes
+pub mod WrittenTypes

@@ -1,0 +1,224 @@
+//! The constructs for which expressions, statements and types have no form.
+
+ghost use Rattle.std.specs.Prelude.{Bool, IsFalse, List, None, ◌&&◌};
+ghost use Rattle.module_meaning.specs.ExpressionForms.{expression_has_form, is_written_literal};
+ghost use Rattle.module_meaning.specs.ExpressionForms.{known_passes};
+ghost use Rattle.module_meaning.specs.ExpressionOperators.{has_parts, scalar_behind};
+ghost use Rattle.module_meaning.specs.Conversions.{conversion_target};
+ghost use Rattle.module_meaning.specs.Sampling.{sampling_is_written};
+ghost use Rattle.naga_ir.specs.declared.expression.Expression.{Expression};
+ghost use Rattle.naga_scope.specs.Forms.{AreKnownIn};
+ghost use Rattle.naga_scope.specs.Marks.{GlobalsStandInOrder};
+ghost use Rattle.naga_scope.specs.Tables.{AreTablesOf};
+ghost use Rattle.naga_wgsl_fns.specs.Carried.{CarriesOfConversion, CarriesOfExpression};
+ghost use Rattle.naga_wgsl_fns.specs.Carried.{CarriesOfType, CarriesScalar};
+ghost use Rattle.naga_wgsl_fns.specs.Constructs.{Tells};
+ghost use Rattle.naga_wgsl_fns.specs.Refusals.{NamesConversion, NamesExpression};
+ghost use Rattle.naga_wgsl_fns.specs.Refusals.{NamesLiteral, NamesSampling};
+ghost use Rattle.naga_wgsl_fns.specs.Refusals.{NamesMatrix, NamesPart, NamesType};
+ghost use Rattle.naga_wgsl_fns.specs.Refusals.{NamesStatement, converted};
+ghost use Rattle.naga_wgsl_fns.specs.Refusals.{NamesItemsOf, pointed_scalar};
+
+use crate::refusals::constants::formless_constant;
+use crate::refusals::construct::Construct;
+use crate::refusals::lacking::lacking_scalar;
+use module_meaning::type_parts::{converted_scalar, known_has_parts};
+use naga_info::{FunctionInfo, TypeResolution};
+use naga_ir::{
+    Expression, Handle, Literal, Module, SampleLevel, ScalarKind, SwizzleComponent, Type_,
+    TypeInner, UniqueArena,
+};
+use naga_scope::{FormlessStatement, ModuleTables, sampling_has_form, scalar_behind};
+
+/// What an expression that has no form among the others of its function is.
+pub(crate) fn without_form(
+    module: &Module,
+    tables: &ModuleTables,
+    info: &FunctionInfo,
+    expression: &Expression,
+) -> Construct
+    requires known { AreKnownIn «module».now.types info.now }
+    requires ordered { GlobalsStandInOrder «module».now }
+    requires tables { AreTablesOf «module».now tables.now }
+    requires named { NamesItemsOf «module».now expression.now }
+    requires formless { (es : List Expression) ×
+        IsFalse (expression_has_form «module».now info.now es expression.now) }
+    ensures names { (es : List Expression) →
+        IsFalse (expression_has_form «module».now info.now es expression.now) →
+        Tells result (NamesExpression «module».now info.now es expression.now) }
+    ensures carries { CarriesOfExpression «module».now info.now expression.now result }
+{
+    let types = &module.types;
+    match expression {
+        Expression::Constant(constant) => formless_constant(module, tables, *constant),
+        Expression::Literal(literal) => literal_without_form(literal),
+        Expression::Math { fun, .. } => Construct::MathFunction(*fun),
+        Expression::Relational { fun, .. } => Construct::RelationalFunction(*fun),
+        Expression::As {
+            expr,
+            kind,
+            convert,
+        } => conversion_without_form(types, info, *expr, *kind, *convert),
+        Expression::ImageSample {
+            gather,
+            level,
+            depth_ref,
+            clamp_to_edge,
+            ..
+        } => sampling_without_form(*gather, *level, depth_ref.is_some(), *clamp_to_edge),
+        Expression::ImageLoad { .. } => Construct::ImageLoad,
+        Expression::ZeroValue(ty) | Expression::Compose { ty, .. } => {
+            type_without_form(module, tables, &TypeResolution::Handle(*ty))
+        }
+        Expression::AccessIndex { base, .. } => part_without_form(types, info, *base),
+        Expression::CooperativeLoad { data_, .. } => load_without_form(types, info, data_.pointer),
+        Expression::RayQueryProceedResult
+        | Expression::RayQueryGetIntersection { .. }
+        | Expression::RayQueryVertexPositions { .. } => Construct::RayQuery,
+        _ => unreachable!(),
+    }
+}
+
+/// What a statement that has no form is.
+pub(crate) fn statement_without_form(statement: FormlessStatement) -> Construct
+    ensures { Tells result (NamesStatement statement) }
+{
+    match statement {
+        FormlessStatement::RayQuery => Construct::RayQuery,
+        FormlessStatement::SubgroupOperation => Construct::SubgroupOperation,
+        FormlessStatement::FallThrough => Construct::FallThrough,
+        FormlessStatement::ImageCompareExchange => Construct::ImageCompareExchange,
+    }
+}
+
+/// What a type that no text can spell is: it names a struct that no text declares, a scalar
+/// has no word, or it has no form for another reason.
+pub(crate) fn type_without_form(
+    module: &Module,
+    tables: &ModuleTables,
+    ty: &TypeResolution,
+) -> Construct
+    requires tables { AreTablesOf «module».now tables.now }
+    ensures names { Tells result (NamesType «module».now ty.now) }
+    ensures carries { CarriesOfType «module».now ty.now result }
+{
+    if tables.names_undeclared(module, ty) {
+        return Construct::PredeclaredStruct;
+    }
+    match lacking_scalar(&module.types, ty) {
+        Some(scalar) => Construct::ScalarType(scalar),
+        None => Construct::OtherType,
+    }
+}
+
+/// What a part at an index is: there is none, or it is a member of a struct that no text declares,
+/// which no text can name.
+fn part_without_form(
+    types: &UniqueArena<Type_>,
+    info: &FunctionInfo,
+    base: Handle<Expression>,
+) -> Construct
+    ensures { Tells result (NamesPart (known_passes types.now info.now (has_parts types.now) base)) }
+{
+    if known_has_parts(types, info.expressions.as_slice(), base) {
+        Construct::PredeclaredStruct
+    } else {
+        Construct::Index
+    }
+}
+
+/// What a conversion is: a scalar has no word, or nothing is converted so.
+fn conversion_without_form(
+    types: &UniqueArena<Type_>,
+    info: &FunctionInfo,
+    operand: Handle<Expression>,
+    kind: ScalarKind,
+    convert: Option<u8>,
+) -> Construct
+    requires known { AreKnownIn types.now info.now }
+    ensures names { Tells result
+        (NamesConversion (converted types.now info.now operand kind convert)) }
+    ensures carries { CarriesOfConversion (converted types.now info.now operand kind convert)
+        result }
+{
+    match info.expressions.get(operand.index()) {
+        Some(known) => type_without_conversion(known.ty.inner_with(types), kind, convert),
+        None => Construct::Conversion,
+    }
+}
+
+fn type_without_conversion(inner: &TypeInner, kind: ScalarKind, convert: Option<u8>) -> Construct
+    ensures names { Tells result (NamesConversion (conversion_target inner.now kind convert)) }
+    ensures carries { CarriesOfConversion (conversion_target inner.now kind convert) result }
+{
+    match inner {
+        TypeInner::Scalar(scalar)
+        | TypeInner::Vector { scalar, .. }
+        | TypeInner::Matrix { scalar, .. } => {
+            Construct::ScalarType(converted_scalar(*scalar, kind, convert))
+        }
+        _ => Construct::Conversion,
+    }
+}
+
+/// What the load of a cooperative matrix is: its scalar has no word, or it has none.
+fn load_without_form(
+    types: &UniqueArena<Type_>,
+    info: &FunctionInfo,
+    pointer: Handle<Expression>,
+) -> Construct
+    requires known { AreKnownIn types.now info.now }
+    ensures names { Tells result (NamesMatrix (pointed_scalar types.now info.now pointer)) }
+    ensures carries { CarriesScalar (pointed_scalar types.now info.now pointer) result }
+{
+    match info.expressions.get(pointer.index()) {
+        Some(known) => matrix_without_form(types, known.ty.inner_with(types)),
+        None => Construct::OtherType,
+    }
+}
+
+fn matrix_without_form(types: &UniqueArena<Type_>, pointer: &TypeInner) -> Construct
+    ensures names { Tells result (NamesMatrix (scalar_behind types.now pointer.now)) }
+    ensures carries { CarriesScalar (scalar_behind types.now pointer.now) result }
+{
+    match scalar_behind(types, pointer) {
+        Some(scalar) => Construct::ScalarType(scalar),
+        None => Construct::OtherType,
+    }
+}
+
+/// An image is sampled in a way that has no form, or else its offset has none.
+fn sampling_without_form(
+    gather: Option<SwizzleComponent>,
+    level: SampleLevel,
+    compares: bool,
+    clamped: bool,
+) -> Construct
+    ensures { (offset : Bool) →
+        IsFalse (sampling_is_written gather level compares clamped && offset) →
+        Tells result (NamesSampling (sampling_is_written gather level compares clamped) offset) }
+{
+    if sampling_has_form(gather, level, compares, clamped) {
+        Construct::ConstantOperator
+    } else {
+        Construct::SamplingForm
+    }
+}
+
+/// What a literal that has no form is.
+pub(crate) fn literal_without_form(literal: &Literal) -> Construct
+    requires formless { IsFalse (is_written_literal literal.now) }
+    ensures names { Tells result (NamesLiteral literal.now) }
+    ensures carries { CarriesScalar None result }
+{
+    match literal {
+        Literal::F64(_)
+        | Literal::F32(_)
+        | Literal::F16(_)
+        | Literal::DecimalF64(_)
+        | Literal::DecimalF32(_)
+        | Literal::DecimalF16(_) => Construct::FloatLiteral,
+        Literal::AbstractInt(_) | Literal::AbstractFloat(_) => Construct::AbstractLiteral,
+        _ => unreachable!(),
+    }
+}
