@@ -36,12 +36,13 @@ use Rattle.naga_info.specs.declared.info.ModuleInfo.{ModuleInfo}
 use Rattle.naga_info.specs.declared.info.TypeResolution.{TypeResolution}
 use Rattle.naga_info.specs.declared.info.TypeResolution.TheVariants.{Handle, Value}
 use Rattle.module_meaning.specs.AlikeTypes.{are_alike}
-use Rattle.module_meaning.specs.acceptance.ExpressionTypes.{WantedType, LikeThis, Anything, Nothing}
+use Rattle.module_meaning.specs.acceptance.ExpressionTypes.{ExpectedType, LikeThis, Anything}
+use Rattle.module_meaning.specs.acceptance.ExpressionTypes.{Nothing}
 use Rattle.module_meaning.specs.acceptance.ExpressionTypes.{argument_type, binary_type}
 use Rattle.module_meaning.specs.acceptance.ExpressionTypes.{has_its_type, if_any, is_bool}
-use Rattle.module_meaning.specs.acceptance.ExpressionTypes.{is_wanted, local_type}
+use Rattle.module_meaning.specs.acceptance.ExpressionTypes.{is_expected, local_type}
 use Rattle.module_meaning.specs.acceptance.ExpressionTypes.{logical_type, only, vector_of}
-use Rattle.module_meaning.specs.acceptance.ExpressionTypes.{wanted_type}
+use Rattle.module_meaning.specs.acceptance.ExpressionTypes.{expected_type}
 use Rattle.module_meaning.specs.acceptance.OperandDemands.{is_components, is_integer, operand_is}
 use Rattle.module_meaning.specs.acceptance.OperandDemands.{operands_fit}
 use Rattle.module_meaning.specs.acceptance.InfoSizes.{all_known, all_paired, entry_point_size_fits}
@@ -68,17 +69,20 @@ use Rattle.module_meaning.specs.acceptance.StatementsFit.{is_result, is_result_i
 use Rattle.module_meaning.specs.acceptance.StatementsFit.{simple_is_sound}
 use Rattle.module_meaning.proofs.Lists.{list_all_at, placed_at}
 use Rattle.naga_info.proofs.Options.{map_some}
-use Rattle.naga_acceptance.specs.Faults.{ConstantFails, EntryPlaceFails, EntryPointFails, FaultIs}
-use Rattle.naga_acceptance.specs.Faults.{FunctionFails, FunctionPlaceFails, GlobalExpressionFails}
+use Rattle.naga_acceptance.specs.Faults.{ConstantFails, EntryPositionFails, EntryPointFails}
+use Rattle.naga_acceptance.specs.Faults.{FaultIs}
+use Rattle.naga_acceptance.specs.Faults.{FunctionFails, FunctionPositionFails}
+use Rattle.naga_acceptance.specs.Faults.{GlobalExpressionFails}
 use Rattle.naga_acceptance.specs.Faults.{GlobalFails}
 use Rattle.naga_acceptance.specs.Faults.{ItemFails, ModuleFails, OverrideFails, TypeFails}
 use Rattle.naga_acceptance.specs.Faults.{UnfitStatement, known_of}
-use Rattle.naga_acceptance.specs.TextOrder.{is_in_range, is_sound, labels_fit_32_bits, own_in_range}
+use Rattle.naga_acceptance.specs.TextOrder.{is_in_range, is_sound, case_values_fit_32_bits}
+use Rattle.naga_acceptance.specs.TextOrder.{own_in_range}
 use Rattle.naga_acceptance.specs.TextOrder.{own_is_sound, text_order}
 use Rattle.naga_acceptance.specs.declared.faults.Fault.{Fault}
 use Rattle.naga_acceptance.specs.declared.faults.Fault.TheVariants as fault
-use Rattle.naga_acceptance.specs.declared.faults.FunctionPlace.{FunctionPlace}
-use Rattle.naga_acceptance.specs.declared.faults.FunctionPlace.TheVariants as part
+use Rattle.naga_acceptance.specs.declared.faults.FunctionPosition.{FunctionPosition}
+use Rattle.naga_acceptance.specs.declared.faults.FunctionPosition.TheVariants as part
 use Rattle.naga_acceptance.specs.declared.faults.Item.{Item}
 use Rattle.naga_acceptance.specs.declared.faults.Item.TheVariants as item
 use Rattle.naga_acceptance.proofs.Finding.{unfit_item}
@@ -94,7 +98,7 @@ use Rattle.fault_details.specs.Reasons.{need_unless, number_reason, operand_reas
 use Rattle.fault_details.specs.Reasons.{own_type_reason, passed_reason, result_reason}
 use Rattle.fault_details.specs.Reasons.{simple_reason}
 use Rattle.fault_details.specs.Reasons.{statement_reason, type_reason, typeless_reason}
-use Rattle.fault_details.specs.Reasons.{wanted_reason}
+use Rattle.fault_details.specs.Reasons.{expected_reason}
 use Rattle.fault_details.specs.WithReason.{AreNumbered, IsOfTypes, LacksLetter, LacksLetterAt}
 use Rattle.fault_details.specs.WithReason.{LacksLetterIn, TypeFaultsHaveReasons}
 use Rattle.fault_details.specs.declared.words.Counted.TheVariants as counted
@@ -108,7 +112,7 @@ use Rattle.fault_details.proofs.Reasoning.{store_told, switch_told, type_told}
 
 -- ---- what an expression stands for
 
-abbrev is_nothing : WantedType → Bool
+abbrev is_nothing : ExpectedType → Bool
 is_nothing (LikeThis r) = false
 is_nothing Anything = false
 is_nothing Nothing = true
@@ -155,7 +159,7 @@ module _ (m : Module) (f : Option Function) (known : List TypeResolution) (argum
   first_there : (x : ℕ) (xs : List ℕ) → all_below h (x ∷ xs) ≡ true → IsKnown m.types known x
   first_there x xs below = there x (and_parts (nat_lt x h) (all_below h xs) below).0
 
-  typeless_told : (own : TypeResolution) (e : Expression) → wanted_type m f known e ≡ Nothing → all_below h (expression_operands e) ≡ true →
+  typeless_told : (own : TypeResolution) (e : Expression) → expected_type m f known e ≡ Nothing → all_below h (expression_operands e) ≡ true →
       names_in_range m arguments locals e ≡ true → IsSome (typeless_reason m.types known own e)
   typeless_told own (expression.Constant handle) nothing below named = absurd (not_absent m.constants handle (map_none _ _ (only_none _ nothing)) named)
   typeless_told own (expression.Override handle) nothing below named = absurd (not_absent m.overrides handle (map_none _ _ (only_none _ nothing)) named)
@@ -179,13 +183,13 @@ module _ (m : Module) (f : Option Function) (known : List TypeResolution) (argum
   typeless_told own (expression.CallResult function) nothing below named = refl
   typeless_told own _ nothing below named = absurd (true≢false (sym (ap is_nothing nothing)))
 
-  own_type_told : (e : Expression) (k : IsKnown m.types known h) → option_map_or (is_wanted m.types (wanted_type m f known e)) (slice_get known h) false ≡ false →
+  own_type_told : (e : Expression) (k : IsKnown m.types known h) → option_map_or (is_expected m.types (expected_type m f known e)) (slice_get known h) false ≡ false →
       all_below h (expression_operands e) ≡ true → names_in_range m arguments locals e ≡ true → IsSome (own_type_reason m f known h e)
   own_type_told e k fails below named =
-      some_then (λ own. wanted_reason m.types known own e (wanted_type m f known e)) (slice_get known h) k.0 k.1
-      (by (wanted_type m f known e) refl (sym (ap (λ o. option_map_or (is_wanted m.types (wanted_type m f known e)) o false) k.1) ∙ fails))
+      some_then (λ own. expected_reason m.types known own e (expected_type m f known e)) (slice_get known h) k.0 k.1
+      (by (expected_type m f known e) refl (sym (ap (λ o. option_map_or (is_expected m.types (expected_type m f known e)) o false) k.1) ∙ fails))
     where
-      by : (w : WantedType) → wanted_type m f known e ≡ w → is_wanted m.types w k.0 ≡ false → IsSome (wanted_reason m.types known k.0 e w)
+      by : (w : ExpectedType) → expected_type m f known e ≡ w → is_expected m.types w k.0 ≡ false → IsSome (expected_reason m.types known k.0 e w)
       by (LikeThis r) is other = some_unless (are_alike m.types k.0 r) _ other
       by Anything is other = absurd (true≢false other)
       by Nothing is other = typeless_told k.0 e is below named
@@ -298,7 +302,7 @@ module _ (m : Module) (f : Function) (known : List TypeResolution) (callees : �
       (and_parts (all_below (length f.expressions) (simple_operands s)) (is_below (length f.expressions) (simple_result s)) parts.1).0 fails
   own_told breaks continues (branch condition accept reject) range fails = class_told m.types known class.Bool condition (there condition range) fails
   own_told breaks continues (switch selector cs) range fails =
-      switch_told m.types known selector cs (there selector (and_parts (nat_lt selector (length f.expressions)) (labels_fit_32_bits cs) range).0) fails
+      switch_told m.types known selector cs (there selector (and_parts (nat_lt selector (length f.expressions)) (case_values_fit_32_bits cs) range).0) fails
   own_told breaks continues (loop body continuing break_if) range fails = condition_told break_if range fails
   own_told breaks continues _ range fails = absurd (true≢false fails)
 
@@ -325,7 +329,7 @@ placed : {X : Type 0} (test : ℕ → X → Bool) (xs : List X) (h : ℕ) (x : X
 placed test xs h x all at = let is : 0 + h ≡ h = omega arith in sym (ap (λ k. test k x) is) ∙ placed_at test 0 xs h x all at
 
 -- such a swizzle stands at a part of a function
-abbrev LacksLetterWithin : List Type_ → (known : List TypeResolution) → Function → FunctionPlace → Type 0
+abbrev LacksLetterWithin : List Type_ → (known : List TypeResolution) → Function → FunctionPosition → Type 0
 LacksLetterWithin types known f (part.Expression e) = LacksLetterIn types known f.expressions e
 LacksLetterWithin types known f _ = ⊥
 
@@ -362,7 +366,7 @@ module _ (m : Module) (f : Function) (known : List TypeResolution) (callees : �
       let fits = placed (expression_in_range m (length f.arguments.items) (length f.local_variables)) f.expressions h e parts_in_range.1 at in
       and_parts (all_below h (expression_operands e)) (names_in_range m (length f.arguments.items) (length f.local_variables) e) fits
 
-  function_told : (kind : Fault) (place : FunctionPlace) → IsOfTypes kind → FunctionPlaceFails m callees f known place kind →
+  function_told : (kind : Fault) (place : FunctionPosition) → IsOfTypes kind → FunctionPositionFails m callees f known place kind →
       IsSome (function_reason m callees f known kind place) ⊎ ((kind ≡ fault.OperandTypes) × LacksLetterWithin m.types known f place)
   function_told fault.OtherType (part.Expression h) of fails =
       let e = unfit_item (has_its_type m (Some f) known h) f.expressions h fails in
@@ -590,7 +594,7 @@ module _ (m : Module) (info : ModuleInfo) (ranges : IsTrue (module_ranges_fit m 
   global_expression_told h fault.Unsatisfied of fails = absurd fails
   global_expression_told h _ of fails = absurd of
 
-  function_at_told : (h : ℕ) (place : FunctionPlace) (kind : Fault) → IsOfTypes kind → FunctionFails m info h place kind → Told kind (item.Function h place)
+  function_at_told : (h : ℕ) (place : FunctionPosition) (kind : Fault) → IsOfTypes kind → FunctionFails m info h place kind → Told kind (item.Function h place)
   function_at_told h place kind of (f, at, fails) =
       let es = paired_at function_size_fits m.functions info.functions.items known_sizes.0 h f at in
       let known = known_of info.functions.items h in
@@ -601,7 +605,7 @@ module _ (m : Module) (info : ModuleInfo) (ranges : IsTrue (module_ranges_fit m 
       (function_told m f known h (omega (arith, slice_get_within m.functions h f at)) sized (placed (function_in_range m) m.functions h f functions_in_range.0 at)
       (known_formed m info.functions.items known_fit.0 h es.0 es.1) (numbered.functions h f at) kind place of fails)
     where
-      lacks_in : (place : FunctionPlace) (f : Function) → slice_get m.functions h ≡ Some f → LacksLetterWithin m.types (known_of info.functions.items h) f place →
+      lacks_in : (place : FunctionPosition) (f : Function) → slice_get m.functions h ≡ Some f → LacksLetterWithin m.types (known_of info.functions.items h) f place →
           LacksLetterAt m info (item.Function h place)
       lacks_in (part.Expression e) f at lacks = some_and (λ f. LacksLetterIn m.types (known_of info.functions.items h) f.expressions e) (slice_get m.functions h) f at lacks
       lacks_in part.Whole f at lacks = absurd lacks
@@ -609,8 +613,8 @@ module _ (m : Module) (info : ModuleInfo) (ranges : IsTrue (module_ranges_fit m 
       lacks_in (part.Statement number) f at lacks = absurd lacks
 
   -- what is told of an entry point's function is told of the entry point
-  entry_fails : (p : EntryPoint) (known : List TypeResolution) (place : FunctionPlace) (kind : Fault) → IsOfTypes kind → EntryPlaceFails m p known place kind →
-      FunctionPlaceFails m (length m.functions) p.function known place kind
+  entry_fails : (p : EntryPoint) (known : List TypeResolution) (place : FunctionPosition) (kind : Fault) → IsOfTypes kind → EntryPositionFails m p known place kind →
+      FunctionPositionFails m (length m.functions) p.function known place kind
   entry_fails p known part.Whole fault.OtherType of fails = fails
   entry_fails p known part.Whole fault.OperandTypes of fails = fails
   entry_fails p known part.Whole fault.InitialiserType of fails = fails
@@ -620,7 +624,7 @@ module _ (m : Module) (info : ModuleInfo) (ranges : IsTrue (module_ranges_fit m 
   entry_fails p known (part.Expression h) kind of fails = fails
   entry_fails p known (part.Statement number) kind of fails = fails
 
-  entry_reason : (p : EntryPoint) (known : List TypeResolution) (place : FunctionPlace) (kind : Fault) → IsOfTypes kind →
+  entry_reason : (p : EntryPoint) (known : List TypeResolution) (place : FunctionPosition) (kind : Fault) → IsOfTypes kind →
       function_reason m (length m.functions) p.function known kind place ≡ entry_point_reason m p known kind place
   entry_reason p known place fault.OtherType of = refl
   entry_reason p known place fault.OperandTypes of = refl
@@ -628,7 +632,7 @@ module _ (m : Module) (info : ModuleInfo) (ranges : IsTrue (module_ranges_fit m 
   entry_reason p known place fault.Unsatisfied of = refl
   entry_reason p known place _ of = absurd of
 
-  entry_point_told : (h : ℕ) (place : FunctionPlace) (kind : Fault) → IsOfTypes kind → EntryPointFails m info h place kind → Told kind (item.EntryPoint h place)
+  entry_point_told : (h : ℕ) (place : FunctionPosition) (kind : Fault) → IsOfTypes kind → EntryPointFails m info h place kind → Told kind (item.EntryPoint h place)
   entry_point_told h place kind of (p, at, fails) =
       let es = paired_at entry_point_size_fits m.entry_points.items info.entry_points.items known_sizes.1 h p at in
       let known = known_of info.entry_points.items h in
@@ -648,7 +652,7 @@ module _ (m : Module) (info : ModuleInfo) (ranges : IsTrue (module_ranges_fit m 
           let own = function_in_range m (length m.functions) p.function in
           (and_parts group own (and_parts ray (group && own) (and_parts task (ray && (group && own)) (and_parts mesh (task && (ray && (group && own))) fits).1).1).1).1
 
-      lacks_in : (place : FunctionPlace) (p : EntryPoint) → slice_get m.entry_points.items h ≡ Some p → LacksLetterWithin m.types (known_of info.entry_points.items h) p.function place →
+      lacks_in : (place : FunctionPosition) (p : EntryPoint) → slice_get m.entry_points.items h ≡ Some p → LacksLetterWithin m.types (known_of info.entry_points.items h) p.function place →
           LacksLetterAt m info (item.EntryPoint h place)
       lacks_in (part.Expression e) p at lacks =
           some_and (λ p. LacksLetterIn m.types (known_of info.entry_points.items h) p.function.expressions e) (slice_get m.entry_points.items h) p at lacks

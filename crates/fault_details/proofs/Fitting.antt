@@ -7,7 +7,7 @@ use Rattle.naga_ir.specs.declared.types.TypeInner.TheVariants as inner
 use Rattle.naga_ir.specs.declared.types.ArraySize.{ArraySize}
 use Rattle.naga_ir.specs.declared.types.ArraySize.TheVariants as size
 use Rattle.naga_words.specs.Contexts.{global_context}
-use Rattle.naga_words.specs.Spelling.{Fits, IsInOrder, StandsBehind, knows_override, knows_size}
+use Rattle.naga_words.specs.Spelling.{Fits, IsInOrder, StandsAfter, knows_override, knows_size}
 use Rattle.naga_words.specs.Spelling.{length_within, size_within}
 
 module _ (types : List Type_) (overrides : List Override) where
@@ -21,16 +21,16 @@ module _ (types : List Type_) (overrides : List Override) where
   known_within (inner.BindingArray base count) = so_many count
   known_within _ = refl
 
-  pub fits_behind : (it : TypeInner) → StandsBehind (length types) (length overrides) it ↔ Fits (global_context types overrides) it
-  fits_behind it = (
+  pub fits_after : (it : TypeInner) → StandsAfter (length types) (length overrides) it ↔ Fits (global_context types overrides) it
+  fits_after it = (
     λ stands. record { in_range = stands.before; knows = known_within it ∙ stands.known },
     λ fits. record { before = fits.in_range; known = sym (known_within it) ∙ fits.knows },
   )
 
   -- in order, each type stands after those that it names
-  pub behind_in_order : IsInOrder (global_context types overrides) → (handle : ℕ) (t : Type_) → slice_get types handle ≡ Some t →
-      StandsBehind handle (length overrides) t.inner
-  behind_in_order order handle t at = record {
+  pub after_in_order : IsInOrder (global_context types overrides) → (handle : ℕ) (t : Type_) → slice_get types handle ≡ Some t →
+      StandsAfter handle (length overrides) t.inner
+  after_in_order order handle t at = record {
     before = order.before handle t at;
     known = sym (known_within t.inner) ∙ order.known handle t at;
   }

@@ -20,7 +20,7 @@ use Rattle.naga_ir.specs.declared.module.FunctionArgument.{FunctionArgument}
 use Rattle.naga_ir.specs.declared.module.FunctionResult.{FunctionResult}
 use Rattle.naga_ir.specs.declared.module.Module.{Module}
 use Rattle.naga_ir.specs.declared.statement.SwitchValue.{SwitchValue}
-use Rattle.naga_ir.specs.declared.statement.SwitchValue.TheVariants as label
+use Rattle.naga_ir.specs.declared.statement.SwitchValue.TheVariants as switch_value
 use Rattle.naga_ir.specs.declared.types.Scalar.{Scalar}
 use Rattle.naga_ir.specs.declared.types.ArraySize.{ArraySize}
 use Rattle.naga_ir.specs.declared.types.ArraySize.TheVariants as size
@@ -36,21 +36,24 @@ use Rattle.naga_acceptance.specs.declared.faults.Fault.{Fault}
 use Rattle.naga_acceptance.specs.declared.faults.Fault.TheVariants as fault
 use Rattle.naga_acceptance.specs.declared.faults.Item.{Item}
 use Rattle.naga_acceptance.specs.declared.faults.Item.TheVariants as item
-use Rattle.naga_acceptance.specs.declared.faults.FunctionPlace.{FunctionPlace}
-use Rattle.naga_acceptance.specs.declared.faults.FunctionPlace.TheVariants as part
+use Rattle.naga_acceptance.specs.declared.faults.FunctionPosition.{FunctionPosition}
+use Rattle.naga_acceptance.specs.declared.faults.FunctionPosition.TheVariants as part
 use Rattle.module_meaning.specs.AlikeTypes.{are_alike}
-use Rattle.module_meaning.specs.acceptance.ExpressionTypes.{WantedType, LikeThis, Anything, Nothing}
-use Rattle.module_meaning.specs.acceptance.ExpressionTypes.{wanted_type}
-use Rattle.module_meaning.specs.acceptance.StatementsFit.{has_label, is_result, is_result_of}
-use Rattle.module_meaning.specs.acceptance.StatementsFit.{is_signed, is_unsigned, labels_differ}
+use Rattle.module_meaning.specs.acceptance.ExpressionTypes.{ExpectedType, LikeThis, Anything}
+use Rattle.module_meaning.specs.acceptance.ExpressionTypes.{Nothing}
+use Rattle.module_meaning.specs.acceptance.ExpressionTypes.{expected_type}
+use Rattle.module_meaning.specs.acceptance.StatementsFit.{has_case_value, is_result, is_result_of}
+use Rattle.module_meaning.specs.acceptance.StatementsFit.{is_signed, is_unsigned}
+use Rattle.module_meaning.specs.acceptance.StatementsFit.{case_values_differ}
 use Rattle.module_meaning.specs.acceptance.StatementsFit.{last_falls_through}
 use Rattle.module_meaning.specs.TypeParts.{known_pointee}
 use Rattle.fault_details.specs.Holds.{IsReason, ReasonsHold}
 use Rattle.fault_details.specs.Reasons.{Reason, Absent, Later, OtherClass, OtherNumber, OtherType}
-use Rattle.fault_details.specs.Reasons.{PastParts, Unwanted}
+use Rattle.fault_details.specs.Reasons.{PastParts, Unexpected}
 use Rattle.fault_details.specs.Reasons.{absent, class_reason, declared_reason, emitted_reason}
 use Rattle.fault_details.specs.Reasons.{first_reason, index_reason}
-use Rattle.fault_details.specs.Reasons.{initialiser_reason, item_reason, known_reason, label_reason}
+use Rattle.fault_details.specs.Reasons.{initialiser_reason, item_reason, known_reason}
+use Rattle.fault_details.specs.Reasons.{case_value_reason}
 use Rattle.fault_details.specs.Reasons.{label_type_reason}
 use Rattle.fault_details.specs.Reasons.{label_types_reason, length_reason}
 use Rattle.fault_details.specs.Reasons.{name_reason, names_reason, need_unless, not_before}
@@ -61,7 +64,7 @@ use Rattle.fault_details.specs.Reasons.{return_reason, simple_name_reason, simpl
 use Rattle.fault_details.specs.Reasons.{size_reason}
 use Rattle.fault_details.specs.Reasons.{statement_name_reason, statement_reason, stored_reason}
 use Rattle.fault_details.specs.Reasons.{type_reason}
-use Rattle.fault_details.specs.Reasons.{typeless_reason, unlike, wanted_reason, whole_reason}
+use Rattle.fault_details.specs.Reasons.{typeless_reason, unlike, expected_reason, whole_reason}
 use Rattle.fault_details.specs.Reasons.{function_reason}
 use Rattle.fault_details.specs.Reasons.{expression_reason, entry_point_reason, order_reason}
 use Rattle.fault_details.specs.Reasons.{variables_reason, module_reason}
@@ -229,15 +232,15 @@ module _ (m : Module) where
   typeless_holds known own (expression.CallResult function) = tt
   typeless_holds known own _ = tt
 
-  wanted_holds : (known : List TypeResolution) (own : TypeResolution) (e : Expression) (wanted : WantedType) → Holds (wanted_reason m.types known own e wanted)
+  wanted_holds : (known : List TypeResolution) (own : TypeResolution) (e : Expression) (wanted : ExpectedType) → Holds (expected_reason m.types known own e wanted)
   wanted_holds known own e (LikeThis wanted) = unlike_holds wanted own
   wanted_holds known own e Anything = tt
   wanted_holds known own e Nothing = typeless_holds known own e
 
   own_type_holds : (f : Option Function) (known : List TypeResolution) (h : ℕ) (e : Expression) → Holds (own_type_reason m f known h e)
   own_type_holds f known h e =
-      then_holds (IsReason m) (λ own. wanted_reason m.types known own e (wanted_type m f known e))
-      (λ own. wanted_holds known own e (wanted_type m f known e)) (slice_get known h)
+      then_holds (IsReason m) (λ own. expected_reason m.types known own e (expected_type m f known e))
+      (λ own. wanted_holds known own e (expected_type m f known e)) (slice_get known h)
 
   index_holds : (index count : ℕ) → Holds (index_reason index count)
   index_holds index count = unless_holds (IsReason m) (nat_lt index count) (PastParts count index) (λ fails. ltb-false index count fails)
@@ -256,20 +259,20 @@ module _ (m : Module) where
   -- ---- statements
 
   label_type_holds : (s : Scalar) (v : SwitchValue) → Holds (label_type_reason s v)
-  label_type_holds s (label.I32 number) = unless_holds (IsReason m) (is_signed s.kind) _ (signed_apart m.types s.width s.kind)
-  label_type_holds s (label.U32 number) = unless_holds (IsReason m) (is_unsigned s.kind) _ (unsigned_apart m.types s.width s.kind)
-  label_type_holds s label.Default = tt
+  label_type_holds s (switch_value.I32 number) = unless_holds (IsReason m) (is_signed s.kind) _ (signed_apart m.types s.width s.kind)
+  label_type_holds s (switch_value.U32 number) = unless_holds (IsReason m) (is_unsigned s.kind) _ (unsigned_apart m.types s.width s.kind)
+  label_type_holds s switch_value.Default = tt
 
   label_types_hold : (s : Scalar) (cs : CaseTrees) → Holds (label_types_reason s cs)
   label_types_hold s no_cases = tt
   label_types_hold s (case v b falls cs) =
       or_holds (IsReason m) (label_type_reason s v) (label_types_reason s cs) (label_type_holds s v) (label_types_hold s cs)
 
-  label_holds : (cs : CaseTrees) (it : TypeInner) → Holds (label_reason cs it)
-  label_holds cs (inner.Scalar s) =
+  case_value_holds : (cs : CaseTrees) (it : TypeInner) → Holds (case_value_reason cs it)
+  case_value_holds cs (inner.Scalar s) =
       or_holds (IsReason m) (label_types_reason s cs) _ (label_types_hold s cs)
-      (three_needs (labels_differ cs) (has_label label.Default cs) (not (last_falls_through false cs)) need.DistinctLabels need.Default need.End)
-  label_holds cs _ = tt
+      (three_needs (case_values_differ cs) (has_case_value switch_value.Default cs) (not (last_falls_through false cs)) need.DistinctCaseValues need.Default need.End)
+  case_value_holds cs _ = tt
 
   stored_holds : (known : List TypeResolution) (value pointer : ℕ) (wanted : Option TypeResolution) → Holds (stored_reason m.types known value pointer wanted)
   stored_holds known value pointer None = class_holds known class.Pointer pointer
@@ -280,7 +283,7 @@ module _ (m : Module) where
   return_holds known (Some answer) None = tt
   return_holds known None (Some value) = by (slice_get known value)
     where
-      by : (o : Option TypeResolution) → Holds (option_map (λ r. Unwanted r) o)
+      by : (o : Option TypeResolution) → Holds (option_map (λ r. Unexpected r) o)
       by None = tt
       by (Some r) = tt
   return_holds known None None = tt
@@ -319,7 +322,7 @@ module _ (m : Module) where
   own_holds f known breaks continues (simple s) = simple_holds f known breaks continues s
   own_holds f known breaks continues (branch condition accept reject) = class_holds known class.Bool condition
   own_holds f known breaks continues (switch selector cs) =
-      or_holds (IsReason m) _ _ (class_holds known class.Selector selector) (then_holds (IsReason m) (label_reason cs) (label_holds cs) _)
+      or_holds (IsReason m) _ _ (class_holds known class.Selector selector) (then_holds (IsReason m) (case_value_reason cs) (case_value_holds cs) _)
   own_holds f known breaks continues (loop body continuing break_if) =
       then_holds (IsReason m) (class_reason m.types known class.Bool) (class_holds known class.Bool) break_if
   own_holds f known breaks continues _ = tt
@@ -363,7 +366,7 @@ module _ (m : Module) where
       first_holds (absent list.Expressions (length f.expressions)) (absent_holds list.Expressions (length f.expressions)) _
   whole_holds f known _ = tt
 
-  function_holds : (callees : ℕ) (f : Function) (known : List TypeResolution) (kind : Fault) (place : FunctionPlace) → Holds (function_reason m callees f known kind place)
+  function_holds : (callees : ℕ) (f : Function) (known : List TypeResolution) (kind : Fault) (place : FunctionPosition) → Holds (function_reason m callees f known kind place)
   function_holds callees f known kind part.Whole = whole_holds f known kind
   function_holds callees f known kind (part.Local h) =
       then_holds (IsReason m) _ (λ k. declared_holds list.Expressions (length f.expressions) known kind k.ty k.init) (slice_get f.local_variables h)
@@ -378,7 +381,7 @@ module _ (m : Module) where
       (or_holds (IsReason m) _ _ (then_holds (IsReason m) (absent list.GlobalVariables variables) (absent_holds list.GlobalVariables variables) p.task_payload)
       (then_holds (IsReason m) (absent list.GlobalVariables variables) (absent_holds list.GlobalVariables variables) p.incoming_ray_payload))
 
-  entry_point_holds : (p : EntryPoint) (known : List TypeResolution) (kind : Fault) (place : FunctionPlace) → Holds (entry_point_reason m p known kind place)
+  entry_point_holds : (p : EntryPoint) (known : List TypeResolution) (kind : Fault) (place : FunctionPosition) → Holds (entry_point_reason m p known kind place)
   entry_point_holds p known fault.Names part.Whole = variables_hold (length m.global_variables) p
   entry_point_holds p known kind place = function_holds (length m.functions) p.function known kind place
 

@@ -13,7 +13,7 @@ use Rattle.naga_ir.specs.StatementTree.{CaseTrees, no_cases, case}
 use Rattle.naga_ir.specs.declared.module.FunctionArgument.{FunctionArgument}
 use Rattle.naga_ir.specs.declared.module.FunctionResult.{FunctionResult}
 use Rattle.naga_ir.specs.declared.statement.SwitchValue.{SwitchValue}
-use Rattle.naga_ir.specs.declared.statement.SwitchValue.TheVariants as label
+use Rattle.naga_ir.specs.declared.statement.SwitchValue.TheVariants as switch_value
 use Rattle.naga_ir.specs.declared.types.Scalar.{Scalar}
 use Rattle.naga_ir.specs.declared.types.Type_.{Type_}
 use Rattle.naga_ir.specs.declared.types.TypeInner.{TypeInner}
@@ -24,15 +24,15 @@ use Rattle.naga_info.specs.declared.info.TypeResolution.TheVariants.{Handle}
 use Rattle.module_meaning.specs.AlikeTypes.{are_alike}
 use Rattle.module_meaning.specs.acceptance.OperandDemands.{is_pointer, operand_is}
 use Rattle.module_meaning.specs.acceptance.Ranges.{all_below}
-use Rattle.module_meaning.specs.acceptance.StatementsFit.{are_passed, has_label, is_returned}
-use Rattle.module_meaning.specs.acceptance.StatementsFit.{is_selection, is_stored, label_is_of}
-use Rattle.module_meaning.specs.acceptance.StatementsFit.{labels_are_of}
-use Rattle.module_meaning.specs.acceptance.StatementsFit.{labels_differ, labels_fit}
+use Rattle.module_meaning.specs.acceptance.StatementsFit.{are_passed, has_case_value, is_returned}
+use Rattle.module_meaning.specs.acceptance.StatementsFit.{is_selection, is_stored, case_value_is_of}
+use Rattle.module_meaning.specs.acceptance.StatementsFit.{case_values_are_of}
+use Rattle.module_meaning.specs.acceptance.StatementsFit.{case_values_differ, case_values_fit}
 use Rattle.module_meaning.specs.acceptance.StatementsFit.{last_falls_through, selection_fits}
 use Rattle.module_meaning.specs.acceptance.StatementsFit.{selects, value_has_type}
 use Rattle.module_meaning.specs.TypeParts.{known_inner, known_pointee, pointee_type}
-use Rattle.fault_details.specs.Reasons.{Reason, OtherClass, OtherType, Unwanted, class_reason}
-use Rattle.fault_details.specs.Reasons.{is_in_class, label_reason, label_type_reason}
+use Rattle.fault_details.specs.Reasons.{Reason, OtherClass, OtherType, Unexpected, class_reason}
+use Rattle.fault_details.specs.Reasons.{is_in_class, case_value_reason, label_type_reason}
 use Rattle.fault_details.specs.Reasons.{label_types_reason}
 use Rattle.fault_details.specs.Reasons.{need_unless, number_reason, passed_reason, return_reason}
 use Rattle.fault_details.specs.Reasons.{store_reason, stored_reason, switch_reason, type_reason}
@@ -106,7 +106,7 @@ module _ (types : List Type_) (known : List TypeResolution) where
       is_returned types known answer value ≡ false → IsSome (return_reason types known answer value)
   return_told (Some answer) (Some value) there fails = type_told (Handle answer.ty) value (there value refl) fails
   return_told (Some answer) None there fails = refl
-  return_told None (Some value) there fails = ap (λ o. is_some (option_map (λ r. Unwanted r) o)) (there value refl).1
+  return_told None (Some value) there fails = ap (λ o. is_some (option_map (λ r. Unexpected r) o)) (there value refl).1
   return_told None None there fails = absurd (true≢false fails)
 
   module _ (n : ℕ) (there : (h : ℕ) → nat_lt h n ≡ true → IsKnown h) where
@@ -138,26 +138,26 @@ module _ (types : List Type_) (known : List TypeResolution) where
 
   -- ---- switches
 
-  label_type_told : (s : Scalar) (v : SwitchValue) → label_is_of s v ≡ false → IsSome (label_type_reason s v)
-  label_type_told s (label.I32 number) fails = some_unless _ _ fails
-  label_type_told s (label.U32 number) fails = some_unless _ _ fails
-  label_type_told s label.Default fails = absurd (true≢false fails)
+  label_type_told : (s : Scalar) (v : SwitchValue) → case_value_is_of s v ≡ false → IsSome (label_type_reason s v)
+  label_type_told s (switch_value.I32 number) fails = some_unless _ _ fails
+  label_type_told s (switch_value.U32 number) fails = some_unless _ _ fails
+  label_type_told s switch_value.Default fails = absurd (true≢false fails)
 
-  label_types_told : (s : Scalar) (cs : CaseTrees) → labels_are_of s cs ≡ false → IsSome (label_types_reason s cs)
+  label_types_told : (s : Scalar) (cs : CaseTrees) → case_values_are_of s cs ≡ false → IsSome (label_types_reason s cs)
   label_types_told s no_cases fails = absurd (true≢false fails)
   label_types_told s (case v b falls cs) fails =
       ⊎_elim
       (λ first. some_first (label_type_reason s v) (label_types_reason s cs) (label_type_told s v first))
       (λ later. some_second (label_type_reason s v) (label_types_reason s cs) (label_types_told s cs later))
-      (and_cases (label_is_of s v) (labels_are_of s cs) fails)
+      (and_cases (case_value_is_of s v) (case_values_are_of s cs) fails)
 
   need_told : (test : Bool) (it : Need) → test ≡ false → IsSome (need_unless test it)
   need_told test it fails = some_unless test _ fails
 
-  labels_told : (s : Scalar) (cs : CaseTrees) → labels_fit s cs ≡ false → IsSome (label_reason cs (inner.Scalar s))
+  labels_told : (s : Scalar) (cs : CaseTrees) → case_values_fit s cs ≡ false → IsSome (case_value_reason cs (inner.Scalar s))
   labels_told s cs fails =
-      let differ = need_unless (labels_differ cs) need.DistinctLabels in
-      let default = need_unless (has_label label.Default cs) need.Default in
+      let differ = need_unless (case_values_differ cs) need.DistinctCaseValues in
+      let default = need_unless (has_case_value switch_value.Default cs) need.Default in
       let end = need_unless (not (last_falls_through false cs)) need.End in
       ⊎_elim
       (λ a. some_first (label_types_reason s cs) (option_or differ (option_or default end)) (label_types_told s cs a))
@@ -166,9 +166,9 @@ module _ (types : List Type_) (known : List TypeResolution) where
       (λ last. some_second differ (option_or default end) (⊎_elim
       (λ c. some_first default end (need_told _ _ c))
       (λ d. some_second default end (need_told _ _ d))
-      (and_cases (has_label label.Default cs) (not (last_falls_through false cs)) last)))
-      (and_cases (labels_differ cs) (has_label label.Default cs && not (last_falls_through false cs)) others)))
-      (and_cases (labels_are_of s cs) (labels_differ cs && (has_label label.Default cs && not (last_falls_through false cs))) fails)
+      (and_cases (has_case_value switch_value.Default cs) (not (last_falls_through false cs)) last)))
+      (and_cases (case_values_differ cs) (has_case_value switch_value.Default cs && not (last_falls_through false cs)) others)))
+      (and_cases (case_values_are_of s cs) (case_values_differ cs && (has_case_value switch_value.Default cs && not (last_falls_through false cs))) fails)
 
   pub switch_told : (selector : ℕ) (cs : CaseTrees) → IsKnown selector → is_selection types known selector cs ≡ false → IsSome (switch_reason types known selector cs)
   switch_told selector cs k fails = by (known_inner types known selector) refl fails
@@ -177,12 +177,12 @@ module _ (types : List Type_) (known : List TypeResolution) where
       first o e other =
           some_first (class_reason types known class.Selector selector) _ (class_told class.Selector selector k (ap (λ o. option_map_or (is_in_class types class.Selector) o false) e ∙ other))
 
-      scalar : (s : Scalar) → known_inner types known selector ≡ Some (inner.Scalar s) → (selects s && labels_fit s cs) ≡ false → IsSome (switch_reason types known selector cs)
+      scalar : (s : Scalar) → known_inner types known selector ≡ Some (inner.Scalar s) → (selects s && case_values_fit s cs) ≡ false → IsSome (switch_reason types known selector cs)
       scalar s e fails =
           ⊎_elim
           (λ other. first (Some (inner.Scalar s)) e other)
-          (λ labels. some_second (class_reason types known class.Selector selector) _ (some_then (label_reason cs) (known_inner types known selector) (inner.Scalar s) e (labels_told s cs labels)))
-          (and_cases (selects s) (labels_fit s cs) fails)
+          (λ labels. some_second (class_reason types known class.Selector selector) _ (some_then (case_value_reason cs) (known_inner types known selector) (inner.Scalar s) e (labels_told s cs labels)))
+          (and_cases (selects s) (case_values_fit s cs) fails)
 
       one : (it : TypeInner) → known_inner types known selector ≡ Some it → selection_fits cs it ≡ false → IsSome (switch_reason types known selector cs)
       one (inner.Scalar s) e fails = scalar s e fails

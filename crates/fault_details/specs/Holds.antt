@@ -10,7 +10,7 @@ use Rattle.naga_info.specs.declared.info.ModuleInfo.{ModuleInfo}
 use Rattle.naga_info.specs.Resolution.{inner_of}
 use Rattle.naga_acceptance.specs.declared.faults.Unaccepted.{Unaccepted}
 use Rattle.module_meaning.specs.AlikeTypes.{are_alike}
-use Rattle.fault_details.specs.Reasons.{Reason, OtherType, OtherClass, NoValue, Unwanted, Absent}
+use Rattle.fault_details.specs.Reasons.{Reason, OtherType, OtherClass, NoValue, Unexpected, Absent}
 use Rattle.fault_details.specs.Reasons.{Later, OtherNumber, PastParts, Needs, fault_reason}
 use Rattle.fault_details.specs.Reasons.{is_in_class}
 
@@ -19,7 +19,7 @@ IsReason m (OtherType wanted got) = are_alike m.types got wanted ≡ false
 IsReason m (OtherClass class got) =
     option_map_or (is_in_class m.types class) (inner_of got m.types) false ≡ false
 IsReason m (NoValue wanted) = ⊤
-IsReason m (Unwanted got) = ⊤
+IsReason m (Unexpected got) = ⊤
 IsReason m (Absent name index count) = count ≤ index
 IsReason m (Later name index before) = before ≤ index
 IsReason m (OtherNumber of wanted got) = wanted ≢ got

@@ -30,7 +30,7 @@ use Rattle.naga_ir.specs.declared.module.FunctionResult.{FunctionResult}
 use Rattle.naga_ir.specs.declared.module.Module.{Module}
 use Rattle.naga_ir.specs.declared.module.SpecialTypes.{SpecialTypes}
 use Rattle.naga_ir.specs.declared.statement.SwitchValue.{SwitchValue}
-use Rattle.naga_ir.specs.declared.statement.SwitchValue.TheVariants as label
+use Rattle.naga_ir.specs.declared.statement.SwitchValue.TheVariants as switch_value
 use Rattle.naga_ir.specs.declared.types.ArraySize.{ArraySize}
 use Rattle.naga_ir.specs.declared.types.ArraySize.TheVariants as size
 use Rattle.naga_ir.specs.declared.types.Scalar.{Scalar}
@@ -48,21 +48,22 @@ use Rattle.naga_acceptance.specs.declared.faults.Fault.{Fault}
 use Rattle.naga_acceptance.specs.declared.faults.Fault.TheVariants as fault
 use Rattle.naga_acceptance.specs.declared.faults.Item.{Item}
 use Rattle.naga_acceptance.specs.declared.faults.Item.TheVariants as item
-use Rattle.naga_acceptance.specs.declared.faults.FunctionPlace.{FunctionPlace}
-use Rattle.naga_acceptance.specs.declared.faults.FunctionPlace.TheVariants as part
+use Rattle.naga_acceptance.specs.declared.faults.FunctionPosition.{FunctionPosition}
+use Rattle.naga_acceptance.specs.declared.faults.FunctionPosition.TheVariants as part
 use Rattle.naga_acceptance.specs.declared.faults.Unaccepted.{Unaccepted}
 use Rattle.module_meaning.specs.AlikeTypes.{are_alike}
-use Rattle.module_meaning.specs.acceptance.ExpressionTypes.{WantedType, LikeThis, Anything, Nothing}
-use Rattle.module_meaning.specs.acceptance.ExpressionTypes.{is_bool, wanted_type}
+use Rattle.module_meaning.specs.acceptance.ExpressionTypes.{ExpectedType, LikeThis, Anything}
+use Rattle.module_meaning.specs.acceptance.ExpressionTypes.{Nothing}
+use Rattle.module_meaning.specs.acceptance.ExpressionTypes.{is_bool, expected_type}
 use Rattle.module_meaning.specs.acceptance.OperandDemands.{is_components, is_integer, is_pointer}
 use Rattle.module_meaning.specs.acceptance.OperandDemands.{points_to_components}
-use Rattle.module_meaning.specs.acceptance.StatementsFit.{has_label, is_atomic_result}
+use Rattle.module_meaning.specs.acceptance.StatementsFit.{has_case_value, is_atomic_result}
 use Rattle.module_meaning.specs.acceptance.StatementsFit.{is_ballot_result}
 use Rattle.module_meaning.specs.acceptance.StatementsFit.{is_result, is_result_of}
 use Rattle.module_meaning.specs.acceptance.StatementsFit.{is_subgroup_result}
 use Rattle.module_meaning.specs.acceptance.StatementsFit.{is_signed, is_uniform_load_result}
 use Rattle.module_meaning.specs.acceptance.StatementsFit.{is_unsigned}
-use Rattle.module_meaning.specs.acceptance.StatementsFit.{labels_differ, last_falls_through}
+use Rattle.module_meaning.specs.acceptance.StatementsFit.{case_values_differ, last_falls_through}
 use Rattle.module_meaning.specs.acceptance.StatementsFit.{selects}
 use Rattle.module_meaning.specs.TypeParts.{has_computed_parts, inner_at, known_inner}
 use Rattle.module_meaning.specs.TypeParts.{known_pointee, part_count, points_to_atomic}
@@ -85,7 +86,7 @@ pub data Reason : Type 0 where
   -- a value is wanted, and there is none
   NoValue : (wanted : TypeResolution) → Reason
   -- no value is wanted, and there is one
-  Unwanted : (got : TypeResolution) → Reason
+  Unexpected : (got : TypeResolution) → Reason
   -- an item is named that is not there: its list has so many
   Absent : ListName → (index count : ℕ) → Reason
   -- an item is named that does not stand before the one of this number
@@ -244,21 +245,22 @@ typeless_reason types known own (expression.Swizzle count vector pattern) =
     class_reason types known class.Vector vector
 typeless_reason types known own (expression.Load pointer) =
     class_reason types known class.Pointer pointer
-typeless_reason types known own (expression.CallResult function) = Some (Unwanted own)
+typeless_reason types known own (expression.CallResult function) = Some (Unexpected own)
 typeless_reason types known own _ = None
 
-abbrev pub wanted_reason :
-    List Type_ → (known : List TypeResolution) → (own : TypeResolution) → Expression → WantedType →
+abbrev pub expected_reason :
+    List Type_ → (known : List TypeResolution) → (own : TypeResolution) → Expression →
+    ExpectedType →
     Option Reason
-wanted_reason types known own e (LikeThis wanted) = unlike types wanted own
-wanted_reason types known own e Anything = None
-wanted_reason types known own e Nothing = typeless_reason types known own e
+expected_reason types known own e (LikeThis wanted) = unlike types wanted own
+expected_reason types known own e Anything = None
+expected_reason types known own e Nothing = typeless_reason types known own e
 
 -- the type that is known of an expression is another than what it stands for has
 abbrev pub own_type_reason :
     Module → Option Function → (known : List TypeResolution) → (h : ℕ) → Expression → Option Reason
 own_type_reason m f known h e =
-    option_and_then (λ own. wanted_reason m.types known own e (wanted_type m f known e))
+    option_and_then (λ own. expected_reason m.types known own e (expected_type m f known e))
     (slice_get known h)
 
 -- a known index is not below the number of parts
@@ -290,39 +292,39 @@ operand_reason types known _ = None
 abbrev pub need_unless : (test : Bool) → Need → Option Reason
 need_unless test it = if test then None else Some (Needs it)
 
--- a label is of another scalar than the selector
+-- a case value is of another scalar than the selector
 abbrev pub scalar_unless : (test : Bool) → (wanted got : Scalar) → Option Reason
 scalar_unless test wanted got =
     if test then None
     else Some (OtherType (Value (inner.Scalar wanted)) (Value (inner.Scalar got)))
 
 abbrev pub label_type_reason : Scalar → SwitchValue → Option Reason
-label_type_reason s (label.I32 number) =
+label_type_reason s (switch_value.I32 number) =
     scalar_unless (is_signed s.kind) s (scalar_of kind.Sint 4)
-label_type_reason s (label.U32 number) =
+label_type_reason s (switch_value.U32 number) =
     scalar_unless (is_unsigned s.kind) s (scalar_of kind.Uint 4)
-label_type_reason s label.Default = None
+label_type_reason s switch_value.Default = None
 
--- the first label of another scalar
+-- the first case value of another scalar
 abbrev pub label_types_reason : Scalar → CaseTrees → Option Reason
 label_types_reason s no_cases = None
 label_types_reason s (case v b falls cs) =
     option_or (label_type_reason s v) (label_types_reason s cs)
 
--- labels of a selector that is this scalar
-abbrev pub label_reason : CaseTrees → TypeInner → Option Reason
-label_reason cs (inner.Scalar s) =
+-- case values of a selector that is this scalar
+abbrev pub case_value_reason : CaseTrees → TypeInner → Option Reason
+case_value_reason cs (inner.Scalar s) =
     option_or (label_types_reason s cs)
-    (option_or (need_unless (labels_differ cs) need.DistinctLabels)
-    (option_or (need_unless (has_label label.Default cs) need.Default)
+    (option_or (need_unless (case_values_differ cs) need.DistinctCaseValues)
+    (option_or (need_unless (has_case_value switch_value.Default cs) need.Default)
     (need_unless (not (last_falls_through false cs)) need.End)))
-label_reason cs _ = None
+case_value_reason cs _ = None
 
 abbrev pub switch_reason :
     List Type_ → (known : List TypeResolution) → (selector : ℕ) → CaseTrees → Option Reason
 switch_reason types known selector cs =
     option_or (class_reason types known class.Selector selector)
-    (option_and_then (label_reason cs) (known_inner types known selector))
+    (option_and_then (case_value_reason cs) (known_inner types known selector))
 
 -- a value is stored of another type than what is read there, or through no pointer
 abbrev pub stored_reason :
@@ -343,7 +345,7 @@ return_reason types known (Some answer) (Some value) =
     type_reason types known (Handle answer.ty) value
 return_reason types known (Some answer) None = Some (NoValue (Handle answer.ty))
 return_reason types known None (Some value) =
-    option_map (λ r. Unwanted r) (slice_get known value)
+    option_map (λ r. Unexpected r) (slice_get known value)
 return_reason types known None None = None
 
 -- the first value that is passed with another type than its argument's
@@ -490,7 +492,7 @@ whole_reason m f known fault.NamedExpressions =
 whole_reason m f known _ = None
 
 abbrev pub function_reason :
-    Module → (callees : ℕ) → Function → (known : List TypeResolution) → Fault → FunctionPlace →
+    Module → (callees : ℕ) → Function → (known : List TypeResolution) → Fault → FunctionPosition →
     Option Reason
 function_reason m callees f known kind part.Whole = whole_reason m f known kind
 function_reason m callees f known kind (part.Local h) =
@@ -510,7 +512,7 @@ variables_reason variables p =
     (option_and_then (absent list.GlobalVariables variables) p.incoming_ray_payload))
 
 abbrev pub entry_point_reason :
-    Module → EntryPoint → (known : List TypeResolution) → Fault → FunctionPlace → Option Reason
+    Module → EntryPoint → (known : List TypeResolution) → Fault → FunctionPosition → Option Reason
 entry_point_reason m p known fault.Names part.Whole =
     variables_reason (length m.global_variables) p
 entry_point_reason m p known kind place =

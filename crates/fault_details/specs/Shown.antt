@@ -5,7 +5,7 @@ use Rattle.naga_ir.specs.declared.types.TypeInner.TheVariants as inner
 use Rattle.naga_info.specs.declared.info.TypeResolution.TheVariants.{Value}
 use Rattle.naga_acceptance.specs.KnownTypes.{inferred}
 use Rattle.naga_acceptance.specs.TextOrder.{PlacedStatement}
-use Rattle.fault_details.specs.Reasons.{Reason as Told, OtherType, OtherClass, NoValue, Unwanted}
+use Rattle.fault_details.specs.Reasons.{Reason as Told, OtherType, OtherClass, NoValue, Unexpected}
 use Rattle.fault_details.specs.Reasons.{Absent, Later, OtherNumber, PastParts, Needs}
 use Rattle.fault_details.specs.declared.reasons.Reason.{Reason}
 use Rattle.fault_details.specs.declared.reasons.Reason.TheVariants as code
@@ -18,7 +18,7 @@ shown (code.OtherScalar wanted got) =
     OtherType (Value (inner.Scalar wanted)) (Value (inner.Scalar got))
 shown (code.OtherClass class got) = OtherClass class got.now
 shown (code.NoValue wanted) = NoValue (inferred wanted)
-shown (code.Unwanted got) = Unwanted got.now
+shown (code.Unexpected got) = Unexpected got.now
 shown (code.Absent name index count) = Absent name index count
 shown (code.Later name index before) = Later name index before
 shown (code.OtherNumber of wanted got) = OtherNumber of wanted got

@@ -2,8 +2,8 @@
 --
 -- Throughout, h is the number of an item in its list, and n counts several things.
 use Rattle.std.specs.Prelude.{ℕ, List, [], ◌++◌, ◌==◌, codes, decimal, if◌then◌else◌, string_bytes}
-use Rattle.fault_details.specs.declared.wanted.Wanted.{Wanted}
-use Rattle.fault_details.specs.declared.wanted.Wanted.TheVariants as wanted
+use Rattle.fault_details.specs.declared.expected.Expected.{Expected}
+use Rattle.fault_details.specs.declared.expected.Expected.TheVariants as wanted
 use Rattle.fault_details.specs.declared.words.Counted.{Counted}
 use Rattle.fault_details.specs.declared.words.Counted.TheVariants as counted
 use Rattle.fault_details.specs.declared.words.ListName.{ListName}
@@ -58,7 +58,7 @@ class_text class.AtomicPointer = codes "a pointer to an atomic"
 abbrev pub need_text : Need → List ℕ
 need_text need.LoopOrSwitch = codes "a loop or a switch to leave"
 need_text need.Loop = codes "a loop to go on with"
-need_text need.DistinctLabels = codes "labels that differ"
+need_text need.DistinctCaseValues = codes "labels that differ"
 need_text need.Default = codes "a default label"
 need_text need.End = codes "a last case that does not fall through"
 need_text need.CalleeResult = codes "a callee with a result"
@@ -69,7 +69,7 @@ abbrev pub count_text : (n : ℕ) → List ℕ
 count_text n = (if n == 1 then codes "is" else codes "are") ++ codes " " ++ decimal n
 
 -- what was wanted and what stands there: `wanted vec4<f32>, got f32`
-abbrev pub wanted_text : Wanted → List ℕ
+abbrev pub wanted_text : Expected → List ℕ
 wanted_text (wanted.Type ty got) =
     codes "wanted " ++ string_bytes ty ++ codes ", got " ++ string_bytes got
 wanted_text (wanted.Class any got) =

@@ -10,12 +10,12 @@ use Rattle.naga_words.specs.Contexts.{global_context}
 use Rattle.naga_words.specs.Segments.{IsText}
 use Rattle.naga_words.specs.Spelling.{Context, FitsResolution, IsInOrder, resolution_segments}
 use Rattle.naga_listing.specs.OneLine.{on_one_line}
-use Rattle.fault_details.specs.Reasons.{Reason, OtherType, OtherClass, NoValue, Unwanted, Absent}
+use Rattle.fault_details.specs.Reasons.{Reason, OtherType, OtherClass, NoValue, Unexpected, Absent}
 use Rattle.fault_details.specs.Reasons.{Later, OtherNumber, PastParts, Needs}
 use Rattle.fault_details.specs.Texts.{item_text}
 use Rattle.fault_details.specs.declared.words.ListName.TheVariants as list
-use Rattle.fault_details.specs.declared.wanted.Wanted.{Wanted}
-use Rattle.fault_details.specs.declared.wanted.Wanted.TheVariants as told
+use Rattle.fault_details.specs.declared.expected.Expected.{Expected}
+use Rattle.fault_details.specs.declared.expected.Expected.TheVariants as told
 
 -- a type by its place in the module
 abbrev pub place_text : (h : ℕ) → List ℕ
@@ -66,13 +66,13 @@ TellsBoth m wanted got text other =
     × ((both : List ℕ) × IsTold m wanted both × IsTold m got both))
 
 -- the reason is told, with its types and its numbers
-abbrev pub Tells : Module → Reason → Wanted → Type 0
+abbrev pub Tells : Module → Reason → Expected → Type 0
 Tells m (OtherType wanted got) (told.Type wanted_text got_text) =
     TellsBoth m wanted got (string_bytes wanted_text) (string_bytes got_text)
 Tells m (OtherClass class got) (told.Class told_class text) =
     (told_class ≡ class) × IsTold m got (string_bytes text)
 Tells m (NoValue wanted) (told.Value text) = IsTold m wanted (string_bytes text)
-Tells m (Unwanted got) (told.Nothing text) = IsTold m got (string_bytes text)
+Tells m (Unexpected got) (told.Nothing text) = IsTold m got (string_bytes text)
 Tells m (Absent name index count) w = w ≡ told.Item name index count
 Tells m (Later name index before) w = w ≡ told.EarlierItem name index before
 Tells m (OtherNumber of wanted got) w = w ≡ told.Number of wanted got
@@ -81,7 +81,7 @@ Tells m (Needs need) w = w ≡ told.Need need
 Tells m _ w = ⊥
 
 -- so is a reason that there is, and nothing where there is none
-abbrev pub TellsOf : Module → Option Reason → Option Wanted → Type 0
+abbrev pub TellsOf : Module → Option Reason → Option Expected → Type 0
 TellsOf m None None = ⊤
 TellsOf m None (Some w) = ⊥
 TellsOf m (Some why) None = ⊥

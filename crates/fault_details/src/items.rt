@@ -25,7 +25,7 @@ use crate::walk::statement_at;
 use crate::words::{Counted, ListName};
 use module_meaning::type_parts::inner_at;
 use naga_acceptance::parts::{InferredType, Known, known_type};
-use naga_acceptance::{Fault, FunctionPlace, Item, Unaccepted};
+use naga_acceptance::{Fault, FunctionPosition, Item, Unaccepted};
 use naga_info::{FunctionInfo, ModuleInfo};
 use naga_ir::{
     Constant, EntryPoint, Expression, Function, GlobalVariable, Handle, LocalVariable, Module,
@@ -286,18 +286,18 @@ fn function_reason<'a>(
     function: &Function,
     known: Known<'a>,
     fault: Fault,
-    place: FunctionPlace,
+    place: FunctionPosition,
 ) -> Option<Reason<'a>>
     ensures { option_map shown result ≡ function_reason «module».now callees function.now
         (known_types known.entry) fault place }
 {
     match place {
-        FunctionPlace::Whole => whole_reason(module, function, known, fault),
-        FunctionPlace::Local(handle) => local_reason(module, function, known, fault, handle),
-        FunctionPlace::Expression(handle) => {
+        FunctionPosition::Whole => whole_reason(module, function, known, fault),
+        FunctionPosition::Local(handle) => local_reason(module, function, known, fault, handle),
+        FunctionPosition::Expression(handle) => {
             inner_expression_reason(module, function, known, fault, handle)
         }
-        FunctionPlace::Statement(number) => {
+        FunctionPosition::Statement(number) => {
             placed_reason(module, callees, function, known, fault, number)
         }
     }
@@ -308,13 +308,13 @@ fn entry_point_reason<'a>(
     entry_point: &EntryPoint,
     known: Known<'a>,
     fault: Fault,
-    place: FunctionPlace,
+    place: FunctionPosition,
 ) -> Option<Reason<'a>>
     ensures { option_map shown result ≡ entry_point_reason «module».now entry_point.now
         (known_types known.entry) fault place }
 {
     match (place, fault) {
-        (FunctionPlace::Whole, Fault::Names) => {
+        (FunctionPosition::Whole, Fault::Names) => {
             variables_reason(module.global_variables.len(), entry_point)
         }
         _ => {
@@ -339,7 +339,7 @@ fn function_reason_at<'a>(
     info: &'a ModuleInfo,
     fault: Fault,
     handle: Handle<Function>,
-    place: FunctionPlace,
+    place: FunctionPosition,
 ) -> Option<Reason<'a>>
     ensures { option_map shown result
         ≡ item_reason «module».now info.now fault (Item.Function handle place) }
@@ -365,7 +365,7 @@ fn entry_point_reason_at<'a>(
     info: &'a ModuleInfo,
     fault: Fault,
     index: usize,
-    place: FunctionPlace,
+    place: FunctionPosition,
 ) -> Option<Reason<'a>>
     ensures { option_map shown result
         ≡ item_reason «module».now info.now fault (Item.EntryPoint index place) }

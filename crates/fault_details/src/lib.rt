@@ -5,6 +5,7 @@
 //! spelled.
 #![tactic(auto)]
 
+mod expected;
 mod items;
 pub mod laws;
 mod names;
@@ -14,9 +15,8 @@ mod spelled;
 mod statements;
 mod types;
 mod walk;
-mod wanted;
 mod words;
 
+pub use expected::Expected;
 pub use spelled::explain;
-pub use wanted::Wanted;
 pub use words::{Counted, ListName, Need, TypeClass};

@@ -19,15 +19,15 @@ use crate::words::ListName;
 use indexmap::IndexMap;
 use naga_info::TypeResolution;
 use naga_ir::{
-    ArraySize, EntryPoint, Expression, Function, FunctionArgument, FunctionResult, Handle, Module,
-    Place, PredeclaredType, SpecialTypes, Statement, StructMember, Type_, TypeInner,
+    ArraySize, EntryPoint, Expression, Function, FunctionArgument, FunctionResult, Handle,
+    ItemIndex, Module, PredeclaredType, SpecialTypes, Statement, StructMember, Type_, TypeInner,
 };
 
 /// An item that is not there, if one is named.
 pub(crate) fn absent_if<'a, M>(
     list: ListName,
     count: usize,
-    named: Option<Place<M>>,
+    named: Option<ItemIndex<M>>,
 ) -> Option<Reason<'a>>
     ensures { option_map shown result ≡ option_and_then (absent list count) named }
 {

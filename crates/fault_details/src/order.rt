@@ -2,11 +2,11 @@
 
 ghost use Rattle.std.specs.Prelude.{◌≡◌, ◌≤◌, ◌↔◌, IsTrue};
 ghost use Rattle.naga_words.specs.Contexts.{global_context};
-ghost use Rattle.naga_words.specs.Spelling.{FitsResolution, IsInOrder, StandsBehind, end_of_base};
+ghost use Rattle.naga_words.specs.Spelling.{FitsResolution, IsInOrder, StandsAfter, end_of_base};
 ghost use Rattle.naga_words.specs.Spelling.{length_within};
 
 use naga_info::TypeResolution;
-use naga_ir::{ArraySize, Handle, Module, Place, Type_, TypeInner};
+use naga_ir::{ArraySize, Handle, ItemIndex, Module, Type_, TypeInner};
 
 /// Whether the type that a type names is one of the first `types`.
 fn base_fits(types: usize, inner: &TypeInner) -> bool
@@ -34,8 +34,8 @@ fn length_fits(overrides: usize, inner: &TypeInner) -> bool
 }
 
 /// Both.
-fn stands_behind(types: usize, overrides: usize, inner: &TypeInner) -> bool
-    ensures { IsTrue result ↔ StandsBehind types overrides inner.now }
+fn stands_following(types: usize, overrides: usize, inner: &TypeInner) -> bool
+    ensures { IsTrue result ↔ StandsAfter types overrides inner.now }
 {
     base_fits(types, inner) && length_fits(overrides, inner)
 }
@@ -47,8 +47,8 @@ pub(crate) fn is_in_order(module: &Module) -> bool
         ↔ IsInOrder (global_context «module».now.types «module».now.overrides) }
 {
     for index in 0..module.types.len() {
-        let handle: Handle<Type_> = Place::from_index(index);
-        if !stands_behind(index, module.overrides.len(), &module.types[handle].inner) {
+        let handle: Handle<Type_> = ItemIndex::from_index(index);
+        if !stands_following(index, module.overrides.len(), &module.types[handle].inner) {
             return false;
         }
     }
@@ -63,6 +63,6 @@ pub(crate) fn fits(module: &Module, ty: &TypeResolution) -> bool
     let types = module.types.len();
     match ty {
         TypeResolution::Handle(handle) => handle.index() < types,
-        TypeResolution::Value(inner) => stands_behind(types, module.overrides.len(), inner),
+        TypeResolution::Value(inner) => stands_following(types, module.overrides.len(), inner),
     }
 }

@@ -33,7 +33,7 @@ pub(crate) enum Reason<'a> {
         wanted: InferredType,
     },
     /// No value is wanted, and there is one.
-    Unwanted {
+    Unexpected {
         got: &'a TypeResolution,
     },
     /// An item is named that is not there: its list has so many.

@@ -8,16 +8,16 @@ ghost use Rattle.naga_acceptance.specs.KnownTypes.{inferred};
 ghost use Rattle.naga_words.specs.Contexts.{global_context};
 ghost use Rattle.naga_words.specs.Segments.{IsText};
 ghost use Rattle.naga_words.specs.Spelling.{resolution_segments};
-ghost use Rattle.fault_details.specs.Reasons.{NoValue, OtherClass, OtherType, Unwanted};
+ghost use Rattle.fault_details.specs.Reasons.{NoValue, OtherClass, OtherType, Unexpected};
 ghost use Rattle.fault_details.specs.Reasons.{fault_reason};
 ghost use Rattle.fault_details.specs.Shown.{shown};
 ghost use Rattle.fault_details.specs.Told.{HasNoOrder, IsOfModule, IsPlaced, IsTold, Tells};
 ghost use Rattle.fault_details.specs.Told.{TellsOf, unspelled_text};
 
+use crate::expected::Expected;
 use crate::items::fault_reason;
 use crate::order::{fits, is_in_order};
 use crate::reasons::Reason;
-use crate::wanted::Wanted;
 use crate::words::{ListName, Numbered, TypeClass};
 use naga_acceptance::Unaccepted;
 use naga_acceptance::parts::InferredType;
@@ -140,19 +140,19 @@ fn other_type(
     module: &Module,
     wanted: InferredType,
     got: &TypeResolution,
-) -> Result<Wanted, AllocError>
+) -> Result<Expected, AllocError>
     ensures { IfOk result (Tells «module».now (OtherType (inferred wanted) got.now)) }
 {
-    let wanted_type = resolution_of(wanted);
-    let wanted = told(alloc, module, &wanted_type)?;
+    let expected_type = resolution_of(wanted);
+    let wanted = told(alloc, module, &expected_type)?;
     let told_got = told(alloc, module, got)?;
     if wanted.as_str() == told_got.as_str() {
-        return Ok(Wanted::Type {
-            wanted: placed(alloc, module, &wanted_type)?,
+        return Ok(Expected::Type {
+            wanted: placed(alloc, module, &expected_type)?,
             got: placed(alloc, module, got)?,
         });
     }
-    Ok(Wanted::Type {
+    Ok(Expected::Type {
         wanted,
         got: told_got,
     })
@@ -164,7 +164,7 @@ fn other_scalar(
     module: &Module,
     wanted: Scalar,
     got: Scalar,
-) -> Result<Wanted, AllocError>
+) -> Result<Expected, AllocError>
     ensures { IfOk result (Tells «module».now (OtherType (Value (TypeInner.Scalar wanted))
         (Value (TypeInner.Scalar got)))) }
 {
@@ -173,20 +173,20 @@ fn other_scalar(
 }
 
 /// A type of which there is no value.
-fn no_value(alloc: Global, module: &Module, wanted: InferredType) -> Result<Wanted, AllocError>
+fn no_value(alloc: Global, module: &Module, wanted: InferredType) -> Result<Expected, AllocError>
     ensures { IfOk result (Tells «module».now (NoValue (inferred wanted))) }
 {
     let wanted = resolution_of(wanted);
-    Ok(Wanted::Value {
+    Ok(Expected::Value {
         wanted: told(alloc, module, &wanted)?,
     })
 }
 
 /// A type where none is wanted.
-fn unwanted(alloc: Global, module: &Module, got: &TypeResolution) -> Result<Wanted, AllocError>
-    ensures { IfOk result (Tells «module».now (Unwanted got.now)) }
+fn unexpected(alloc: Global, module: &Module, got: &TypeResolution) -> Result<Expected, AllocError>
+    ensures { IfOk result (Tells «module».now (Unexpected got.now)) }
 {
-    Ok(Wanted::Nothing {
+    Ok(Expected::Nothing {
         got: told(alloc, module, got)?,
     })
 }
@@ -197,17 +197,17 @@ fn other_class(
     module: &Module,
     class: TypeClass,
     got: &TypeResolution,
-) -> Result<Wanted, AllocError>
+) -> Result<Expected, AllocError>
     ensures { IfOk result (Tells «module».now (OtherClass class got.now)) }
 {
-    Ok(Wanted::Class {
+    Ok(Expected::Class {
         class,
         got: told(alloc, module, got)?,
     })
 }
 
 /// A reason, as it is told.
-fn told_reason(alloc: Global, module: &Module, reason: &Reason<'_>) -> Result<Wanted, AllocError>
+fn told_reason(alloc: Global, module: &Module, reason: &Reason<'_>) -> Result<Expected, AllocError>
     ensures { IfOk result (Tells «module».now (shown reason.now)) }
 {
     match reason {
@@ -215,8 +215,8 @@ fn told_reason(alloc: Global, module: &Module, reason: &Reason<'_>) -> Result<Wa
         Reason::OtherScalar { wanted, got } => other_scalar(alloc, module, *wanted, *got),
         Reason::OtherClass { class, got } => other_class(alloc, module, *class, *got),
         Reason::NoValue { wanted } => no_value(alloc, module, *wanted),
-        Reason::Unwanted { got } => unwanted(alloc, module, *got),
-        Reason::Absent { list, index, count } => Ok(Wanted::Item {
+        Reason::Unexpected { got } => unexpected(alloc, module, *got),
+        Reason::Absent { list, index, count } => Ok(Expected::Item {
             list: *list,
             index: *index,
             count: *count,
@@ -225,21 +225,21 @@ fn told_reason(alloc: Global, module: &Module, reason: &Reason<'_>) -> Result<Wa
             list,
             index,
             before,
-        } => Ok(Wanted::EarlierItem {
+        } => Ok(Expected::EarlierItem {
             list: *list,
             index: *index,
             before: *before,
         }),
-        Reason::OtherNumber { of, wanted, got } => Ok(Wanted::Number {
+        Reason::OtherNumber { of, wanted, got } => Ok(Expected::Number {
             of: *of,
             wanted: *wanted,
             got: *got,
         }),
-        Reason::PastParts { count, got } => Ok(Wanted::Part {
+        Reason::PastParts { count, got } => Ok(Expected::Part {
             count: *count,
             got: *got,
         }),
-        Reason::Needs { need } => Ok(Wanted::Need(*need)),
+        Reason::Needs { need } => Ok(Expected::Need(*need)),
     }
 }
 
@@ -271,7 +271,7 @@ pub fn explain(
     module: &Module,
     info: &ModuleInfo,
     fault: Unaccepted,
-) -> Result<Option<Wanted>, AllocError>
+) -> Result<Option<Expected>, AllocError>
     ensures { IfOk result (TellsOf «module».now (fault_reason «module».now info.now fault)) }
 {
     match fault_reason(module, info, fault) {

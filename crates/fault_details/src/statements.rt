@@ -8,7 +8,7 @@ ghost use Rattle.module_meaning.specs.acceptance.StatementsFit.{is_atomic_result
 ghost use Rattle.module_meaning.specs.acceptance.StatementsFit.{is_subgroup_result};
 ghost use Rattle.module_meaning.specs.acceptance.StatementsFit.{is_uniform_load_result};
 ghost use Rattle.fault_details.specs.Reasons.{answer_reason, call_reason, class_reason};
-ghost use Rattle.fault_details.specs.Reasons.{label_reason, label_type_reason};
+ghost use Rattle.fault_details.specs.Reasons.{case_value_reason, label_type_reason};
 ghost use Rattle.fault_details.specs.Reasons.{label_types_reason, own_reason, passed_reason};
 ghost use Rattle.fault_details.specs.Reasons.{result_reason, return_reason, store_reason};
 ghost use Rattle.fault_details.specs.Reasons.{statement_reason, switch_reason};
@@ -23,8 +23,8 @@ use naga_acceptance::Fault;
 use naga_acceptance::expression_types::pointee_at;
 use naga_acceptance::parts::{InferredType, Known, known_inner, known_type};
 use naga_acceptance::statements::{
-    has_label, is_atomic_result, is_ballot_result, is_call_result, is_subgroup_result,
-    is_uniform_load_result, labels_differ, last_falls_through,
+    case_values_differ, has_case_value, is_atomic_result, is_ballot_result, is_call_result,
+    is_subgroup_result, is_uniform_load_result, last_falls_through,
 };
 use naga_ir::{
     Expression, Function, FunctionArgument, FunctionResult, Handle, Module, Scalar, ScalarKind,
@@ -48,7 +48,7 @@ fn condition_reason<'a>(
 
 // ---- switches
 
-/// A label of another type than the selector.
+/// A case value of another type than the selector.
 fn label_type_reason<'a>(scalar: Scalar, label: SwitchValue) -> Option<Reason<'a>>
     ensures { option_map shown result ≡ label_type_reason scalar label }
 {
@@ -77,20 +77,20 @@ fn label_types_reason<'a>(scalar: Scalar, cases: &[SwitchCase]) -> Option<Reason
     None
 }
 
-fn scalar_label_reason<'a>(scalar: Scalar, cases: &[SwitchCase]) -> Option<Reason<'a>>
+fn scalar_case_value_reason<'a>(scalar: Scalar, cases: &[SwitchCase]) -> Option<Reason<'a>>
     ensures { option_map shown result
-        ≡ label_reason (cases_of cases.now) (TypeInner.Scalar scalar) }
+        ≡ case_value_reason (cases_of cases.now) (TypeInner.Scalar scalar) }
 {
     let found = label_types_reason(scalar, cases);
     if found.is_some() {
         return found;
     }
-    if !labels_differ(cases) {
+    if !case_values_differ(cases) {
         return Some(Reason::Needs {
-            need: Need::DistinctLabels,
+            need: Need::DistinctCaseValues,
         });
     }
-    if !has_label(SwitchValue::Default, cases) {
+    if !has_case_value(SwitchValue::Default, cases) {
         return Some(Reason::Needs {
             need: Need::Default,
         });
@@ -98,11 +98,11 @@ fn scalar_label_reason<'a>(scalar: Scalar, cases: &[SwitchCase]) -> Option<Reaso
     need_unless(!last_falls_through(cases), Need::End)
 }
 
-fn label_reason<'a>(cases: &[SwitchCase], inner: &TypeInner) -> Option<Reason<'a>>
-    ensures { option_map shown result ≡ label_reason (cases_of cases.now) inner.now }
+fn case_value_reason<'a>(cases: &[SwitchCase], inner: &TypeInner) -> Option<Reason<'a>>
+    ensures { option_map shown result ≡ case_value_reason (cases_of cases.now) inner.now }
 {
     match inner {
-        TypeInner::Scalar(scalar) => scalar_label_reason(*scalar, cases),
+        TypeInner::Scalar(scalar) => scalar_case_value_reason(*scalar, cases),
         _ => None,
     }
 }
@@ -121,7 +121,7 @@ fn switch_reason<'a>(
         return found;
     }
     match known_inner(types, known, selector) {
-        Some(inner) => label_reason(cases, inner),
+        Some(inner) => case_value_reason(cases, inner),
         None => None,
     }
 }
@@ -160,7 +160,7 @@ fn return_reason<'a>(
             wanted: InferredType::Handle(answer.ty),
         }),
         (None, Some(value)) => match known_type(known, value) {
-            Some(got) => Some(Reason::Unwanted { got }),
+            Some(got) => Some(Reason::Unexpected { got }),
             None => None,
         },
         (None, None) => None,

@@ -8,7 +8,7 @@ ghost use Rattle.naga_acceptance.specs.KnownTypes.{inferred, known_types, wanted
 ghost use Rattle.naga_info.specs.Resolution.{inner_of};
 ghost use Rattle.fault_details.specs.Reasons.{class_reason, index_reason, is_in_class};
 ghost use Rattle.fault_details.specs.Reasons.{operand_reason, own_type_reason, type_reason};
-ghost use Rattle.fault_details.specs.Reasons.{typeless_reason, unlike, wanted_reason};
+ghost use Rattle.fault_details.specs.Reasons.{typeless_reason, unlike, expected_reason};
 ghost use Rattle.fault_details.specs.Shown.{shown};
 
 use crate::reasons::Reason;
@@ -16,7 +16,7 @@ use crate::words::TypeClass;
 use module_meaning::type_parts::inner_of;
 use naga_acceptance::alike::is_like;
 use naga_acceptance::demands::{is_components, is_integer, is_pointer, points_to_components};
-use naga_acceptance::expression_types::{Wanted, is_bool, wanted_type};
+use naga_acceptance::expression_types::{Expected, expected_type, is_bool};
 use naga_acceptance::parts::{
     InferredType, Known, has_computed_parts, known_inner, known_type, part_count, vector_scalar,
 };
@@ -134,25 +134,25 @@ fn typeless_reason<'a>(
             class_reason(types, known, TypeClass::Vector, *vector)
         }
         Expression::Load { pointer } => class_reason(types, known, TypeClass::Pointer, *pointer),
-        Expression::CallResult(_) => Some(Reason::Unwanted { got: own }),
+        Expression::CallResult(_) => Some(Reason::Unexpected { got: own }),
         _ => None,
     }
 }
 
-fn wanted_reason<'a>(
+fn expected_reason<'a>(
     types: &'a UniqueArena<Type_>,
     known: Known<'a>,
     own: &'a TypeResolution,
     expression: &Expression,
-    demand: Wanted,
+    demand: Expected,
 ) -> Option<Reason<'a>>
-    ensures { option_map shown result ≡ wanted_reason types.now (known_types known.entry) own.now
+    ensures { option_map shown result ≡ expected_reason types.now (known_types known.entry) own.now
         expression.now (wanted demand) }
 {
     match demand {
-        Wanted::LikeThis(wanted) => unlike(types, wanted, own),
-        Wanted::Anything => None,
-        Wanted::Nothing => typeless_reason(types, known, own, expression),
+        Expected::LikeThis(wanted) => unlike(types, wanted, own),
+        Expected::Anything => None,
+        Expected::Nothing => typeless_reason(types, known, own, expression),
     }
 }
 
@@ -169,8 +169,8 @@ pub(crate) fn own_type_reason<'a>(
 {
     match known_type(known, handle) {
         Some(own) => {
-            let demand = wanted_type(module, function, known, expression);
-            wanted_reason(&module.types, known, own, expression, demand)
+            let demand = expected_type(module, function, known, expression);
+            expected_reason(&module.types, known, own, expression, demand)
         }
         None => None,
     }

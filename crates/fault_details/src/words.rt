@@ -158,9 +158,9 @@ pub enum Need {
     LoopOrSwitch,
     /// A `Continue` stands in a loop's body, and leaves no `continuing`.
     Loop,
-    /// No label of a switch stands twice.
-    DistinctLabels,
-    /// One label of a switch is the default.
+    /// No case value of a switch stands twice.
+    DistinctCaseValues,
+    /// One case value of a switch is the default.
     Default,
     /// The last case of a switch does not fall through.
     End,
@@ -177,7 +177,7 @@ impl fmt::Display for Need {
         f.write_str(match self {
             Need::LoopOrSwitch => "a loop or a switch to leave",
             Need::Loop => "a loop to go on with",
-            Need::DistinctLabels => "labels that differ",
+            Need::DistinctCaseValues => "labels that differ",
             Need::Default => "a default label",
             Need::End => "a last case that does not fall through",
             Need::CalleeResult => "a callee with a result",

@@ -1,9 +1,9 @@
 //! The listing of a case.
 
 use json::{Scratch, Value};
-use naga_ir::Place as Handle;
+use naga_ir::ItemIndex as Handle;
 use naga_json::{Known, known_of, parse};
-use naga_listing::{Listed, Place, Spot, explain};
+use naga_listing::{Listed, ListingPosition, Spot, explain};
 use std::alloc::Global;
 use std::io;
 use std::io::Write;
@@ -29,15 +29,15 @@ fn answer_known<W: Write>(
     alloc: Global,
     name: &str,
     known: &Known,
-    place: Place,
+    place: ListingPosition,
     out: &mut W,
 ) -> io::Result<()> {
     let listing = explain(alloc, &known.module, &known.info, &place, "here")?;
     write!(out, "== {name}\n{listing}")
 }
 
-fn place_in(case: &Value<'_>) -> Place {
-    Place {
+fn place_in(case: &Value<'_>) -> ListingPosition {
+    ListingPosition {
         listed: listed_in(case),
         spot: spot_of(text_in(case, "spot"), number_in(case, "index")),
         beside: match text_in(case, "beside") {

@@ -1,7 +1,7 @@
 -- What is told of a module that is not written.
 use Rattle.std.proofs.Common.{◌≡◌, ℕ, ◌<◌, List, [], Result, ap, length, refl, subst, sym}
 use Rattle.std.specs.Prelude.{Err, IfErr, IsErrAnd, IsTrue, None, Ok, OnErr}
-use Rattle.naga_words.specs.Sink.{IsBehind}
+use Rattle.naga_words.specs.Sink.{IsAfter}
 use Rattle.naga_ir.specs.declared.module.Module.{Module}
 use Rattle.naga_info.specs.declared.info.ModuleInfo.{ModuleInfo}
 use Rattle.naga_back.specs.declared.flags.WriterFlags.{WriterFlags}
@@ -34,11 +34,11 @@ as_unwritten flags limits m info (Err e) reason reported tells =
 -- a sink that began empty tells that the text of one is too long
 pub is_too_long : (flags : WriterFlags) (limits : Limits) (given m : Module) (old new : ModuleInfo) (answer : Result Unit Error) (content now : List ℕ) →
     nested_past limits.nesting given ≡ None → IsTrue (is_accepted given old) → IsCounted m old new → content ≡ [] →
-    AppendsItsText m new flags answer content now → OnErr answer (IsBehind content (written_text m new flags) now) →
+    AppendsItsText m new flags answer content now → OnErr answer (IsAfter content (written_text m new flags) now) →
     limits.text < length now → IsTooLong flags limits given m old new
-is_too_long flags limits given m old new answer content now flat accepted counted empty appends behind past = record {
+is_too_long flags limits given m old new answer content now flat accepted counted empty appends following past = record {
   nested = flat;
   accepted = accepted;
   counted = counted;
-  longer = whole_is_longer flags m new limits.text answer content now empty appends behind past;
+  longer = whole_is_longer flags m new limits.text answer content now empty appends following past;
 }

@@ -2,13 +2,13 @@
 use Rattle.std.proofs.Common.{◌≡◌, codes, refl, Some}
 use Rattle.std.specs.Fmt.{digits}
 use Rattle.module_answers.specs.Places.{json_place, json_refusal, json_refusal_place}
-use Rattle.naga_acceptance.specs.declared.faults.FunctionPlace.TheVariants as place
+use Rattle.naga_acceptance.specs.declared.faults.FunctionPosition.TheVariants as place
 use Rattle.naga_acceptance.specs.declared.faults.Item.TheVariants as item
-use Rattle.naga_scope.specs.declared.declarations.DeclarationPlace.TheVariants as declaration
+use Rattle.naga_scope.specs.declared.declarations.DeclarationPosition.TheVariants as declaration
 use Rattle.naga_scope.specs.declared.scope_faults.ScopeFault.TheVariants as scope
 use Rattle.naga_wgsl_fns.specs.declared.refusals.construct.Construct.TheVariants as construct
 use Rattle.naga_wgsl_fns.specs.declared.plans.FunctionPart.TheVariants as part
-use Rattle.naga_wgsl_out.specs.declared.unwritable.RefusalPlace.TheVariants as refused
+use Rattle.naga_wgsl_out.specs.declared.unwritable.RefusalPosition.TheVariants as refused
 
 an_expression : json_place (item.Function 3 (place.Expression 41)) ≡ codes "module.functions[3].expressions[41]"
 unfolding digits

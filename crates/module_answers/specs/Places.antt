@@ -5,20 +5,20 @@
 -- Throughout, h is a handle or an index, and n the number of a statement.
 use Rattle.std.specs.Prelude.{ℕ, List, [], ◌++◌, codes, decimal, Option, Some}
 use Rattle.std.specs.Fmt.{◌++?◌}
-use Rattle.naga_acceptance.specs.declared.faults.FunctionPlace.{FunctionPlace}
-use Rattle.naga_acceptance.specs.declared.faults.FunctionPlace.TheVariants as place
+use Rattle.naga_acceptance.specs.declared.faults.FunctionPosition.{FunctionPosition}
+use Rattle.naga_acceptance.specs.declared.faults.FunctionPosition.TheVariants as place
 use Rattle.naga_acceptance.specs.declared.faults.Item.{Item}
 use Rattle.naga_acceptance.specs.declared.faults.Item.TheVariants as item
-use Rattle.naga_scope.specs.declared.declarations.DeclarationPlace.{DeclarationPlace}
-use Rattle.naga_scope.specs.declared.declarations.DeclarationPlace.TheVariants as declaration
+use Rattle.naga_scope.specs.declared.declarations.DeclarationPosition.{DeclarationPosition}
+use Rattle.naga_scope.specs.declared.declarations.DeclarationPosition.TheVariants as declaration
 use Rattle.naga_scope.specs.declared.scope_faults.ScopeFault.{ScopeFault}
 use Rattle.naga_scope.specs.declared.scope_faults.ScopeFault.TheVariants as scope
 use Rattle.naga_wgsl_fns.specs.Constructs.{construct_text}
 use Rattle.naga_wgsl_fns.specs.declared.plans.FunctionPart.{FunctionPart}
 use Rattle.naga_wgsl_fns.specs.declared.plans.FunctionPart.TheVariants as part
 use Rattle.naga_wgsl_out.specs.declared.unwritable.Refusal.{Refusal}
-use Rattle.naga_wgsl_out.specs.declared.unwritable.RefusalPlace.{RefusalPlace}
-use Rattle.naga_wgsl_out.specs.declared.unwritable.RefusalPlace.TheVariants as refused
+use Rattle.naga_wgsl_out.specs.declared.unwritable.RefusalPosition.{RefusalPosition}
+use Rattle.naga_wgsl_out.specs.declared.unwritable.RefusalPosition.TheVariants as refused
 
 -- an item of a list: the list's name, and its number in brackets
 abbrev pub listed : (name : List ℕ) → (h : ℕ) → List ℕ
@@ -46,7 +46,7 @@ entry_function_text h = entry_point_text h ++ codes ".function"
 -- ---- where a module is not accepted
 
 -- a part of a function, after the function; nothing of the whole
-abbrev pub part_place : FunctionPlace → List ℕ
+abbrev pub part_place : FunctionPosition → List ℕ
 part_place place.Whole = []
 part_place (place.Local h) = listed (codes ".local_variables") h
 part_place (place.Expression h) = expression_text h
@@ -95,7 +95,7 @@ refused_part (part.Type_ h) = codes ", of " ++ listed (codes "module.types") h
 refused_part (part.Let h) = expression_text h ++ codes ", the type of its let"
 
 -- a declaration, after the module
-abbrev pub declaration_in_module : DeclarationPlace → List ℕ
+abbrev pub declaration_in_module : DeclarationPosition → List ℕ
 declaration_in_module (declaration.Struct h) = listed (codes ".types") h
 declaration_in_module (declaration.Constant h) = listed (codes ".constants") h
 declaration_in_module (declaration.Override h) = listed (codes ".overrides") h
@@ -104,13 +104,13 @@ declaration_in_module (declaration.Function h) = function_text h
 declaration_in_module (declaration.EntryPoint h) = entry_point_text h
 
 -- what is refused, after the module; nothing where it is the labels of items
-abbrev pub refused_in_module : RefusalPlace → List ℕ
+abbrev pub refused_in_module : RefusalPosition → List ℕ
 refused_in_module refused.Labels = []
 refused_in_module (refused.Declaration at) = declaration_in_module at
 refused_in_module (refused.Function h at) = function_text h ++ refused_part at
 refused_in_module (refused.EntryPoint h at) = entry_function_text h ++ refused_part at
 
-abbrev pub json_refusal_place : RefusalPlace → List ℕ
+abbrev pub json_refusal_place : RefusalPosition → List ℕ
 json_refusal_place at = codes "module" ++ refused_in_module at
 
 -- a refusal, by its construct and its place: `float literal: module.constants[0]`. Nothing is said

@@ -4,14 +4,14 @@
 
 mod faults;
 mod layouts;
-mod listed_places;
+mod listed_positions;
 mod places;
 mod within;
 mod writing;
 
 pub use faults::{fault_line, fault_text};
 pub use layouts::layout_table;
-pub use listed_places::{listed_place, refused_place};
-pub use places::{JsonPlace, JsonRefusal, JsonRefusalPlace, label_at};
+pub use listed_positions::{listed_position, refused_position};
+pub use places::{JsonPosition, JsonRefusal, JsonRefusalPosition, label_at};
 pub use within::{Unwritten, look_into, write_told_within, write_within};
 pub use writing::{Written, flags_for, write, write_told};

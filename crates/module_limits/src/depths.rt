@@ -9,7 +9,7 @@ ghost use Rattle.module_limits.specs.Nesting.{global_parts, globals_depth, type_
 ghost use Rattle.module_limits.specs.Nesting.{types_depth, unnamed_initialiser};
 
 use naga_ir::{
-    Arena, Constant, Expression, Handle, Place, StructMember, Type_, TypeInner, UniqueArena,
+    Arena, Constant, Expression, Handle, ItemIndex, StructMember, Type_, TypeInner, UniqueArena,
 };
 use std::alloc::{AllocError, Global};
 
@@ -73,7 +73,7 @@ pub(crate) fn types_are_within(
 }
 
 /// What the table tells of an item: 0 where it tells nothing.
-fn depth_at<M>(depths: &[usize], place: Place<M>) -> usize
+fn depth_at<M>(depths: &[usize], place: ItemIndex<M>) -> usize
     ensures { result ≡ get_or depths.now place 0 }
 {
     match depths.get(place.index()) {

@@ -81,17 +81,17 @@ unfolding handle_key
 matrix_is_converted = refl
 
 -- a conversion without a form is told by its fields
-formless_by_fields : is_same (converted 1 3) (converted 0 3) ≡ true
+unsupported_by_fields : is_same (converted 1 3) (converted 0 3) ≡ true
 unfolding handle_key
-formless_by_fields = refl
+unsupported_by_fields = refl
 
-formless_widths_apart : is_same (converted 1 3) (converted 1 5) ≡ false
+unsupported_widths_apart : is_same (converted 1 3) (converted 1 5) ≡ false
 unfolding handle_key
-formless_widths_apart = refl
+unsupported_widths_apart = refl
 
 -- letters count as many as are written
-letters_behind : is_same (expression.Swizzle vector.Bi 0 (X ∷ Y ∷ X ∷ X ∷ [])) (expression.Swizzle vector.Bi 0 (X ∷ Y ∷ Z ∷ Z ∷ [])) ≡ true
-letters_behind = refl
+letters_after : is_same (expression.Swizzle vector.Bi 0 (X ∷ Y ∷ X ∷ X ∷ [])) (expression.Swizzle vector.Bi 0 (X ∷ Y ∷ Z ∷ Z ∷ [])) ≡ true
+letters_after = refl
 
 letters_apart : is_same (expression.Swizzle vector.Tri 0 (X ∷ Y ∷ X ∷ X ∷ [])) (expression.Swizzle vector.Tri 0 (X ∷ Y ∷ Z ∷ X ∷ [])) ≡ false
 letters_apart = refl

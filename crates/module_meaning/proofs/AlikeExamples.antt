@@ -90,17 +90,17 @@ image_reading_apart : are_alike types (image 2) (image 3) ≡ false
 image_reading_apart = refl
 
 -- a type without a form is alike to itself, and to no other: its stride counts
-formless_alike : are_alike types (Handle 2) (Value (inner.Scalar wide_truth)) ≡ true
+unsupported_alike : are_alike types (Handle 2) (Value (inner.Scalar wide_truth)) ≡ true
 unfolding handle_key
-formless_alike = refl
+unsupported_alike = refl
 
-formless_strides_apart : are_alike types (array_of 2 16) (array_of 2 32) ≡ false
+unsupported_strides_apart : are_alike types (array_of 2 16) (array_of 2 32) ≡ false
 unfolding handle_key
-formless_strides_apart = refl
+unsupported_strides_apart = refl
 
-formless_handle_space_apart : are_alike types (Value (inner.ValuePointer None float space.Handle)) (Handle 0) ≡ false
+unsupported_handle_space_apart : are_alike types (Value (inner.ValuePointer None float space.Handle)) (Handle 0) ≡ false
 unfolding handle_key
-formless_handle_space_apart = refl
+unsupported_handle_space_apart = refl
 
 -- two structs of one form
 structs_apart : (t : Type_) → is_struct t.inner ≡ true → are_alike (t ∷ t ∷ []) (Handle 0) (Handle 1) ≡ false

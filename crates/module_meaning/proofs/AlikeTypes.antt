@@ -35,9 +35,9 @@ pub if_either : {X : Type 0} (test : X → Bool) (b : Bool) (x y : X) → test x
 if_either test true x y p q = p
 if_either test false x y p q = q
 
-behind_plain : (tag first second : ℕ) (o : Option (List ℕ)) → not (nat_eq tag 32) ≡ true → begins_plain (option_map (λ it. level tag first second 0 0 0 ++ it) o) ≡ true
-behind_plain tag first second None p = refl
-behind_plain tag first second (Some it) p = p
+after_plain : (tag first second : ℕ) (o : Option (List ℕ)) → not (nat_eq tag 32) ≡ true → begins_plain (option_map (λ it. level tag first second 0 0 0 ++ it) o) ≡ true
+after_plain tag first second None p = refl
+after_plain tag first second (Some it) p = p
 
 image_plain : (dim : ImageDimension) (arrayed : Bool) (c : ImageClass) → begins_plain (image_key dim arrayed c) ≡ true
 image_plain dim arrayed (class.Sampled kind multi) =
@@ -55,10 +55,10 @@ module _ (f : ℕ → Option (List ℕ)) where
   inner_plain (inner.Matrix columns rows s) = scalar_plain _ s _ _ _ refl
   inner_plain (inner.CooperativeMatrix columns rows s role) = scalar_plain _ s _ _ _ refl
   inner_plain (inner.Atomic s) = scalar_plain _ s _ _ _ refl
-  inner_plain (inner.Pointer base space) = behind_plain _ _ _ (f base) refl
-  inner_plain (inner.ValuePointer n s space) = if_either begins_plain (is_none (space_word space)) None (pointer_key space (value_key n s)) refl (behind_plain _ _ _ (value_key n s) refl)
-  inner_plain (inner.Array base n stride) = behind_plain _ _ _ (f base) refl
-  inner_plain (inner.BindingArray base n) = behind_plain _ _ _ (f base) refl
+  inner_plain (inner.Pointer base space) = after_plain _ _ _ (f base) refl
+  inner_plain (inner.ValuePointer n s space) = if_either begins_plain (is_none (space_word space)) None (pointer_key space (value_key n s)) refl (after_plain _ _ _ (value_key n s) refl)
+  inner_plain (inner.Array base n stride) = after_plain _ _ _ (f base) refl
+  inner_plain (inner.BindingArray base n) = after_plain _ _ _ (f base) refl
   inner_plain (inner.Struct members span) = refl
   inner_plain (inner.Image dim arrayed c) = image_plain dim arrayed c
   inner_plain (inner.Sampler comparison) = refl
@@ -78,9 +78,9 @@ key_plain types (Handle h) = handle_plain types h
 key_plain types (Value it) = inner_plain (handle_key types) it
 
 -- a struct at a handle has a form
-pub formless_at : (types : List Type_) (h : ℕ) (t : Type_) → slice_get types h ≡ Some t → handle_key types h ≡ None → is_struct t.inner ≡ false
+pub unsupported_at : (types : List Type_) (h : ℕ) (t : Type_) → slice_get types h ≡ Some t → handle_key types h ≡ None → is_struct t.inner ≡ false
 unfolding handle_key
-formless_at types h t is none = by _ (is_struct t.inner) (sym (ap (found_key_by (key_within h types) h) is) ∙ none)
+unsupported_at types h t is none = by _ (is_struct t.inner) (sym (ap (found_key_by (key_within h types) h) is) ∙ none)
   where
     by : (rest : Option (List ℕ)) (b : Bool) → (if b then Some (level 8 h 0 0 0 0) else rest) ≡ None → b ≡ false
     by rest true e = absurd (cc)

@@ -23,7 +23,7 @@ use Rattle.naga_ir.specs.declared.module.Function.{Function}
 use Rattle.naga_ir.specs.declared.operators.CollectiveOperation.TheVariants as collective
 use Rattle.naga_ir.specs.declared.operators.GatherMode.TheVariants as gather
 use Rattle.naga_ir.specs.declared.operators.SubgroupOperation.TheVariants as operation
-use Rattle.naga_ir.specs.declared.statement.SwitchValue.TheVariants as label
+use Rattle.naga_ir.specs.declared.statement.SwitchValue.TheVariants as switch_value
 use Rattle.naga_ir.specs.declared.module.GlobalVariable.{GlobalVariable}
 use Rattle.naga_ir.specs.declared.module.Module.{Module}
 use Rattle.naga_ir.specs.declared.module.ShaderStage.{ShaderStage}
@@ -501,9 +501,9 @@ module _ (m : Module) (members : Vec StructMember Global) (v : GlobalVariable) (
   in_a_branch : doing (branch 0 no_statements (statement ballot no_statements)) ≡ subgroups_alone
   in_a_branch = refl
 
-  in_a_case : doing (switch 0 (case label.Default no_statements true (case label.Default (statement ballot no_statements) false no_cases))) ≡
+  in_a_case : doing (switch 0 (case switch_value.Default no_statements true (case switch_value.Default (statement ballot no_statements) false no_cases))) ≡
       subgroups_alone
   in_a_case = refl
 
-  behind_a_loop : doing (loop no_statements (statement ballot no_statements) None) ≡ subgroups_alone
-  behind_a_loop = refl
+  after_a_loop : doing (loop no_statements (statement ballot no_statements) None) ≡ subgroups_alone
+  after_a_loop = refl

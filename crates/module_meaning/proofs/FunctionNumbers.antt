@@ -1,5 +1,6 @@
 -- The functions and entry points of a module by their numbers, and the keys of their names.
-use Rattle.std.proofs.Common.{◌≡◌, ℕ, zero, suc, ◌<◌, ◌≤◌, ◌+◌, ◌-◌, Bool, true, false, List, [], ◌∷◌}
+use Rattle.std.proofs.Common.{◌≡◌, ℕ, zero, suc, ◌<◌, ◌≤◌, ◌+◌, ◌-◌, Bool, true, false, List, []}
+use Rattle.std.proofs.Common.{◌∷◌}
 use Rattle.std.proofs.Common.{◌++◌, refl, sym, ap, ◌∙◌, subst, length, Some, slice_get, map, arith}
 use Rattle.std.proofs.Common.{◌⊎◌, inl, inr, nat_lt, zero-add}
 use Rattle.std.specs.Option.{option_map}
@@ -41,12 +42,12 @@ in_left [] ys i x here = absurd cc
 in_left (y ∷ xs) ys zero x here = here
 in_left (y ∷ xs) ys (suc i) x here = in_left xs ys i x here
 
-pub behind_left : {X : Type 0} (xs ys : List X) (j : ℕ) (y : X) → slice_get ys j ≡ Some y →
+pub after_left : {X : Type 0} (xs ys : List X) (j : ℕ) (y : X) → slice_get ys j ≡ Some y →
     slice_get (xs ++ ys) (length xs + j) ≡ Some y
-behind_left [] ys j y there = ap (slice_get ys) (zero-add j) ∙ there
-behind_left (x ∷ xs) ys j y there =
+after_left [] ys j y there = ap (slice_get ys) (zero-add j) ∙ there
+after_left (x ∷ xs) ys j y there =
     let next : suc (length xs) + j ≡ suc (length xs + j) = omega arith in
-    ap (slice_get (x ∷ (xs ++ ys))) next ∙ behind_left xs ys j y there
+    ap (slice_get (x ∷ (xs ++ ys))) next ∙ after_left xs ys j y there
 
 -- ---- numbers
 module _ (m : Module) where
@@ -58,11 +59,11 @@ module _ (m : Module) where
 
   pub type_of_entry_point : (j : ℕ) → function_type m (length m.functions + j) ≡ item.EntryPoint j
   type_of_entry_point j =
-      let behind : length m.functions ≤ length m.functions + j = omega arith in
+      let following : length m.functions ≤ length m.functions + j = omega arith in
       let rest : (length m.functions + j) - length m.functions ≡ j = omega arith in
       ap (λ b. if b then item.Function (length m.functions + j)
       else item.EntryPoint ((length m.functions + j) - length m.functions))
-      (le-ltb (length m.functions + j) (length m.functions) behind)
+      (le-ltb (length m.functions + j) (length m.functions) following)
       ∙ ap item.EntryPoint rest
 
   -- each has the number that it has
@@ -77,7 +78,7 @@ module _ (m : Module) where
           function_number m (if b then item.Function g else item.EntryPoint (g - length m.functions))
           ≡ g
       by true lt = refl
-      by false is = let behind = ltb-false g (length m.functions) is in omega (arith, behind)
+      by false is = let following = ltb-false g (length m.functions) is in omega (arith, following)
 
   -- What has a number is a function of the module or that of an entry point.
   pub data IsNumbered (g : ℕ) (f : Function) : Type 0 where
@@ -113,7 +114,7 @@ module _ (m : Module) where
   pub entry_point_among : (j : ℕ) (p : EntryPoint) → slice_get m.entry_points.items j ≡ Some p →
       slice_get (all_functions m) (length m.functions + j) ≡ Some p.function
   entry_point_among j p there =
-      behind_left m.functions (entry_functions m.entry_points.items) j p.function
+      after_left m.functions (entry_functions m.entry_points.items) j p.function
       (slice_get-map (λ p. p.function) m.entry_points.items j
       ∙ ap (option_map (λ p. p.function)) there)
 

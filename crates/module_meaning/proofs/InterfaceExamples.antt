@@ -1,6 +1,7 @@
 -- Examples of interfaces, computed: what a text declares beside what a module does, for each kind of
 -- declaration, and texts that declare something else, so that the interface tells them apart.
-use Rattle.std.proofs.Common.{◌≡◌, ◌≢◌, ℕ, ℤ, pos, negsuc, Bool, true, false, List, [], ◌∷◌, ◌==◌, Option, Some, None, refl, arith, sym}
+use Rattle.std.proofs.Common.{◌≡◌, ◌≢◌, ℕ, ℤ, pos, negsuc, Bool, true, false, List, [], ◌∷◌, ◌==◌}
+use Rattle.std.proofs.Common.{Option, Some, None, refl, arith, sym}
 use Rattle.std.proofs.Common.{map, slice_get, String, Vec, Global, length}
 use Rattle.std.specs.Prelude.{codes, if◌then◌else◌}
 use Rattle.std.specs.Option.{is_none, is_some, option_map_or}
@@ -44,15 +45,18 @@ use Rattle.wgsl_text.specs.Declarations as tree
 use Rattle.wgsl_text.specs.Declarations.{Program, no_declarations}
 use Rattle.wgsl_text.specs.Expressions.{Expression}
 use Rattle.wgsl_text.specs.Functions.{EntryPoint, Function, NoResult}
-use Rattle.wgsl_text.specs.Statements.{Break, Case, Cases, DefaultLabel, LastLabel, MoreLabels}
-use Rattle.wgsl_text.specs.Statements.{NoCases, NoStatements, SignedLabel, Statements, Switch, Then}
-use Rattle.wgsl_text.specs.Statements.{UnsignedLabel}
+use Rattle.wgsl_text.specs.Statements.{Break, Case, Cases, DefaultCase, LastCaseValue}
+use Rattle.wgsl_text.specs.Statements.{MoreCaseValues}
+use Rattle.wgsl_text.specs.Statements.{NoCases, NoStatements, SignedCase, Statements, Switch, Then}
+use Rattle.wgsl_text.specs.Statements.{UnsignedCase}
 use Rattle.wgsl_text.specs.Types.{TypeSpecifier}
 use Rattle.wgsl_text.specs.WorkedTrees as worked
-use Rattle.text_meaning.specs.Attributes.{stage_read, Stage, ComputeStage, MeshStage, BuiltinValue, StageBinding}
-use Rattle.text_meaning.specs.Interface.{Interface, GlobalInterface, MemberInterface, OverrideInterface}
+use Rattle.text_meaning.specs.Attributes.{stage_read, Stage, ComputeStage, MeshStage, BuiltinValue}
+use Rattle.text_meaning.specs.Attributes.{StageBinding}
+use Rattle.text_meaning.specs.Interface.{Interface, GlobalInterface, MemberInterface}
+use Rattle.text_meaning.specs.Interface.{OverrideInterface}
 use Rattle.text_meaning.specs.Interface.{interface_read}
-use Rattle.text_meaning.specs.Switches.{LabelInterface, Signed}
+use Rattle.text_meaning.specs.Switches.{CaseValueInterface, Signed}
 use Rattle.module_meaning.specs.Interface.{module_interface, stage_of}
 use Rattle.module_meaning.proofs.ModuleShapeExamples.{one}
 use Rattle.module_meaning.proofs.StageBindingExamples.{differ}
@@ -69,8 +73,8 @@ number n = Whole (codes "i32") (pos n)
 abbrev same_integer_as : ℕ → Value → Bool
 same_integer_as n v = option_map_or (same_integer (pos n)) (integer_in v) false
 
--- a label is this number, without a `u`
-abbrev is_signed : ℤ → LabelInterface → Bool
+-- a case value is this number, without a `u`
+abbrev is_signed : ℤ → CaseValueInterface → Bool
 is_signed z (Signed x) = same_integer z x
 is_signed z _ = false
 
@@ -369,15 +373,15 @@ module _ (other : ir_module.Module) (info : ModuleInfo) (label : String Global)
     within =
         Then
         (Switch (worked.name "a")
-        (Case (LastLabel (UnsignedLabel 3)) (Then Break NoStatements)
-        (Case (LastLabel DefaultLabel) NoStatements NoCases))) NoStatements
+        (Case (LastCaseValue (UnsignedCase 3)) (Then Break NoStatements)
+        (Case (LastCaseValue DefaultCase) NoStatements NoCases))) NoStatements
 
     abbrev after : Cases
-    after = Case (LastLabel DefaultLabel) NoStatements NoCases
+    after = Case (LastCaseValue DefaultCase) NoStatements NoCases
 
     abbrev all_cases : ℕ → Cases → Cases
     all_cases n more =
-        Case (MoreLabels (SignedLabel false 1) (LastLabel (SignedLabel true n))) within more
+        Case (MoreCaseValues (SignedCase false 1) (LastCaseValue (SignedCase true n))) within more
 
     abbrev text : Program
     text =
@@ -530,25 +534,25 @@ module _ (other : ir_module.Module) (info : ModuleInfo) (label : String Global)
     unfolding type_segments layout_at
     other_local = differ (λ i. passes (λ g. passes (bytes_eq (codes "i32")) 0 g.locals) 0 i.functions) _ _ refl refl
 
-    -- the switch whose labels have this number passes the test
-    abbrev labels_pass : (List LabelInterface → Bool) → ℕ → Interface → Bool
-    labels_pass test n i = passes (λ g. passes test n g.switches) 0 i.functions
+    -- the switch whose case values have this number passes the test
+    abbrev case_values_pass : (List CaseValueInterface → Bool) → ℕ → Interface → Bool
+    case_values_pass test n i = passes (λ g. passes test n g.switches) 0 i.functions
 
-    -- a function with a switch that has lost its empty default, one with a label of another number, one
-    -- with a label of another type, and one without the inner switch
+    -- a function with a switch that has lost its empty default, one with a case value of another
+    -- number, one with a case value of another type, and one without the inner switch
     default_left_out : another (record text { functions = selecting (all_cases 2 NoCases) ∷ [] })
     unfolding type_segments layout_at
-    default_left_out = differ (labels_pass (λ labels. length labels == 2) 0) _ _ refl refl
+    default_left_out = differ (case_values_pass (λ labels. length labels == 2) 0) _ _ refl refl
 
-    other_label : another (record text { functions = selecting (all_cases 3 after) ∷ [] })
+    other_case_value : another (record text { functions = selecting (all_cases 3 after) ∷ [] })
     unfolding type_segments layout_at
-    other_label = differ (labels_pass (passes (is_signed (negsuc 2)) 1) 0) _ _ refl refl
+    other_case_value = differ (case_values_pass (passes (is_signed (negsuc 2)) 1) 0) _ _ refl refl
 
-    other_label_type : another (record text { functions = selecting (Case (MoreLabels (UnsignedLabel 1) (LastLabel (SignedLabel true 2))) within after) ∷ [] })
+    other_case_value_type : another (record text { functions = selecting (Case (MoreCaseValues (UnsignedCase 1) (LastCaseValue (SignedCase true 2))) within after) ∷ [] })
     unfolding type_segments layout_at
-    other_label_type e = differ (labels_pass (passes (is_signed (pos 1)) 0) 0) _ _ refl refl (sym e)
+    other_case_value_type e = differ (case_values_pass (passes (is_signed (pos 1)) 0) 0) _ _ refl refl (sym e)
 
-    inner_left_out : another (record text { functions = selecting (Case (MoreLabels (SignedLabel false 1) (LastLabel (SignedLabel true 2))) NoStatements after) ∷ [] })
+    inner_left_out : another (record text { functions = selecting (Case (MoreCaseValues (SignedCase false 1) (LastCaseValue (SignedCase true 2))) NoStatements after) ∷ [] })
     unfolding type_segments layout_at
     inner_left_out = differ (λ i. passes (λ g. length g.switches == 1) 0 i.functions) _ _ refl refl
 

@@ -14,7 +14,7 @@ use Rattle.naga_ir.specs.declared.module.GlobalVariable.{GlobalVariable}
 use Rattle.naga_ir.specs.declared.module.Module.{Module}
 use Rattle.naga_ir.specs.declared.module.Override.{Override}
 use Rattle.naga_ir.specs.declared.statement.SwitchValue.{SwitchValue}
-use Rattle.naga_ir.specs.declared.statement.SwitchValue.TheVariants as label
+use Rattle.naga_ir.specs.declared.statement.SwitchValue.TheVariants as switch_value
 use Rattle.naga_ir.specs.declared.types.ArraySize.{ArraySize}
 use Rattle.naga_ir.specs.declared.types.ArraySize.TheVariants as size
 use Rattle.naga_ir.specs.declared.types.StructMember.{StructMember}
@@ -46,23 +46,23 @@ module _ (m : Module) where
 abbrev only : SwitchValue → CaseTrees
 only value = case value no_statements false no_cases
 
-signed_label : cases_in_range 0 0 (only (label.I32 (pos (2 ^ 31 - 1)))) ≡ true
-signed_label = refl
+signed_case_value : cases_in_range 0 0 (only (switch_value.I32 (pos (2 ^ 31 - 1)))) ≡ true
+signed_case_value = refl
 
-signed_label-too_great : cases_in_range 0 0 (only (label.I32 (pos (2 ^ 31)))) ≡ false
-signed_label-too_great = refl
+signed_case_value-too_great : cases_in_range 0 0 (only (switch_value.I32 (pos (2 ^ 31)))) ≡ false
+signed_case_value-too_great = refl
 
-signed_label-least : cases_in_range 0 0 (only (label.I32 (negsuc (2 ^ 31 - 1)))) ≡ true
-signed_label-least = refl
+signed_case_value-least : cases_in_range 0 0 (only (switch_value.I32 (negsuc (2 ^ 31 - 1)))) ≡ true
+signed_case_value-least = refl
 
-signed_label-too_small : cases_in_range 0 0 (only (label.I32 (negsuc (2 ^ 31)))) ≡ false
-signed_label-too_small = refl
+signed_case_value-too_small : cases_in_range 0 0 (only (switch_value.I32 (negsuc (2 ^ 31)))) ≡ false
+signed_case_value-too_small = refl
 
-unsigned_label : cases_in_range 0 0 (only (label.U32 (2 ^ 32 - 1))) ≡ true
-unsigned_label = refl
+unsigned_case_value : cases_in_range 0 0 (only (switch_value.U32 (2 ^ 32 - 1))) ≡ true
+unsigned_case_value = refl
 
-unsigned_label-of_33_bits : cases_in_range 0 0 (only (label.U32 (2 ^ 32))) ≡ false
-unsigned_label-of_33_bits = refl
+unsigned_case_value-of_33_bits : cases_in_range 0 0 (only (switch_value.U32 (2 ^ 32))) ≡ false
+unsigned_case_value-of_33_bits = refl
 
 -- ---- types
 abbrev greatest : ArraySize
@@ -111,8 +111,8 @@ member offset location = record { name = None; ty = 0; binding = Some (at_locati
 a_member : member_fits_32_bits (member 16 0) ≡ true
 a_member = refl
 
-member-behind_33_bits : member_fits_32_bits (member (2 ^ 32) 0) ≡ false
-member-behind_33_bits = refl
+member-after_33_bits : member_fits_32_bits (member (2 ^ 32) 0) ≡ false
+member-after_33_bits = refl
 
 member-at_33_bits : member_fits_32_bits (member 16 (2 ^ 32)) ≡ false
 member-at_33_bits = refl
@@ -154,8 +154,8 @@ module _ (members : Vec StructMember Global) where
   span-of_33_bits : resolution_in_range 0 1 (Value (inner.Struct (one members (member 0 0)) (2 ^ 32))) ≡ false
   span-of_33_bits = refl
 
-  span-of_a_member_behind : resolution_in_range 0 1 (Value (inner.Struct (one members (member (2 ^ 32) 0)) 16)) ≡ false
-  span-of_a_member_behind = refl
+  span-of_a_member_after : resolution_in_range 0 1 (Value (inner.Struct (one members (member (2 ^ 32) 0)) 16)) ≡ false
+  span-of_a_member_after = refl
 
 -- ---- functions and entry points
 module _ (m : Module) (f : Function) (p : EntryPoint) where

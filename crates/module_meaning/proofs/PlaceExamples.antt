@@ -21,10 +21,11 @@ use Rattle.naga_words.specs.Spelling.{type_segments}
 use Rattle.module_meaning.specs.AlikeTypes.{handle_key}
 use Rattle.module_meaning.specs.FunctionShapes.{function_shape}
 use Rattle.module_meaning.specs.ModuleShapes.{module_shape}
-use Rattle.module_meaning.specs.PlaceParts.{place_parts, parts_behind, member_word}
+use Rattle.module_meaning.specs.PlaceParts.{place_parts, pointee_parts, member_word}
 use Rattle.module_meaning.specs.Types.{local_pointer}
 use Rattle.shader_runs.specs.Value.{Parts, NoParts, Elements, Components, Members}
-use Rattle.shader_runs.specs.Value.{Place, Rooted, LocalRoot, Part, At, Pointer, has_types, ElementAt, step_to}
+use Rattle.shader_runs.specs.Value.{Place, Rooted, LocalRoot, Part, At, Pointer, has_types}
+use Rattle.shader_runs.specs.Value.{ElementAt, step_to}
 use Rattle.module_meaning.proofs.ModuleShapeExamples.{one}
 
 -- a vector of no items
@@ -142,7 +143,7 @@ module _ (other : ir_module.Module) (info : ModuleInfo) (members : Vec StructMem
     column = refl
 
     -- a struct has members, by their words alone
-    struct : (whole : List ℕ) → parts_behind m known whole (inner.Pointer 7 space.Function) ≡
+    struct : (whole : List ℕ) → pointee_parts m known whole (inner.Pointer 7 space.Function) ≡
         Members ((member_word m 7 0, codes "ptr<function, i32>") ∷ (member_word m 7 1, codes "ptr<function, vec3<f32>>") ∷ [])
     unfolding type_segments handle_key
     struct whole = refl

@@ -30,8 +30,8 @@ past_the_last = refl
 empty : simple_in_range 0 4 (emit 2 2) ≡ true
 empty = refl
 
-empty-behind_all : simple_in_range 0 4 (emit 4 4) ≡ true
-empty-behind_all = refl
+empty-following_all : simple_in_range 0 4 (emit 4 4) ≡ true
+empty-following_all = refl
 
 empty-past_the_last : simple_in_range 0 4 (emit 5 5) ≡ false
 empty-past_the_last = refl
@@ -39,8 +39,8 @@ empty-past_the_last = refl
 turned : simple_in_range 0 4 (emit 3 1) ≡ true
 turned = refl
 
-turned-from_behind_all : simple_in_range 0 4 (emit 4 0) ≡ true
-turned-from_behind_all = refl
+turned-from_after_all : simple_in_range 0 4 (emit 4 0) ≡ true
+turned-from_after_all = refl
 
 turned-from_past_the_last : simple_in_range 0 4 (emit 5 1) ≡ false
 turned-from_past_the_last = refl

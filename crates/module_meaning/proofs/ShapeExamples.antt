@@ -90,9 +90,9 @@ module _ (members : Vec StructMember Global) where
   unfolding type_segments
   composed = refl
 
-  formless : run_word (constructor context (Handle 11) 1) ≡ 32 ∷ 2 ∷ 2 ∷ 0 ∷ 2 ∷ 3 ∷ 0 ∷ 0 ∷ 0 ∷ []
+  unsupported : run_word (constructor context (Handle 11) 1) ≡ 32 ∷ 2 ∷ 2 ∷ 0 ∷ 2 ∷ 3 ∷ 0 ∷ 0 ∷ 0 ∷ []
   unfolding type_segments
-  formless = refl
+  unsupported = refl
 
   converted : word (expression.As 0 kind.Float (Some 2)) ≡ codes "f16"
   converted = refl
@@ -113,14 +113,14 @@ module _ (members : Vec StructMember Global) where
   component_read : shape_of declared [] 20 (expression.AccessIndex 1 2) ≡ AccessIndex (MemberNamed (codes "z")) 1
   component_read = refl
 
-  component_behind : shape_of declared [] 20 (expression.AccessIndex 5 1) ≡ AccessIndex (MemberNamed (codes "y")) 5
-  component_behind = refl
+  pointee_component : shape_of declared [] 20 (expression.AccessIndex 5 1) ≡ AccessIndex (MemberNamed (codes "y")) 5
+  pointee_component = refl
 
   column_read : shape_of declared [] 20 (expression.AccessIndex 2 1) ≡ AccessIndex (ElementAt 1) 2
   column_read = refl
 
-  member_behind : shape_of declared [] 20 (expression.AccessIndex 10 1) ≡ AccessIndex (MemberNamed (codes "member")) 10
-  member_behind = refl
+  pointee_member : shape_of declared [] 20 (expression.AccessIndex 10 1) ≡ AccessIndex (MemberNamed (codes "member")) 10
+  pointee_member = refl
 
   no_part : shape_of declared [] 20 (expression.AccessIndex 0 7) ≡ Operator (32 ∷ 1 ∷ 7 ∷ []) (0 ∷ [])
   no_part = refl

@@ -11,7 +11,7 @@ use Rattle.naga_ir.specs.declared.module.Function.{Function}
 use Rattle.naga_ir.specs.declared.module.FunctionArgument.{FunctionArgument}
 use Rattle.naga_ir.specs.declared.module.FunctionResult.{FunctionResult}
 use Rattle.naga_ir.specs.declared.module.Module.{Module}
-use Rattle.naga_ir.specs.declared.statement.SwitchValue.TheVariants as label
+use Rattle.naga_ir.specs.declared.statement.SwitchValue.TheVariants as switch_value
 use Rattle.naga_ir.specs.declared.types.AddressSpace.TheVariants as space
 use Rattle.naga_ir.specs.declared.types.ArraySize.TheVariants as size
 use Rattle.naga_ir.specs.declared.types.Scalar.{Scalar}
@@ -70,27 +70,27 @@ condition-absent : is_condition types known 8 ≡ false
 condition-absent = refl
 
 abbrev one : CaseTrees → CaseTrees
-one cs = case (label.I32 (pos 1)) no_statements false cs
+one cs = case (switch_value.I32 (pos 1)) no_statements false cs
 
 abbrev otherwise : CaseTrees
-otherwise = case label.Default no_statements false no_cases
+otherwise = case switch_value.Default no_statements false no_cases
 
 selection : is_selection types known 0 (one otherwise) ≡ true
 selection = refl
 
-selection-unsigned : is_selection types known 1 (case (label.U32 1) no_statements true otherwise) ≡ true
+selection-unsigned : is_selection types known 1 (case (switch_value.U32 1) no_statements true otherwise) ≡ true
 selection-unsigned = refl
 
 selection-of_bool : is_selection types known 2 otherwise ≡ false
 selection-of_bool = refl
 
-selection-other_label : is_selection types known 1 (one otherwise) ≡ false
-selection-other_label = refl
+selection-other_case_value : is_selection types known 1 (one otherwise) ≡ false
+selection-other_case_value = refl
 
-selection-label_twice : is_selection types known 0 (one (one otherwise)) ≡ false
-selection-label_twice = refl
+selection-case_value_twice : is_selection types known 0 (one (one otherwise)) ≡ false
+selection-case_value_twice = refl
 
-selection-two_defaults : is_selection types known 0 (case label.Default no_statements false otherwise) ≡ false
+selection-two_defaults : is_selection types known 0 (case switch_value.Default no_statements false otherwise) ≡ false
 selection-two_defaults = refl
 
 selection-without_default : is_selection types known 0 (one no_cases) ≡ false
@@ -99,7 +99,7 @@ selection-without_default = refl
 selection-without_cases : is_selection types known 0 no_cases ≡ false
 selection-without_cases = refl
 
-selection-last_falls_through : is_selection types known 0 (one (case label.Default no_statements true no_cases)) ≡ false
+selection-last_falls_through : is_selection types known 0 (one (case switch_value.Default no_statements true no_cases)) ≡ false
 selection-last_falls_through = refl
 
 stored : is_stored types known 3 0 ≡ true
@@ -249,7 +249,7 @@ module _ (m : Module) (g : Function) where
   typed = record m { types = types }
 
   abbrev otherwise_does : StatementTree → StatementTree
-  otherwise_does s = switch 0 (case label.Default (only s) false no_cases)
+  otherwise_does s = switch 0 (case switch_value.Default (only s) false no_cases)
 
   break-in_a_case : statement_is_sound typed g known false false (otherwise_does (simple break)) ≡ true
   break-in_a_case = refl

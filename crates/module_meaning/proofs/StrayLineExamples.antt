@@ -17,7 +17,8 @@ use Rattle.shader_runs.specs.Constants.{follow_module, run_module}
 use Rattle.shader_runs.specs.Premises.{IsTyped, SettingsFit}
 use Rattle.shader_runs.specs.Program as shapes
 use Rattle.shader_runs.specs.Text.{before, last, no_more, Perform}
-use Rattle.shader_runs.specs.TextRun.{follow_all, is_operation, MeansNothing, NamesFunction, no_names}
+use Rattle.shader_runs.specs.TextRun.{follow_all, is_operation, MeansNothing, NamesFunction}
+use Rattle.shader_runs.specs.TextRun.{no_names}
 use Rattle.shader_runs.specs.TextRun.{Operates, respond_by_use, word_use, Words, WordUse}
 use Rattle.shader_runs.proofs.Update.{same_bytes_self}
 use Rattle.text_meaning.specs.Abstraction.{program_read}
@@ -108,8 +109,8 @@ module _ (other : ir_module.Module) (known : ModuleInfo) (other_function : ir_fu
       (vocabulary_read (text_of w body)) 0 w [] []
 
   -- whatever the name is, also that of the function itself; where the word is none, it is used so
-  abbrev behind_entry : Bytes → WordUse → Bool → ReachedOrHalted (Option Value)
-  behind_entry called use_of named =
+  abbrev following_entry : Bytes → WordUse → Bool → ReachedOrHalted (Option Value)
+  following_entry called use_of named =
       let used = cond (named || false) NamesFunction use_of in
       let l : Words = record {
         parts = shape.parts;
@@ -120,11 +121,11 @@ module _ (other : ir_module.Module) (known : ModuleInfo) (other_function : ir_fu
       } in
       answer (follow_all l 0 (before (Perform called no_more) last) no_names entered)
 
-  stuck_behind : (called : Bytes) (named : Bool) → behind_entry called MeansNothing named ≡ Halts Stuck entered
-  stuck_behind called true = refl
-  stuck_behind called false = refl
+  stuck_after : (called : Bytes) (named : Bool) → following_entry called MeansNothing named ≡ Halts Stuck entered
+  stuck_after called true = refl
+  stuck_after called false = refl
 
-  stuck_operating : (called : Bytes) (named : Bool) → behind_entry called Operates named ≡ Halts Stuck entered
+  stuck_operating : (called : Bytes) (named : Bool) → following_entry called Operates named ≡ Halts Stuck entered
   stuck_operating called true = refl
   stuck_operating called false = refl
 
@@ -138,13 +139,13 @@ module _ (other : ir_module.Module) (known : ModuleInfo) (other_function : ir_fu
   text_is_stuck : (w : Bytes) → run_of w stray ≡ Halts Stuck entered
   unfolding is_request is_built_in
   text_is_stuck w =
-      ap (λ b. cond b (behind_entry (codes "frobnicate") MeansNothing (same_bytes (codes "frobnicate") w)) (uncalled w stray)) (same_bytes_self w)
-      ∙ stuck_behind (codes "frobnicate") (same_bytes (codes "frobnicate") w)
+      ap (λ b. cond b (following_entry (codes "frobnicate") MeansNothing (same_bytes (codes "frobnicate") w)) (uncalled w stray)) (same_bytes_self w)
+      ∙ stuck_after (codes "frobnicate") (same_bytes (codes "frobnicate") w)
 
   operating_is_stuck : (w : Bytes) → run_of w operating ≡ Halts Stuck entered
   unfolding is_request is_built_in
   operating_is_stuck w =
-      ap (λ b. cond b (behind_entry (codes "sampler") Operates (same_bytes (codes "sampler") w)) (uncalled w operating)) (same_bytes_self w)
+      ap (λ b. cond b (following_entry (codes "sampler") Operates (same_bytes (codes "sampler") w)) (uncalled w operating)) (same_bytes_self w)
       ∙ stuck_operating (codes "sampler") (same_bytes (codes "sampler") w)
 
   -- without the line it goes on as the module does

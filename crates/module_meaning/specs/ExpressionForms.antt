@@ -10,7 +10,8 @@ use Rattle.std.specs.Option.{option_map_or, is_some}
 use Rattle.naga_ir.specs.declared.expression.Expression.{Expression}
 use Rattle.naga_ir.specs.declared.expression.Expression.TheVariants.{Literal, Constant, Override}
 use Rattle.naga_ir.specs.declared.expression.Expression.TheVariants.{GlobalVariable, ZeroValue}
-use Rattle.naga_ir.specs.declared.expression.Expression.TheVariants.{Compose, Splat, AccessIndex, As}
+use Rattle.naga_ir.specs.declared.expression.Expression.TheVariants.{Compose, Splat, AccessIndex}
+use Rattle.naga_ir.specs.declared.expression.Expression.TheVariants.{As}
 use Rattle.naga_ir.specs.declared.expression.Expression.TheVariants.{CooperativeLoad, ImageSample}
 use Rattle.naga_ir.specs.declared.expression.Expression.TheVariants.{ImageQuery}
 use Rattle.naga_ir.specs.declared.expression.Expression.TheVariants.{RayQueryProceedResult}
@@ -29,7 +30,7 @@ use Rattle.naga_info.specs.declared.info.TypeResolution.TheVariants.{Handle, Val
 use Rattle.float_numerals.specs.Denoted.{is_in_range}
 use Rattle.module_meaning.specs.AlikeTypes.{is_spelled}
 use Rattle.module_meaning.specs.Conversions.{conversion_target}
-use Rattle.module_meaning.specs.ExpressionOperators.{has_parts, own_operator, scalar_behind}
+use Rattle.module_meaning.specs.ExpressionOperators.{has_parts, own_operator, pointee_scalar}
 use Rattle.module_meaning.specs.OperatorTable.{has_word}
 use Rattle.module_meaning.specs.Sampling.{own_offset_is_written, sampling_is_written}
 use Rattle.module_meaning.specs.Undeclared.{is_spellable, part_is_written_at}
@@ -67,7 +68,7 @@ abbrev pub loads_matrix : List Type_ → (columns rows : CooperativeSize) → Co
     TypeInner → Bool
 loads_matrix types columns rows role it =
     option_map_or (λ s. is_spelled types (Value (inner.CooperativeMatrix columns rows s role)))
-    (scalar_behind types it) false
+    (pointee_scalar types it) false
 
 -- ---- constants
 -- A constant is written by its name, and one without a name where its initialiser is, by what is

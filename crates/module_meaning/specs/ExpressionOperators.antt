@@ -119,16 +119,16 @@ scalar_in (inner.Vector size s) = Some s
 scalar_in _ = None
 
 -- the scalars that a pointer of this type points to
-abbrev pub scalar_behind : List Type_ → TypeInner → Option Scalar
-scalar_behind types (inner.Pointer base space) = option_and_then scalar_in (type_with types base)
-scalar_behind types (inner.ValuePointer size s space) = Some s
-scalar_behind types _ = None
+abbrev pub pointee_scalar : List Type_ → TypeInner → Option Scalar
+pointee_scalar types (inner.Pointer base space) = option_and_then scalar_in (type_with types base)
+pointee_scalar types (inner.ValuePointer size s space) = Some s
+pointee_scalar types _ = None
 
 -- a load of a cooperative matrix of the scalars that are pointed to
 abbrev pub matrix_load : ExpressionContext → (columns rows : CooperativeSize) → CooperativeRole →
     CooperativeData → Operator
 matrix_load a columns rows role place =
-    let s = option_and_then (scalar_behind a.types) (type_known a place.pointer) in
+    let s = option_and_then (pointee_scalar a.types) (type_known a place.pointer) in
     option_map_or (CooperativeLoad place.row_major)
     (option_and_then (λ s. a.spelled (Value (inner.CooperativeMatrix columns rows s role))) s)
     (WithoutForm (MatrixLoad columns rows role place.row_major))

@@ -143,7 +143,7 @@ own_selector d whole (inner.Struct members span) index =
     Some (MemberNamed (option_map_or (λ h. d.member h index) whole []))
 own_selector d whole _ index = None
 
--- the same, of a value or of what is behind a pointer
+-- the same, of a value or of what a pointer points to
 abbrev pub selector : Declared → (whole : Option ℕ) → TypeInner → (index : ℕ) → Option Selector
 selector d whole (inner.Pointer base space) index =
     option_and_then (λ it. own_selector d (Some base) it index) (type_with d.context.types base)

@@ -18,7 +18,7 @@ use Rattle.naga_info.specs.declared.info.ModuleInfo.{ModuleInfo}
 use Rattle.module_meaning.specs.BindingCounts.{are_bound_by_uses}
 use Rattle.module_meaning.specs.ExpressionOperators.{ExpressionContext}
 use Rattle.module_meaning.specs.ExpressionShapes.{Declared, shape_of}
-use Rattle.module_meaning.specs.Shapes.{label_shape, named_from}
+use Rattle.module_meaning.specs.Shapes.{case_value_shape, named_from}
 use Rattle.module_meaning.specs.StatementShapes.{simple_shape}
 use Rattle.module_meaning.specs.ExpressionContexts.{declared, types_known}
 use Rattle.module_meaning.specs.Types.{declared_type, local_pointer, type_of_values}
@@ -43,7 +43,7 @@ abbrev mutual
   pub cases_shape : ExpressionContext → CaseTrees → Cases
   cases_shape a no_cases = no_case
   cases_shape a (case_tree value body falls cases) =
-      case (label_shape value) (statements_shape a body) falls (cases_shape a cases)
+      case (case_value_shape value) (statements_shape a body) falls (cases_shape a cases)
 
 -- what these expressions evaluate, which stand in the function from this handle on; `all` are those
 -- of the function

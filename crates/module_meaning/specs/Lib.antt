@@ -1,6 +1,6 @@
 pub mod BindingCounts
 pub mod AlikeTypes
-pub mod Bindings
+pub mod FunctionLets
 pub mod Conversions
 pub mod DeclarationForms
 pub mod DeclaredItems

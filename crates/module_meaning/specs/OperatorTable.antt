@@ -64,17 +64,17 @@ pub data BarrierMemory : Type 0 where
   StorageKept WorkgroupKept SubgroupKept TextureKept : BarrierMemory
 
 -- What no text has: an operator by itself, told by what the expression says of it.
-pub data Formless : Type 0 where
+pub data Unsupported : Type 0 where
   -- to this scalar kind, of this width if one is told: of what is no scalar, vector or matrix, or
   -- to a type without a form
-  Cast : ScalarKind → (width : Option ℕ) → Formless
+  Cast : ScalarKind → (width : Option ℕ) → Unsupported
   -- the part at an index, of what has no parts
-  PartAt : (index : ℕ) → Formless
+  PartAt : (index : ℕ) → Unsupported
   -- a value of a type without a form, or of a struct that no text declares, which these numbers
   -- tell, from so many components
-  ValueOf : (numbers : List ℕ) → (components : ℕ) → Formless
+  ValueOf : (numbers : List ℕ) → (components : ℕ) → Unsupported
   -- a load of a cooperative matrix of scalars whose type has no form
-  MatrixLoad : (columns rows : CooperativeSize) → CooperativeRole → (row_major : Bool) → Formless
+  MatrixLoad : (columns rows : CooperativeSize) → CooperativeRole → (row_major : Bool) → Unsupported
 
 pub data Operator : Type 0 where
   BinarySign : BinaryOperator → Operator
@@ -114,7 +114,7 @@ pub data Operator : Type 0 where
   Convert : (spelling : List ℕ) → Operator
   -- the bits as a value of another type
   Reinterpret : (spelling : List ℕ) → Operator
-  WithoutForm : Formless → Operator
+  WithoutForm : Unsupported → Operator
 
 -- ---- words
 abbrev pub if_word : Bool → List ℕ → List ℕ
@@ -307,22 +307,22 @@ abbrev pub committed_word : (committed : Bool) → List ℕ
 committed_word committed = if committed then codes "Committed" else codes "Candidate"
 
 -- numbers from which what no text has can be told
-abbrev pub formless_code : Formless → List ℕ
-formless_code (Cast kind width) = 0 ∷ kind_number kind ∷ option_to_list width
-formless_code (PartAt index) = 1 ∷ index ∷ []
-formless_code (ValueOf numbers components) = 2 ∷ numbers
-formless_code (MatrixLoad columns rows role row_major) =
+abbrev pub unsupported_code : Unsupported → List ℕ
+unsupported_code (Cast kind width) = 0 ∷ kind_number kind ∷ option_to_list width
+unsupported_code (PartAt index) = 1 ∷ index ∷ []
+unsupported_code (ValueOf numbers components) = 2 ∷ numbers
+unsupported_code (MatrixLoad columns rows role row_major) =
     3 ∷ cooperative_number columns ∷ cooperative_number rows
     ∷ role_number role ∷ truth_number row_major ∷ []
 
 -- What asks for an event begins like what does so in a text.
-abbrev pub formless_head : Formless → List ℕ
-formless_head (MatrixLoad columns rows role row_major) = codes "coopLoad"
-formless_head what = []
+abbrev pub unsupported_head : Unsupported → List ℕ
+unsupported_head (MatrixLoad columns rows role row_major) = codes "coopLoad"
+unsupported_head what = []
 
 -- a blank, and after it what tells it
-abbrev pub formless_word : Formless → List ℕ
-formless_word what = formless_head what ++ (32 ∷ formless_code what)
+abbrev pub unsupported_word : Unsupported → List ℕ
+unsupported_word what = unsupported_head what ++ (32 ∷ unsupported_code what)
 
 -- What has no word is called by one that no text can spell: with a blank in front or, where it asks
 -- an image or loads a matrix, the word of such an operation with a blank and what is no number of a
@@ -340,7 +340,7 @@ own_word (Collective op collective) = own_collective_word op collective
 own_word RayStep = codes " step"
 own_word (RayIntersection committed) = codes " intersection" ++ committed_word committed
 own_word (RayCorners committed) = codes " corners" ++ committed_word committed
-own_word (WithoutForm what) = formless_word what
+own_word (WithoutForm what) = unsupported_word what
 own_word _ = []
 
 -- what the runs call an operator
@@ -403,11 +403,11 @@ source_count First = 1
 source_count (QuadSwapped direction) = 1
 source_count _ = 2
 
-abbrev pub formless_count : Formless → ℕ
-formless_count (Cast kind width) = 1
-formless_count (PartAt index) = 1
-formless_count (ValueOf numbers components) = components
-formless_count (MatrixLoad columns rows role row_major) = 2
+abbrev pub unsupported_count : Unsupported → ℕ
+unsupported_count (Cast kind width) = 1
+unsupported_count (PartAt index) = 1
+unsupported_count (ValueOf numbers components) = components
+unsupported_count (MatrixLoad columns rows role row_major) = 2
 
 -- how many operands are written
 abbrev pub operand_count : Operator → ℕ
@@ -448,7 +448,7 @@ operand_count (Construct spelling components) = components
 operand_count (Splat size) = 1
 operand_count (Convert spelling) = 1
 operand_count (Reinterpret spelling) = 1
-operand_count (WithoutForm what) = formless_count what
+operand_count (WithoutForm what) = unsupported_count what
 
 -- ---- what shares a word
 -- level zero is a given level, the number zero, and where it is clamped it is one by itself
@@ -462,9 +462,9 @@ gathered_level Zero false = Automatic
 gathered_level level clamped = level
 
 -- values of one type share a word too
-abbrev pub one_formless : Formless → Formless
-one_formless (ValueOf numbers components) = ValueOf numbers 1
-one_formless what = what
+abbrev pub one_unsupported : Unsupported → Unsupported
+one_unsupported (ValueOf numbers components) = ValueOf numbers 1
+one_unsupported what = what
 
 -- The operator that stands for all that have its word. So these share words, and no others do:
 abbrev pub one_word : Operator → Operator
@@ -496,7 +496,7 @@ one_word (Barrier control kept) = Barrier true kept
 -- one operation with the constructor of one operand.
 one_word (Construct spelling components) = Construct spelling 1
 one_word (Convert spelling) = Construct spelling 1
-one_word (WithoutForm what) = WithoutForm (one_formless what)
+one_word (WithoutForm what) = WithoutForm (one_unsupported what)
 one_word operator = operator
 
 -- what is told from all others by its word and its number of operands
@@ -508,9 +508,9 @@ is_distinguished (Barrier control kept) = false
 is_distinguished (Convert spelling) = false
 is_distinguished _ = true
 
-abbrev pub formless_asks : Formless → Bool
-formless_asks (MatrixLoad columns rows role row_major) = true
-formless_asks _ = false
+abbrev pub unsupported_asks : Unsupported → Bool
+unsupported_asks (MatrixLoad columns rows role row_major) = true
+unsupported_asks _ = false
 
 -- it asks for an event; others with operands have a value by the values of these alone
 abbrev pub asks : Operator → Bool
@@ -527,7 +527,7 @@ asks (Construct spelling components) = false
 asks (Splat size) = false
 asks (Convert spelling) = false
 asks (Reinterpret spelling) = false
-asks (WithoutForm what) = formless_asks what
+asks (WithoutForm what) = unsupported_asks what
 asks _ = true
 
 -- the operator is one of a few, as it takes no type and no number

@@ -153,12 +153,12 @@ parts_at m info whole at base (inner.Struct members span) =
 parts_at m info whole at base _ = NoParts
 
 -- the parts of what a pointer points to: to a type of the module, or to a vector without one
-abbrev pub parts_behind : Module → ModuleInfo → (whole : List ℕ) → TypeInner → Parts
-parts_behind m info whole (inner.Pointer base at) =
+abbrev pub pointee_parts : Module → ModuleInfo → (whole : List ℕ) → TypeInner → Parts
+pointee_parts m info whole (inner.Pointer base at) =
     option_map_or (parts_at m info whole at base) (inner_at m.types base) NoParts
-parts_behind m info whole (inner.ValuePointer (Some n) s at) =
+pointee_parts m info whole (inner.ValuePointer (Some n) s at) =
     Components (vector_number n) (word_of_values m (Value (inner.ValuePointer None s at)))
-parts_behind m info whole _ = NoParts
+pointee_parts m info whole _ = NoParts
 
 -- The parts of what a pointer spelled so points to: those of the first such pointer of the module.
 -- All that are spelled so have the same parts, and pointers to one part are spelled alike, but for
@@ -167,5 +167,5 @@ parts_behind m info whole _ = NoParts
 abbrev pub place_parts : Module → ModuleInfo → PartTypes
 place_parts m info whole =
     option_map_or
-    (λ r. option_map_or (parts_behind m info whole) (inner_of r m.types) NoParts)
+    (λ r. option_map_or (pointee_parts m info whole) (inner_of r m.types) NoParts)
     (pointer_spelled m info whole) NoParts

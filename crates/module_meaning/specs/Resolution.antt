@@ -17,7 +17,7 @@ use Rattle.shader_runs.specs.Resolution.{tree_targets}
 use Rattle.wgsl_text.specs.Declarations.{Program}
 use Rattle.wgsl_text.specs.Reading.{type_layout}
 use Rattle.wgsl_text.specs.Types.{TypeSpecifier, IsType}
-use Rattle.module_meaning.specs.Bindings.{functions_named}
+use Rattle.module_meaning.specs.FunctionLets.{functions_named}
 use Rattle.module_meaning.specs.DeclarationForms.{ConstantsHaveForms, OtherInitialisersHaveForms}
 use Rattle.module_meaning.specs.DeclaredItems.{module_initialiser_targets, module_stage_targets}
 use Rattle.module_meaning.specs.DeclaredItems.{resolution_items}

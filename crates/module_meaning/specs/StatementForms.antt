@@ -1,6 +1,6 @@
 -- Which statements a text has a form for: all but a step of a ray query, a texel that is compared
 -- and exchanged, a scan of a subgroup that WGSL has no word for, and a case with statements that
--- falls through. The labels of an empty case that falls through are joined with the next one's.
+-- falls through. The values of an empty case that falls through are joined with the next one's.
 --
 -- Throughout, b is the rest of a block, and cs are the further cases.
 use Rattle.std.specs.Prelude.{Bool, true, ◌&&◌, ◌||◌, not}

@@ -6,7 +6,7 @@ use naga_back::{
 };
 use naga_info::{ExpressionInfo, FunctionInfo, TypeResolution};
 use naga_ir::{
-    BinaryOperator, BuiltIn, Expression, Function, Literal, Module, Place, Scalar, ShaderStage,
+    BinaryOperator, BuiltIn, Expression, Function, ItemIndex, Literal, Module, Scalar, ShaderStage,
     Statement, TypeInner,
 };
 use naga_json::{read_known, read_module};
@@ -25,14 +25,14 @@ fn letters_and_signs(rt: HostRuntime) {
 #[test]
 fn levels_and_handles_are_shown(rt: HostRuntime) {
     let (outer, inner) = (Level(0), Level(1).next());
-    let baked = Baked(Place::from_index(7));
+    let baked = Baked(ItemIndex::from_index(7));
     let shown = format!(in rt.alloc(); "{outer}|{inner}|{baked}").expect(&rt, "memory");
     assert_eq!(rt; shown.as_str(), "|        |_e7");
 }
 
 #[test]
 fn uses_that_bind(rt: HostRuntime) {
-    let base = Place::from_index(0);
+    let base = ItemIndex::from_index(0);
     assert_eq!(rt;
         [
             Expression::AccessIndex { base, index: 0 }.bake_ref_count(),
@@ -43,7 +43,7 @@ fn uses_that_bind(rt: HostRuntime) {
     );
     let mut needed: NeedBakeExpressions = HashSet::new(rt.alloc());
     needed.insert(base).expect(&rt, "memory");
-    assert!(rt; needed.contains(&base) && !needed.contains(&Place::from_index(1)));
+    assert!(rt; needed.contains(&base) && !needed.contains(&ItemIndex::from_index(1)));
 }
 
 #[test]
@@ -57,7 +57,7 @@ fn kinds_of_types_and_statements(rt: HostRuntime) {
         ],
         [true, true, false]
     );
-    let (pointer, value) = (Place::from_index(0), Place::from_index(1));
+    let (pointer, value) = (ItemIndex::from_index(0), ItemIndex::from_index(1));
     assert_eq!(rt;
         [
             Statement::Break.is_terminator(),
@@ -145,7 +145,7 @@ fn inputs_hold(rt: &impl Abort, module: &Module, info: &FunctionInfo) {
         expressions,
         named_expressions,
     };
-    let ty = FunctionType::Function(Place::from_index(0));
+    let ty = FunctionType::Function(ItemIndex::from_index(0));
     let outside = FunctionCtx {
         ty,
         info,
@@ -154,7 +154,7 @@ fn inputs_hold(rt: &impl Abort, module: &Module, info: &FunctionInfo) {
     };
     let position = Some(BuiltIn::Position { invariant: false });
     for (index, want) in [None, position, None, None].iter().enumerate() {
-        let handle = Place::from_index(index);
+        let handle = ItemIndex::from_index(index);
         assert_eq!(rt;
             [
                 inside.is_fixed_function_input(handle, module),
@@ -177,7 +177,7 @@ fn inputs_of_an_entry_point(rt: HostRuntime) {
 fn keys_hold(rt: &impl Abort, info: &FunctionInfo, function: &Function) {
     let expressions = &function.expressions;
     let named_expressions = &function.named_expressions;
-    let own = Place::from_index(5);
+    let own = ItemIndex::from_index(5);
     let ty = FunctionType::Function(own);
     let outside = FunctionCtx {
         ty,
@@ -192,7 +192,7 @@ fn keys_hold(rt: &impl Abort, info: &FunctionInfo, function: &Function) {
         expressions,
         named_expressions,
     };
-    let local = Place::from_index(2);
+    let local = ItemIndex::from_index(2);
     let plane = ExternalTextureNameKey::Plane(1);
     assert_eq!(rt;
         [
@@ -228,7 +228,7 @@ fn type_holds(rt: &impl Abort, alloc: Global, function: &Function) {
         named_expressions: &function.named_expressions,
     };
     let types = Module::new(alloc).types;
-    let ty = context.resolve_type(Place::from_index(0), &types);
+    let ty = context.resolve_type(ItemIndex::from_index(0), &types);
     assert!(rt; matches!(ty, TypeInner::Scalar(_)));
     keys_hold(rt, &info, function);
 }
@@ -253,7 +253,9 @@ const STAGES: &[(ShaderStage, bool)] = &[
 /// Whether the module's first entry point is one of workgroups.
 fn forms_workgroups(rt: &impl Abort, module: &Module) -> bool {
     assert!(rt; module.entry_points.len() == 1);
-    assert!(rt; !FunctionType::Function(Place::from_index(0)).is_compute_like_entry_point(module));
+    assert!(rt;
+        !FunctionType::Function(ItemIndex::from_index(0)).is_compute_like_entry_point(module)
+    );
     FunctionType::EntryPoint(0).is_compute_like_entry_point(module)
 }
 

@@ -1,6 +1,6 @@
 //! The intermediate representation, and what is known of a module.
 use naga_info::ToCtx;
-use naga_ir::{Arena, Expression, Literal, Module, Place, Range, Scalar};
+use naga_ir::{Arena, Expression, ItemIndex, Literal, Module, Range, Scalar};
 
 #[test]
 fn an_item_of_an_arena_is_changed(rt: HostRuntime) {
@@ -16,9 +16,9 @@ fn an_item_of_an_arena_is_changed(rt: HostRuntime) {
 
 #[test]
 fn ranges_are_made_from_their_ends(rt: HostRuntime) {
-    let range = Range::new_from_bounds(Place::from_index(2), Place::from_index(4));
+    let range = Range::new_from_bounds(ItemIndex::from_index(2), ItemIndex::from_index(4));
     assert_eq!(rt; range, Range { first: 2, end: 5 });
-    let least = Place::from_index(usize::MAX);
+    let least = ItemIndex::from_index(usize::MAX);
     assert_eq!(rt; Range::new_from_bounds(least, least).end, usize::MAX);
 }
 

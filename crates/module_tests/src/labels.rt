@@ -85,7 +85,7 @@ fn check(rt: &impl Abort, alloc: Global, labels: &mut Vec<SwitchValue>, again: u
 }
 
 #[test]
-fn no_label_stands_twice(rt: HostRuntime) {
+fn no_case_value_stands_twice(rt: HostRuntime) {
     for (count, step, again) in ROWS {
         let mut labels = labels(&rt, rt.alloc(), *count, *step);
         check(&rt, rt.alloc(), &mut labels, *again);

@@ -5,7 +5,7 @@ ghost use Rattle.module_meaning.specs.acceptance.Ranges.{parts_stand_before};
 
 use naga_acceptance::accepts;
 use naga_builder::ModuleBuilder;
-use naga_ir::{Handle, Place, Scalar, StructMember, Type_, TypeInner, UniqueArena};
+use naga_ir::{Handle, ItemIndex, Scalar, StructMember, Type_, TypeInner, UniqueArena};
 use naga_json::read_known;
 use naga_layout::{TypeLayout, type_layout};
 use std::alloc::Global;
@@ -127,7 +127,7 @@ fn check_types(rt: &impl Abort, types: &UniqueArena<Type_>)
     requires ordered { IsTrue (parts_stand_before types.now) }
 {
     for (index, (name, want)) in LAYOUTS.iter().enumerate() {
-        let handle: Handle<Type_> = Place::from_index(index);
+        let handle: Handle<Type_> = ItemIndex::from_index(index);
         assert!(rt; index < types.len());
         assert_eq!(rt; label(&types[handle]), *name);
         assert_eq!(rt; numbers(type_layout(types, handle)), *want, "{name}");

@@ -487,7 +487,7 @@ const READINGS: &[(&str, &str, &str)] = &[
             [{"ModfResult": {"size": "Bi", "scalar": {"kind": "Float", "width": 4}}}, 1]]}}"#,
         "{}",
         "{ModfResult { size: Some(Bi), scalar: Scalar { kind: Float, width: 4 } }: \
-         Place { index: 1, mark: PhantomData<_> }}",
+         ItemIndex { index: 1, mark: PhantomData<_> }}",
     ),
     // both spellings of a variant without content
     (
@@ -524,7 +524,7 @@ const LET_BE: &[(&str, &str, &str)] = &[
     (
         r#"{"functions": [{"body": [{"RayQuery": {"query": 3, "fun": "Terminate"}}]}]}"#,
         "{}",
-        "[RayQuery { query: Place { index: 3, mark: PhantomData<_> } }]",
+        "[RayQuery { query: ItemIndex { index: 3, mark: PhantomData<_> } }]",
     ),
     (
         r#"{"entry_points": [{"name": "main", "stage": "Compute", "workgroup_size": [8, 1, 1],
@@ -544,7 +544,7 @@ const LET_BE: &[(&str, &str, &str)] = &[
             "max_vertices_override": null, "max_primitives": 1, "max_primitives_override": null,
             "vertex_output_type": 4, "primitive_output_type": 5, "output_variable": 9}}]}"#,
         "{}",
-        "MeshStageInfo { output_variable: Place { index: 9, mark: PhantomData<_> } }",
+        "MeshStageInfo { output_variable: ItemIndex { index: 9, mark: PhantomData<_> } }",
     ),
     (
         "{}",
@@ -552,7 +552,7 @@ const LET_BE: &[(&str, &str, &str)] = &[
             "uniformity": {"requirements": 0}, "may_kill": false, "sampling_set": [],
             "global_uses": ["READ"], "expressions": [{"uniformity": {}, "ref_count": 2,
             "assignable_global": null, "ty": {"Handle": 7}}]}]}"#,
-        "ExpressionInfo { ref_count: 2, ty: Handle(Place { index: 7, mark: PhantomData<_> }) }",
+        "ExpressionInfo { ref_count: 2, ty: Handle(ItemIndex { index: 7, mark: PhantomData<_> }) }",
     ),
 ];
 

@@ -4,7 +4,7 @@ use bitflags::Flags;
 use naga_back::{FunctionCtx, FunctionType, Level, RayFlag, RayIntersectionType, WriterFlags};
 use naga_info::FunctionInfo;
 use naga_ir::{
-    Arena, Expression, ExpressionKind, Function, FunctionResult, Literal, Place, Scalar, Type_,
+    Arena, Expression, ExpressionKind, Function, FunctionResult, ItemIndex, Literal, Scalar, Type_,
     TypeInner,
 };
 use naga_names::keyword_set::AsciiUniCase;
@@ -44,12 +44,12 @@ fn is_told_as<E: std::error::Error>(rt: &impl Abort, alloc: Global, error: &E, w
 #[test]
 fn plain_data(rt: HostRuntime) {
     assert!(rt; is_plain_data(ExternalTextureNameKey::Plane(1)));
-    assert!(rt; is_plain_data(NameKey::Function(Place::from_index(2))));
+    assert!(rt; is_plain_data(NameKey::Function(ItemIndex::from_index(2))));
     assert!(rt; is_plain_data(AsciiUniCase { word: "If" }));
     assert!(rt; is_plain_data(ExpressionKind::Pure));
-    assert!(rt; is_plain_data(Place::<NoItem>::from_index(3)));
+    assert!(rt; is_plain_data(ItemIndex::<NoItem>::from_index(3)));
     let result = FunctionResult {
-        ty: Place::from_index(4),
+        ty: ItemIndex::from_index(4),
         binding: None,
     };
     assert!(rt; is_plain_data(result));
@@ -61,8 +61,8 @@ enum NoItem {}
 #[test]
 fn handles_are_ordered(rt: HostRuntime) {
     let (first, second) = (
-        Place::<NoItem>::from_index(0),
-        Place::<NoItem>::from_index(1),
+        ItemIndex::<NoItem>::from_index(0),
+        ItemIndex::<NoItem>::from_index(1),
     );
     assert!(rt; first < second && second > first && first == first && first != second);
 }

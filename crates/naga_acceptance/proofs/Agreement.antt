@@ -88,12 +88,12 @@ new_agrees os v other =
     all_pass (λ o. agrees o v) os (λ i o here. other_agrees o v (other i o here))
 
 -- One more use after others: it agrees with each of them, and those agree.
-pub agree_behind : (os : List Operation) (v : Operation) →
+pub agree_after : (os : List Operation) (v : Operation) →
     all_agree (os ++ v ∷ []) ≡ (all_agree os && list_all (λ o. agrees o v) os)
-agree_behind [] v = refl
-agree_behind (x ∷ os) v =
+agree_after [] v = refl
+agree_after (x ∷ os) v =
     (λ i. (list_all-append (agrees x) os (v ∷ []) ∙ last (list_all (agrees x) os) (agrees x v)) i &&
-    agree_behind os v i)
+    agree_after os v i)
     ∙ and_crossed (list_all (agrees x) os) (agrees x v) (all_agree os) (list_all (λ o. agrees o v) os)
   where
     last : (a b : Bool) → (a && (b && true)) ≡ (a && b)

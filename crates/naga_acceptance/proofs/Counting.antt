@@ -19,7 +19,7 @@ use Rattle.naga_ir.specs.Operands.{expression_operands, statement_operands, bloc
 use Rattle.naga_ir.specs.Operands.{cases_operands}
 use Rattle.naga_acceptance.specs.Counts.{with_use, with_uses, used_again, with_counts_from}
 use Rattle.naga_acceptance.specs.Counts.{use_count}
-use Rattle.naga_acceptance.specs.Counts.{without_uses, operand_places, with_counts}
+use Rattle.naga_acceptance.specs.Counts.{without_uses, operand_positions, with_counts}
 use Rattle.naga_info.specs.UseCounts.{greatest_count}
 use Rattle.naga_acceptance.specs.Counts.{all_with_counts, functions_of}
 
@@ -109,9 +109,9 @@ pub counted_by_uses : (f : Function) (es : List ExpressionInfo)
     → with_uses (with_uses (without_uses es) (flat_map expression_operands f.expressions)) (block_operands f.body) ≡ with_counts f es
 counted_by_uses f es =
     sym (with_uses_append (without_uses es) (flat_map expression_operands f.expressions) (block_operands f.body))
-    ∙ ap (λ fs. with_uses fs (operand_places f)) (with_counts_from-zero 0 es)
-    ∙ with_uses-with_counts_from (λ k. 0) es (operand_places f)
-    ∙ with_counts_from-same (λ k. use_count (operand_places f) k + 0) (use_count (operand_places f)) 0 es (λ k h. add-zero (use_count (operand_places f) k))
+    ∙ ap (λ fs. with_uses fs (operand_positions f)) (with_counts_from-zero 0 es)
+    ∙ with_uses-with_counts_from (λ k. 0) es (operand_positions f)
+    ∙ with_counts_from-same (λ k. use_count (operand_positions f) k + 0) (use_count (operand_positions f)) 0 es (λ k h. add-zero (use_count (operand_positions f) k))
 
 pub length-without_uses : (es : List ExpressionInfo) → length (without_uses es) ≡ length es
 length-without_uses [] = refl

@@ -20,8 +20,8 @@ use Rattle.naga_ir.specs.declared.module.Module.{Module}
 use Rattle.naga_info.specs.declared.info.ExpressionInfo.{ExpressionInfo}
 use Rattle.naga_info.specs.declared.info.ModuleInfo.{ModuleInfo}
 use Rattle.naga_info.specs.declared.info.TypeResolution.{TypeResolution}
-use Rattle.naga_acceptance.specs.Faults.{EntryPlaceFails, ExpressionFails, Fails}
-use Rattle.naga_acceptance.specs.Faults.{FunctionPlaceFails, Unfit}
+use Rattle.naga_acceptance.specs.Faults.{EntryPositionFails, ExpressionFails, Fails}
+use Rattle.naga_acceptance.specs.Faults.{FunctionPositionFails, Unfit}
 use Rattle.naga_acceptance.specs.Faults.{entry_names_fit, known_of, names_there, numeral_fits}
 use Rattle.naga_acceptance.specs.FirstFaults.{at, at_entry_point, at_expression, at_function}
 use Rattle.naga_acceptance.specs.FirstFaults.{declarations_range_fault, declarations_sound_fault}
@@ -42,8 +42,8 @@ use Rattle.naga_acceptance.specs.TextOrder.{is_in_range, is_sound, numbered, tex
 use Rattle.naga_acceptance.specs.declared.faults.Fault.{Fault}
 use Rattle.naga_acceptance.specs.declared.faults.Fault.TheVariants as fault
 use Rattle.naga_acceptance.specs.declared.faults.Item.TheVariants as item
-use Rattle.naga_acceptance.specs.declared.faults.FunctionPlace.{FunctionPlace}
-use Rattle.naga_acceptance.specs.declared.faults.FunctionPlace.TheVariants as part
+use Rattle.naga_acceptance.specs.declared.faults.FunctionPosition.{FunctionPosition}
+use Rattle.naga_acceptance.specs.declared.faults.FunctionPosition.TheVariants as part
 use Rattle.naga_acceptance.specs.declared.faults.Unaccepted.{Unaccepted}
 use Rattle.module_meaning.specs.acceptance.Accepted.{is_accepted}
 use Rattle.module_meaning.specs.acceptance.AgreeingOperators.{module_operators_agree}
@@ -119,17 +119,17 @@ names_fail m arguments locals h es e P names numeral here fails =
     names (unfit_at (names_there m arguments locals) es h e here fails)
 
 module _ (m : Module) (callees : ℕ) (f : Function) (known : List TypeResolution) where
-  abbrev RangePlace : FunctionPlace × Fault → Type 0
-  RangePlace found = FunctionPlaceFails m callees f known found.0 found.1
+  abbrev RangePosition : FunctionPosition × Fault → Type 0
+  RangePosition found = FunctionPositionFails m callees f known found.0 found.1
 
   locals_found : Finds (first_unfit (λ _. local_in_range (length m.types) (length f.expressions)) (enumerate_from 0 f.local_variables))
       (list_all (local_in_range (length m.types) (length f.expressions)) f.local_variables)
-      (λ h. RangePlace (part.Local h, fault.Names))
+      (λ h. RangePosition (part.Local h, fault.Names))
   locals_found = finds_plain (local_in_range (length m.types) (length f.expressions)) f.local_variables
 
   expressions_found : Finds (first_faulty (expression_range_fault m (length f.arguments.items) (length f.local_variables)) (enumerate_from 0 f.expressions))
       (expressions_in_range m f)
-      (λ found. RangePlace (at_expression found))
+      (λ found. RangePosition (at_expression found))
   expressions_found =
       finds_weaker (first_faulty (expression_range_fault m (length f.arguments.items) (length f.local_variables)) (enumerate_from 0 f.expressions))
       (λ found at. at.2)
@@ -142,12 +142,12 @@ module _ (m : Module) (callees : ℕ) (f : Function) (known : List TypeResolutio
 
   statements_found : Finds (result_err (numbered (is_in_range callees (length f.expressions)) 0 (text_order f.body)))
       (block_in_range callees (length f.expressions) f.body)
-      (λ n. RangePlace (part.Statement n, fault.Names))
+      (λ n. RangePosition (part.Statement n, fault.Names))
   statements_found =
       finds_same (sym (block_range callees (length f.expressions) false false f.body))
       (finds_statement (is_in_range callees (length f.expressions)) (text_order f.body))
 
-  pub function_range : Finds (function_range_fault m callees f) (function_in_range m callees f) RangePlace
+  pub function_range : Finds (function_range_fault m callees f) (function_in_range m callees f) RangePosition
   function_range =
       finds_unless (signature_fits (length m.types) f) (part.Whole, fault.Signature) (λ fails. fails)
       (λ _. finds_unless (names_fit f) (part.Whole, fault.NamedExpressions) (λ fails. fails)
@@ -159,7 +159,7 @@ module _ (m : Module) (callees : ℕ) (f : Function) (known : List TypeResolutio
 
   expressions_sound : Finds (expressions_sound_fault m (Some f) known f.expressions)
       (list_all (λ p. has_its_type m (Some f) known p.0 p.1 && operands_fit m.types known p.1) (enumerate_from 0 f.expressions))
-      (λ found. RangePlace (at_expression found))
+      (λ found. RangePosition (at_expression found))
   expressions_sound =
       finds_weaker (expressions_sound_fault m (Some f) known f.expressions)
       (λ found at. at.2)
@@ -173,17 +173,17 @@ module _ (m : Module) (callees : ℕ) (f : Function) (known : List TypeResolutio
 
   locals_sound_found : Finds (first_unfit (λ _. local_is_sound m.types known) (enumerate_from 0 f.local_variables))
       (list_all (local_is_sound m.types known) f.local_variables)
-      (λ h. RangePlace (part.Local h, fault.InitialiserType))
+      (λ h. RangePosition (part.Local h, fault.InitialiserType))
   locals_sound_found = finds_plain (local_is_sound m.types known) f.local_variables
 
   statements_sound_found : Finds (result_err (numbered (is_sound m f known) 0 (text_order f.body)))
       (body_is_sound m f known)
-      (λ n. RangePlace (part.Statement n, fault.Unsatisfied))
+      (λ n. RangePosition (part.Statement n, fault.Unsatisfied))
   statements_sound_found =
       finds_same (sym (block_sound m f known false false f.body))
       (finds_statement (is_sound m f known) (text_order f.body))
 
-  pub function_sound : Finds (function_sound_fault m f known) (typed_function_is_sound m f known) RangePlace
+  pub function_sound : Finds (function_sound_fault m f known) (typed_function_is_sound m f known) RangePosition
   function_sound =
       finds_or _ _ (finds_same (all_both (has_its_type m (Some f) known) (operands_fit m.types known) 0 f.expressions) (finds_map at_expression _ expressions_sound))
       (λ _. finds_or _ _ (finds_map (λ h. (part.Local h, fault.InitialiserType)) _ locals_sound_found)
@@ -255,25 +255,25 @@ module _ (m : Module) (info : ModuleInfo) where
       (λ _. finds_unless (special_types_fit (length m.types) m.special_types) (at item.Module fault.SpecialTypes) (λ fails. fails)
       (λ _. items_range))
 
-  part_placed : (h : ℕ) (f : Function) → slice_get m.functions h ≡ Some f → (kind : Fault) (p : FunctionPlace) →
-      FunctionPlaceFails m h f (known_of info.functions.items h) p kind → Fails m info (at (item.Function h p) kind)
+  part_placed : (h : ℕ) (f : Function) → slice_get m.functions h ≡ Some f → (kind : Fault) (p : FunctionPosition) →
+      FunctionPositionFails m h f (known_of info.functions.items h) p kind → Fails m info (at (item.Function h p) kind)
   part_placed h f here fault.Disagreement part.Whole fails = absurd fails
   part_placed h f here fault.Disagreement (part.Local l) fails = absurd fails
   part_placed h f here fault.Disagreement (part.Expression e) fails = absurd fails
   part_placed h f here fault.Disagreement (part.Statement n) fails = absurd fails
   part_placed h f here _ p fails = (f, here, fails)
 
-  entry_placed : (h : ℕ) (p : EntryPoint) → slice_get m.entry_points.items h ≡ Some p → (kind : Fault) (q : FunctionPlace) →
-      EntryPlaceFails m p (known_of info.entry_points.items h) q kind → Fails m info (at (item.EntryPoint h q) kind)
+  entry_placed : (h : ℕ) (p : EntryPoint) → slice_get m.entry_points.items h ≡ Some p → (kind : Fault) (q : FunctionPosition) →
+      EntryPositionFails m p (known_of info.entry_points.items h) q kind → Fails m info (at (item.EntryPoint h q) kind)
   entry_placed h p here fault.Disagreement part.Whole fails = absurd fails
   entry_placed h p here fault.Disagreement (part.Local l) fails = absurd fails
   entry_placed h p here fault.Disagreement (part.Expression e) fails = absurd fails
   entry_placed h p here fault.Disagreement (part.Statement n) fails = absurd fails
   entry_placed h p here _ q fails = (p, here, fails)
 
-  entry_part : (p : EntryPoint) (known : List TypeResolution) (q : FunctionPlace) (kind : Fault) →
-      FunctionPlaceFails m (length m.functions) p.function known q kind →
-      EntryPlaceFails m p known q kind
+  entry_part : (p : EntryPoint) (known : List TypeResolution) (q : FunctionPosition) (kind : Fault) →
+      FunctionPositionFails m (length m.functions) p.function known q kind →
+      EntryPositionFails m p known q kind
   entry_part p known part.Whole fault.Names fails = absurd fails
   entry_part p known _ _ fails = fails
 
@@ -282,7 +282,7 @@ module _ (m : Module) (info : ModuleInfo) where
       finds_map (λ found. at_function found.0 found.1) _
       (finds_weaker (first_faulty (function_range_fault m) (enumerate_from 0 m.functions))
       (λ found at. part_placed found.0 at.0 at.1 found.1.1 found.1.0 at.2)
-      (finds_faulty (λ h f found. FunctionPlaceFails m h f (known_of info.functions.items h) found.0
+      (finds_faulty (λ h f found. FunctionPositionFails m h f (known_of info.functions.items h) found.0
       found.1)
       (function_in_range m) (function_range_fault m) m.functions
       (λ h f here. function_range m h f (known_of info.functions.items h))))
@@ -294,7 +294,7 @@ module _ (m : Module) (info : ModuleInfo) where
   entry_regroup false b c d e = refl
 
   entry_range : (p : EntryPoint) (known : List TypeResolution) →
-      Finds (entry_point_range_fault m p) (entry_point_in_range m p) (λ found. EntryPlaceFails m p known found.0 found.1)
+      Finds (entry_point_range_fault m p) (entry_point_in_range m p) (λ found. EntryPositionFails m p known found.0 found.1)
   entry_range p known =
       finds_same (entry_regroup (is_below (length m.global_variables) (option_map (λ k. k.output_variable) p.mesh_info))
       (is_below (length m.global_variables) p.task_payload) (is_below (length m.global_variables) p.incoming_ray_payload)
@@ -309,7 +309,7 @@ module _ (m : Module) (info : ModuleInfo) where
       finds_map (λ found. at_entry_point found.0 found.1) _
       (finds_weaker (first_faulty (λ _. entry_point_range_fault m) (enumerate_from 0 m.entry_points.items))
       (λ found at. entry_placed found.0 at.0 at.1 found.1.1 found.1.0 at.2)
-      (finds_plain_faulty (λ h p found. EntryPlaceFails m p (known_of info.entry_points.items h) found.0 found.1)
+      (finds_plain_faulty (λ h p found. EntryPositionFails m p (known_of info.entry_points.items h) found.0 found.1)
       (entry_point_in_range m) (λ _. entry_point_range_fault m) m.entry_points.items
       (λ h p here. entry_range p (known_of info.entry_points.items h))))
 
@@ -368,7 +368,7 @@ module _ (m : Module) (info : ModuleInfo) where
       composed None = refl
       composed (Some k) = refl
 
-  abbrev UnknownAt : List (List ExpressionInfo) → ℕ × (FunctionPlace × Fault) → Type 0
+  abbrev UnknownAt : List (List ExpressionInfo) → ℕ × (FunctionPosition × Fault) → Type 0
   UnknownAt kss found = (ks : List ExpressionInfo) × (slice_get kss found.0 ≡ Some ks)
       × ((e : ℕ) × (found.1 ≡ (part.Expression e, fault.KnownType)) × Unfit (resolution_fits (length m.overrides) (length m.types)) (known_of kss found.0) e)
 
@@ -400,7 +400,7 @@ module _ (m : Module) (info : ModuleInfo) where
       (finds_weaker (first_known_fault (length m.overrides) (length m.types) info.entry_points.items) in_entry_point (known_found info.entry_points.items)))
       (λ _. finds_map (λ h. at (item.GlobalExpression h) fault.KnownType) _ globals_known))
     where
-      in_function : (found : ℕ × (FunctionPlace × Fault)) → UnknownAt info.functions.items found → Fails m info (at_function found.0 found.1)
+      in_function : (found : ℕ × (FunctionPosition × Fault)) → UnknownAt info.functions.items found → Fails m info (at_function found.0 found.1)
       in_function found at =
           let f = item_beside m.functions info.functions.items found.0 at.0 functions at.1
           in subst (λ reported. Fails m info (at_function found.0 reported)) (sym at.2.1) (
@@ -409,7 +409,7 @@ module _ (m : Module) (info : ModuleInfo) where
             at.2.2,
           )
 
-      in_entry_point : (found : ℕ × (FunctionPlace × Fault)) → UnknownAt info.entry_points.items found → Fails m info (at_entry_point found.0 found.1)
+      in_entry_point : (found : ℕ × (FunctionPosition × Fault)) → UnknownAt info.entry_points.items found → Fails m info (at_entry_point found.0 found.1)
       in_entry_point found at =
           let p = item_beside m.entry_points.items info.entry_points.items found.0 at.0 entry_points at.1
           in subst (λ reported. Fails m info (at_entry_point found.0 reported)) (sym at.2.1) (p.0, p.1, at.2.2)
@@ -469,16 +469,16 @@ module _ (m : Module) (info : ModuleInfo) where
       (λ _. finds_map (λ found. at_function found.0 found.1) _
       (finds_weaker (first_faulty (λ _ p. function_sound_fault m p.0 (map (λ k. k.ty) p.1)) (enumerate_from 0 (zip m.functions info.functions.items))) placed
       (finds_plain_faulty
-      (λ h p found. FunctionPlaceFails m h p.0 (map (λ k. k.ty) p.1) found.0 found.1)
+      (λ h p found. FunctionPositionFails m h p.0 (map (λ k. k.ty) p.1) found.0 found.1)
       (λ p. function_is_sound m p.0 p.1) (λ _ p. function_sound_fault m p.0 (map (λ k. k.ty) p.1)) (zip m.functions info.functions.items)
       (λ h p here. function_sound m h p.0 (map (λ k. k.ty) p.1)))))
     where
-      placed : (found : ℕ × (FunctionPlace × Fault)) → AtItem (zip m.functions info.functions.items) (λ h p reported. FunctionPlaceFails m h p.0 (map (λ k. k.ty) p.1) reported.0 reported.1) found →
+      placed : (found : ℕ × (FunctionPosition × Fault)) → AtItem (zip m.functions info.functions.items) (λ h p reported. FunctionPositionFails m h p.0 (map (λ k. k.ty) p.1) reported.0 reported.1) found →
           Fails m info (at_function found.0 found.1)
       placed found at =
           let both = zip_parts m.functions info.functions.items found.0 at.0 at.1
           in part_placed found.0 at.0.0 both.0 found.1.1 found.1.0
-          (subst (λ known. FunctionPlaceFails m found.0 at.0.0 known found.1.0 found.1.1) (sym (known_is info.functions.items found.0 at.0.1 both.1)) at.2)
+          (subst (λ known. FunctionPositionFails m found.0 at.0.0 known found.1.0 found.1.1) (sym (known_is info.functions.items found.0 at.0.1 both.1)) at.2)
 
   entry_points_sound : Finds (entry_points_sound_fault m m.entry_points.items info.entry_points.items) (all_paired (entry_point_is_sound m) m.entry_points.items info.entry_points.items) (Fails m info)
   entry_points_sound =
@@ -486,20 +486,20 @@ module _ (m : Module) (info : ModuleInfo) where
       (λ fails. and_right (length m.functions == length info.functions.items) _ (and_left _ _ fails))
       (λ _. finds_map (λ found. at_entry_point found.0 found.1) _
       (finds_weaker (first_faulty (λ _ p. function_sound_fault m p.0.function (map (λ k. k.ty) p.1)) (enumerate_from 0 (zip m.entry_points.items info.entry_points.items))) placed
-      (finds_plain_faulty (λ h p found. FunctionPlaceFails m (length m.functions) p.0.function (map (λ k. k.ty) p.1) found.0 found.1)
+      (finds_plain_faulty (λ h p found. FunctionPositionFails m (length m.functions) p.0.function (map (λ k. k.ty) p.1) found.0 found.1)
       (λ p. entry_point_is_sound m p.0 p.1) (λ _ p. function_sound_fault m p.0.function (map (λ k. k.ty) p.1)) (zip m.entry_points.items info.entry_points.items)
       (λ h p here. function_sound m (length m.functions) p.0.function (map (λ k. k.ty) p.1)))))
     where
-      placed : (found : ℕ × (FunctionPlace × Fault)) →
+      placed : (found : ℕ × (FunctionPosition × Fault)) →
           AtItem (zip m.entry_points.items info.entry_points.items)
-          (λ h p reported. FunctionPlaceFails m (length m.functions) p.0.function
+          (λ h p reported. FunctionPositionFails m (length m.functions) p.0.function
           (map (λ k. k.ty) p.1) reported.0 reported.1) found →
           Fails m info (at_entry_point found.0 found.1)
       placed found at =
           let both = zip_parts m.entry_points.items info.entry_points.items found.0 at.0 at.1
           in entry_placed found.0 at.0.0 both.0 found.1.1 found.1.0
           (entry_part at.0.0 (known_of info.entry_points.items found.0) found.1.0 found.1.1
-          (subst (λ known. FunctionPlaceFails m (length m.functions) at.0.0.function known found.1.0 found.1.1) (sym (known_is info.entry_points.items found.0 at.0.1 both.1)) at.2))
+          (subst (λ known. FunctionPositionFails m (length m.functions) at.0.0.function known found.1.0 found.1.1) (sym (known_is info.entry_points.items found.0 at.0.1 both.1)) at.2))
 
   pub sound_found : Finds (sound_fault m info) (module_is_sound m info) (Fails m info)
   unfolding module_is_sound

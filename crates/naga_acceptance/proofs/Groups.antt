@@ -136,9 +136,9 @@ at_sum (x ∷ xs) ys k zero e = absurd (omega (arith, e))
 at_sum (x ∷ xs) ys k (suc n) e = at_sum xs ys k n (omega (arith, e))
 
 -- the same by its place among all
-pub behind : {X : Type 0} (xs ys : List X) (n : ℕ) → length xs ≤ n →
+pub following : {X : Type 0} (xs ys : List X) (n : ℕ) → length xs ≤ n →
     slice_get (xs ++ ys) n ≡ slice_get ys (n - length xs)
-behind xs ys n past = at_sum xs ys (n - length xs) n (omega (arith, past))
+following xs ys n past = at_sum xs ys (n - length xs) n (omega (arith, past))
 
 -- ---- the groups of functions
 
@@ -205,7 +205,7 @@ module _ (m : Module) (info : ModuleInfo) where
       min (length m.entry_points.items) (length info.entry_points.items) < k →
       slice_get (further_groups_of m info) k ≡ None
   none_there k past =
-      behind entry_groups (own_group ∷ []) k (omega (arith, past, entry_groups_count))
+      following entry_groups (own_group ∷ []) k (omega (arith, past, entry_groups_count))
       ∙ slice_get_past (own_group ∷ []) (k - length entry_groups)
       (omega (arith, past, entry_groups_count))
 
@@ -231,7 +231,7 @@ module _ (m : Module) (info : ModuleInfo) where
   past_functions k functions e past =
       let count : functions ≡ length (function_groups m.functions info.functions.items) =
       omega (arith, e, function_groups_count m.functions info.functions.items)
-      in behind (function_groups m.functions info.functions.items) (further_groups_of m info) k
+      in following (function_groups m.functions info.functions.items) (further_groups_of m info) k
       (omega (arith, past, count))
       ∙ ap (λ n. slice_get (further_groups_of m info) (k - n)) (sym count)
 

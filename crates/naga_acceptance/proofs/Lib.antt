@@ -6,8 +6,8 @@ pub mod Finding
 pub mod FirstFaults
 pub mod Groups
 pub mod Identities
-pub mod LabelNumbers
-pub mod Labels
+pub mod CaseValueNumbers
+pub mod CaseValues
 pub mod Mixing
 pub mod OperatorParts
 pub mod Pairing

@@ -3,7 +3,7 @@ use Rattle.std.proofs.Common.{◌≡◌, ◌≤◌, ℕ, suc, true, List, [], re
 use Rattle.std.proofs.Common.{Option, Some, None, unwrap_or, true≢false}
 use Rattle.std.specs.Option.{is_some}
 use Rattle.naga_ir.specs.declared.types.Type_.{Type_}
-use Rattle.naga_acceptance.proofs.Views.{behind, over_is}
+use Rattle.naga_acceptance.proofs.Views.{following, over_is}
 use Rattle.naga_acceptance.specs.Uses.{all_mixed}
 use Rattle.naga_acceptance.specs.Views.{next_key, numbers, over_key, rank, top_key}
 use Rattle.naga_acceptance.specs.declared.alike.Over.{Over}
@@ -11,7 +11,7 @@ use Rattle.naga_acceptance.specs.declared.alike.Top.{Top}
 use Rattle.naga_acceptance.specs.declared.type_numbers.Level.{Level}
 
 -- the numbers after a level are mixed into what is mixed of the level
-pub level_then : (h : ℕ) (l : Level) (o : Option (List ℕ)) → is_some o ≡ true → all_mixed h (unwrap_or (behind l o) []) ≡ all_mixed (all_mixed h (numbers l)) (unwrap_or o [])
+pub level_then : (h : ℕ) (l : Level) (o : Option (List ℕ)) → is_some o ≡ true → all_mixed h (unwrap_or (following l o) []) ≡ all_mixed (all_mixed h (numbers l)) (unwrap_or o [])
 level_then h l None some = absurd (true≢false (sym some))
 level_then h l (Some xs) some = refl
 

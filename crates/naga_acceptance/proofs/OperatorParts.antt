@@ -22,11 +22,11 @@ use Rattle.module_meaning.specs.acceptance.AgreeingOperators.{Group, uses_of}
 use Rattle.module_meaning.specs.acceptance.Operations.{Operation, agrees, all_agree}
 use Rattle.naga_acceptance.specs.declared.agreeing.Part.{Part}
 use Rattle.naga_acceptance.specs.declared.agreeing.TheConstants.{REMAINDERS}
-use Rattle.naga_acceptance.specs.declared.agreeing.UsePlace.{UsePlace}
+use Rattle.naga_acceptance.specs.declared.agreeing.UsePosition.{UsePosition}
 use Rattle.naga_acceptance.specs.Uses.{joined_below, use_in, group_uses, earlier_uses, first_answer}
 use Rattle.naga_acceptance.specs.Uses.{is_same_operator, hash_of, has_hash, is_in, part_uses}
 use Rattle.naga_acceptance.specs.Uses.{DisagreesFirst, IsFirstDisagreement, stands_before, earlier}
-use Rattle.naga_acceptance.proofs.Agreement.{agree_behind, first_by, front_fails, other_agrees}
+use Rattle.naga_acceptance.proofs.Agreement.{agree_after, first_by, front_fails, other_agrees}
 use Rattle.naga_acceptance.proofs.EarlierUses.{use_more}
 use Rattle.naga_acceptance.proofs.Groups.{all_groups, group_end, joined_front}
 use Rattle.naga_acceptance.proofs.Remembering.{other_hash, same_hash}
@@ -113,28 +113,28 @@ covered_agree r p q covered [] one two = refl
 covered_agree r p q covered (x ∷ os) one two =
     by_first (covered_agree r p q covered os (tail_agrees p x os one) (tail_agrees q x os two)) (r x) refl
   where
-    behind_one : p x ≡ true → (v : Operation) (i : ℕ) → slice_get os i ≡ Some v →
+    following_one : p x ≡ true → (v : Operation) (i : ℕ) → slice_get os i ≡ Some v →
         (p v ≡ true) ⊎ (q v ≡ true) → agrees x v ≡ true
-    behind_one e v i here (inl own) = filtered_at (agrees x) p os (head_agrees p x os one e) i v here own
-    behind_one e v i here (inr other) = covered.first x v e other
+    following_one e v i here (inl own) = filtered_at (agrees x) p os (head_agrees p x os one e) i v here own
+    following_one e v i here (inr other) = covered.first x v e other
 
-    behind_two : q x ≡ true → (v : Operation) (i : ℕ) → slice_get os i ≡ Some v →
+    after_two : q x ≡ true → (v : Operation) (i : ℕ) → slice_get os i ≡ Some v →
         (p v ≡ true) ⊎ (q v ≡ true) → agrees x v ≡ true
-    behind_two e v i here (inl other) = covered.second x v e other
-    behind_two e v i here (inr own) = filtered_at (agrees x) q os (head_agrees q x os two e) i v here own
+    after_two e v i here (inl other) = covered.second x v e other
+    after_two e v i here (inr own) = filtered_at (agrees x) q os (head_agrees q x os two e) i v here own
 
-    behind : (p x ≡ true) ⊎ (q x ≡ true) → list_all (agrees x) (filter r os) ≡ true
-    behind (inl e) =
-        filtered_pass (agrees x) r os (λ i v here passes. behind_one e v i here (covered.either v passes))
-    behind (inr e) =
-        filtered_pass (agrees x) r os (λ i v here passes. behind_two e v i here (covered.either v passes))
+    following : (p x ≡ true) ⊎ (q x ≡ true) → list_all (agrees x) (filter r os) ≡ true
+    following (inl e) =
+        filtered_pass (agrees x) r os (λ i v here passes. following_one e v i here (covered.either v passes))
+    following (inr e) =
+        filtered_pass (agrees x) r os (λ i v here passes. after_two e v i here (covered.either v passes))
 
     by_first : all_agree (filter r os) ≡ true → (b : Bool) → r x ≡ b →
         all_agree (filter r (x ∷ os)) ≡ true
     by_first rest true e =
         ap (λ b. all_agree (cond b (x ∷ filter r os) (filter r os))) e
         ∙ and_from (list_all (agrees x) (filter r os)) (all_agree (filter r os))
-        (behind (covered.either x e)) rest
+        (following (covered.either x e)) rest
     by_first rest false e = ap (λ b. all_agree (cond b (x ∷ filter r os) (filter r os))) e ∙ rest
 
 -- nothing passes
@@ -200,15 +200,15 @@ front_through xs ys zs one two =
     (one.0 ++ two.0, two.1 ∙ ap (λ l. l ++ two.0) one.1 ∙ append_assoc xs one.0 two.0)
 
 -- after the same list
-front_behind : {X : Type 0} (xs ys zs : List X) → StandsInFront ys zs →
+front_after : {X : Type 0} (xs ys zs : List X) → StandsInFront ys zs →
     StandsInFront (xs ++ ys) (xs ++ zs)
-front_behind xs ys zs front =
+front_after xs ys zs front =
     (front.0, ap (λ l. xs ++ l) front.1 ∙ sym (append_assoc xs ys front.0))
 
 -- where they don't agree, more don't
-pub more_behind_fail : (p : Operation → Bool) (xs ys : List Operation) → StandsInFront xs ys →
+pub more_after_fail : (p : Operation → Bool) (xs ys : List Operation) → StandsInFront xs ys →
     all_agree (filter p xs) ≡ false → all_agree (filter p ys) ≡ false
-more_behind_fail p xs ys front fails =
+more_after_fail p xs ys front fails =
     ap (λ l. all_agree (filter p l)) front.1
     ∙ ap all_agree (filter-append p xs front.0)
     ∙ front_fails (filter p xs) (filter p front.0) fails
@@ -218,14 +218,14 @@ pub front_agrees : (p : Operation → Bool) (xs ys : List Operation) → StandsI
     all_agree (filter p ys) ≡ true → all_agree (filter p xs) ≡ true
 front_agrees p xs ys front all =
     true_from_ne_false (all_agree (filter p xs))
-    (λ fails. false≢true (sym (more_behind_fail p xs ys front fails) ∙ all))
+    (λ fails. false≢true (sym (more_after_fail p xs ys front fails) ∙ all))
 
 module _ (types : List Type_) (gs : List Group) where
   -- in one group
   front_in_group : (n : ℕ) (g : Group) (i j : ℕ) → i ≤ j →
       StandsInFront (earlier_uses types gs n g i) (earlier_uses types gs n g j)
   front_in_group n g i j within =
-      front_behind (group_uses types gs n)
+      front_after (group_uses types gs n)
       (joined_below (λ k. option_to_list (use_in types g k)) i)
       (joined_below (λ k. option_to_list (use_in types g k)) j)
       (joined_front (λ k. option_to_list (use_in types g k)) i j within)
@@ -256,7 +256,7 @@ module _ (types : List Type_) (gs : List Group) where
       (joined_below (λ k. option_to_list (use_in types h k)) j, refl)
 
   -- before a place that does not stand before this one
-  front_of_place : (a b : UsePlace) (g h : Group) → slice_get gs a.group ≡ Some g →
+  front_of_place : (a b : UsePosition) (g h : Group) → slice_get gs a.group ≡ Some g →
       slice_get gs b.group ≡ Some h → a.index ≤ length g.expressions →
       (a.group < b.group) ⊎ ((a.group ≡ b.group) × (a.index ≤ b.index)) →
       StandsInFront (earlier_uses types gs a.group g a.index) (earlier_uses types gs b.group h b.index)
@@ -273,7 +273,7 @@ module _ (types : List Type_) (gs : List Group) where
 
   -- it is so among more uses, where the others agree as far as it
   place_among_more : (r p q : Operation → Bool) → IsCovered r p q →
-      ((v : Operation) → p v ≡ true → r v ≡ true) → (a : UsePlace)
+      ((v : Operation) → p v ≡ true → r v ≡ true) → (a : UsePosition)
       → (fails : DisagreesFirst types gs p a.group a.index)
       → all_agree (filter q (earlier_uses types gs a.group fails.0 a.index)) ≡ true
       → DisagreesFirst types gs r a.group a.index
@@ -288,7 +288,7 @@ module _ (types : List Type_) (gs : List Group) where
   -- what two tests tell of a third is told by the earlier of their places
   pub first_of_both : (r p q : Operation → Bool) → IsCovered r p q → IsCovered r q p
       → ((v : Operation) → p v ≡ true → r v ≡ true) → ((v : Operation) → q v ≡ true → r v ≡ true)
-      → (a b : Option UsePlace) → IsFirstDisagreement types gs p a → IsFirstDisagreement types gs q b
+      → (a b : Option UsePosition) → IsFirstDisagreement types gs p a → IsFirstDisagreement types gs q b
       → IsFirstDisagreement types gs r (earlier a b)
   first_of_both r p q one two in_p in_q None None none_p none_q =
       covered_agree r p q one (group_uses types gs (length gs)) none_p none_q
@@ -319,9 +319,9 @@ module _ (types : List Type_) (gs : List Group) where
               in inr (eqb-true a.group b.group parts.0, omega (arith, ltb-true a.index b.index parts.1))
 
       -- and where that fails
-      behind : stands_before a b ≡ false →
+      following : stands_before a b ≡ false →
           (b.group < a.group) ⊎ ((b.group ≡ a.group) × (b.index ≤ a.index))
-      behind e = by_group (a.group == b.group) refl
+      following e = by_group (a.group == b.group) refl
         where
           parts : (ltb a.group b.group ≡ false)
               × (((a.group == b.group) && ltb a.index b.index) ≡ false)
@@ -352,7 +352,7 @@ module _ (types : List Type_) (gs : List Group) where
           (place_among_more r q p two in_q b fails_q
           (front_agrees p (earlier_uses types gs b.group fails_q.0 b.index)
           (earlier_uses types gs a.group fails_p.0 a.index)
-          (front_of_place b a fails_q.0 fails_p.0 fails_q.1 fails_p.1 (omega (arith, fails_q.2)) (behind e))
+          (front_of_place b a fails_q.0 fails_p.0 fails_q.1 fails_p.1 (omega (arith, fails_q.2)) (following e))
           fails_p.3))
 
 -- ---- parts of the operators
@@ -436,8 +436,8 @@ module _ (part : Part) (middle : ℕ) (above : part.first ≤ middle) (below : m
       by_middle true e =
           inl (from_bounds front_half v (in_bounds part v own).0 (leb-true (hash_of v % REMAINDERS) middle e))
       by_middle false e =
-          let behind = leb-false (hash_of v % REMAINDERS) middle e
-          in inr (from_bounds back_half v (omega (arith, behind)) (in_bounds part v own).1)
+          let following = leb-false (hash_of v % REMAINDERS) middle e
+          in inr (from_bounds back_half v (omega (arith, following)) (in_bounds part v own).1)
 
   -- named the other way round
   swapped : (v : Operation) → is_in part v ≡ true →
@@ -450,7 +450,7 @@ module _ (part : Part) (middle : ℕ) (above : part.first ≤ middle) (below : m
       by_half (inr back) = inl back
 
   -- the first use of either half that does not agree is the first of the part
-  pub first_of_halves : (types : List Type_) (gs : List Group) (a b : Option UsePlace) →
+  pub first_of_halves : (types : List Type_) (gs : List Group) (a b : Option UsePosition) →
       IsFirstDisagreement types gs (is_in front_half) a →
       IsFirstDisagreement types gs (is_in back_half) b →
       IsFirstDisagreement types gs (is_in part) (earlier a b)
@@ -479,7 +479,7 @@ module _ (types : List Type_) (gs : List Group) (part : Part) (number : ℕ) (g 
   one_more_agrees v here own agree =
       let before = part_uses part (earlier_uses types gs number g index)
       in ap all_agree (part_use_more v here own)
-      ∙ agree_behind before v
+      ∙ agree_after before v
       ∙ ap (λ b. b && list_all (λ o. agrees o v) before) agree
 
 -- ---- all uses of a module
@@ -494,7 +494,7 @@ module _ (types : List Type_) (gs : List Group) (part : Part) (all : (v : Operat
   whole = all_uses_of (group_uses types gs (length gs)) ∙ ap all_agree (all_groups types gs)
 
   -- they agree where no use disagrees first
-  pub all_or_first : (found : Option UsePlace) → IsFirstDisagreement types gs (is_in part) found →
+  pub all_or_first : (found : Option UsePosition) → IsFirstDisagreement types gs (is_in part) found →
       is_none found ≡ all_agree (flat_map (uses_of types) gs)
   all_or_first None agree = sym (sym whole ∙ agree)
   all_or_first (Some place) fails =
@@ -502,11 +502,11 @@ module _ (types : List Type_) (gs : List Group) (part : Part) (all : (v : Operat
       in let front =
       front_of_groups types gs place.group (length gs) fails.0 (suc place.index) fails.1 fails.2 within
       in sym (sym whole
-      ∙ more_behind_fail (is_in part) (earlier_uses types gs place.group fails.0 (suc place.index))
+      ∙ more_after_fail (is_in part) (earlier_uses types gs place.group fails.0 (suc place.index))
       (group_uses types gs (length gs)) front fails.4)
 
   -- and those before that one do
-  pub agree_before : (found : Option UsePlace) → IsFirstDisagreement types gs (is_in part) found →
+  pub agree_before : (found : Option UsePosition) → IsFirstDisagreement types gs (is_in part) found →
       IfSome found (λ place. (g : Group) × (slice_get gs place.group ≡ Some g)
       × (all_agree (earlier_uses types gs place.group g place.index) ≡ true)
       × (all_agree (earlier_uses types gs place.group g (suc place.index)) ≡ false))

@@ -1,5 +1,6 @@
 -- What two types are told by is the same where their levels are, one after another.
-use Rattle.std.proofs.Common.{◌≡◌, ◌≤◌, ℕ, suc, Bool, true, false, ◌&&◌, not, List, [], ◌∷◌, ◌++◌, refl}
+use Rattle.std.proofs.Common.{◌≡◌, ◌≤◌, ℕ, suc, Bool, true, false, ◌&&◌, not, List, [], ◌∷◌, ◌++◌}
+use Rattle.std.proofs.Common.{refl}
 use Rattle.std.proofs.Common.{sym, ap, ◌∙◌, arith, Option, Some, None, unwrap_or, slice_get}
 use Rattle.std.proofs.Common.{true≢false}
 use Rattle.std.proofs.lemmas.Bool.{eqb-false, ne_eqb, and_left, not-true}
@@ -13,13 +14,15 @@ use Rattle.naga_info.specs.declared.info.TypeResolution.TheVariants.{Handle}
 use Rattle.module_meaning.specs.AlikeTypes.{type_key, type_identity}
 use Rattle.module_meaning.specs.TypeIdentity.{identity, identity_at, identity_code, inner_code}
 use Rattle.module_meaning.specs.TypeIdentity.{StructAt, Itself}
-use Rattle.module_meaning.proofs.AlikeTypes.{begins_plain, key_plain, formless_at}
+use Rattle.module_meaning.proofs.AlikeTypes.{begins_plain, key_plain, unsupported_at}
 use Rattle.naga_acceptance.specs.declared.type_numbers.Level.{Level}
-use Rattle.naga_acceptance.specs.declared.alike.Identity.TheVariants.{Formed, Formless}
+use Rattle.naga_acceptance.specs.declared.alike.Identity.TheVariants.{Formed, Unsupported}
 use Rattle.naga_acceptance.specs.declared.alike.Over.{Over}
-use Rattle.naga_acceptance.specs.declared.alike.Over.TheVariants.{Nothing, Type_ as TypeAt, Value as ValueOver}
+use Rattle.naga_acceptance.specs.declared.alike.Over.TheVariants.{Nothing, Type_ as TypeAt}
+use Rattle.naga_acceptance.specs.declared.alike.Over.TheVariants.{Value as ValueOver}
 use Rattle.naga_acceptance.specs.declared.alike.Top.{Top}
-use Rattle.naga_acceptance.specs.Views.{numbers, over_key, top_key, next_key, rank, formless_code}
+use Rattle.naga_acceptance.specs.Views.{numbers, over_key, top_key, next_key, rank}
+use Rattle.naga_acceptance.specs.Views.{unsupported_code}
 use Rattle.naga_acceptance.specs.Views.{is_whole, identity_numbers}
 
 -- ---- levels
@@ -37,22 +40,22 @@ levels_then l m xs ys =
     six (nat_eq l.tag m.tag) (nat_eq l.first m.first) (nat_eq l.second m.second) (nat_eq l.third m.third) (nat_eq l.fourth m.fourth) (nat_eq l.fifth m.fifth) (bytes_eq xs ys)
 
 -- the numbers after a level, where there are some
-abbrev pub behind : Level → Option (List ℕ) → Option (List ℕ)
-behind l o = option_map (λ rest. numbers l ++ rest) o
+abbrev pub following : Level → Option (List ℕ) → Option (List ℕ)
+following l o = option_map (λ rest. numbers l ++ rest) o
 
 rests : (l m : Level) (p q : Option (List ℕ)) → is_some p ≡ true → is_some q ≡ true →
-    bytes_eq (unwrap_or (behind l p) []) (unwrap_or (behind m q) []) ≡ bytes_eq (numbers l) (numbers m) && bytes_eq (unwrap_or p []) (unwrap_or q [])
+    bytes_eq (unwrap_or (following l p) []) (unwrap_or (following m q) []) ≡ bytes_eq (numbers l) (numbers m) && bytes_eq (unwrap_or p []) (unwrap_or q [])
 rests l m None q x y = absurd (true≢false (sym x))
 rests l m (Some xs) None x y = absurd (true≢false (sym y))
 rests l m (Some xs) (Some ys) x y = levels_then l m xs ys
 
-behind_some : (l : Level) (o : Option (List ℕ)) → is_some (behind l o) ≡ true → is_some o ≡ true
-behind_some l None e = e
-behind_some l (Some xs) e = refl
+following_some : (l : Level) (o : Option (List ℕ)) → is_some (following l o) ≡ true → is_some o ≡ true
+following_some l None e = e
+following_some l (Some xs) e = refl
 
 -- ---- what a type is over
 module _ (types : List Type_) where
-  pub over_is : (o : Over) (x : Top) → suc (rank x.over) ≤ rank o → next_key o (top_key types (Some x)) ≡ over_key types o → over_key types o ≡ behind x.level (over_key types x.over)
+  pub over_is : (o : Over) (x : Top) → suc (rank x.over) ≤ rank o → next_key o (top_key types (Some x)) ≡ over_key types o → over_key types o ≡ following x.level (over_key types x.over)
   over_is Nothing x less e = absurd (omega (arith, less))
   over_is (TypeAt h d) x less e = sym e
   over_is (ValueOver n s) x less e = sym e
@@ -65,7 +68,7 @@ module _ (types : List Type_) where
   pub over_goes_on : (o : Over) (x : Top) → suc (rank x.over) ≤ rank o →
       next_key o (top_key types (Some x)) ≡ over_key types o → is_some (over_key types o) ≡ true →
       is_some (over_key types x.over) ≡ true
-  over_goes_on o x less e some = behind_some x.level (over_key types x.over) (ap is_some (sym (over_is o x less e)) ∙ some)
+  over_goes_on o x less e some = following_some x.level (over_key types x.over) (ap is_some (sym (over_is o x less e)) ∙ some)
 
   -- two that go on are the same where their levels are and what is after
   pub both_go_on : (o p : Over) (x y : Top) → suc (rank x.over) ≤ rank o → next_key o (top_key types (Some x)) ≡ over_key types o →
@@ -75,15 +78,15 @@ module _ (types : List Type_) where
       ≡ bytes_eq (numbers x.level) (numbers y.level) && bytes_eq (unwrap_or (over_key types x.over) []) (unwrap_or (over_key types y.over) [])
   both_go_on o p x y lx ex ly ey so sp =
       ap (λ w. bytes_eq (unwrap_or w []) (unwrap_or (over_key types p) [])) (over_is o x lx ex)
-      ∙ (ap (λ w. bytes_eq (unwrap_or (behind x.level (over_key types x.over)) []) (unwrap_or w [])) (over_is p y ly ey)
+      ∙ (ap (λ w. bytes_eq (unwrap_or (following x.level (over_key types x.over)) []) (unwrap_or w [])) (over_is p y ly ey)
       ∙ rests x.level y.level (over_key types x.over) (over_key types y.over) (over_goes_on o x lx ex so) (over_goes_on p y ly ey sp))
 
   -- one that goes on is not the same as one that ends
-  goes_on_apart : (l : Level) (o : Option (List ℕ)) → is_some o ≡ true → bytes_eq (unwrap_or (behind l o) []) [] ≡ false
+  goes_on_apart : (l : Level) (o : Option (List ℕ)) → is_some o ≡ true → bytes_eq (unwrap_or (following l o) []) [] ≡ false
   goes_on_apart l None e = absurd (true≢false (sym e))
   goes_on_apart l (Some xs) e = refl
 
-  ends_apart : (l : Level) (o : Option (List ℕ)) → is_some o ≡ true → bytes_eq [] (unwrap_or (behind l o) []) ≡ false
+  ends_apart : (l : Level) (o : Option (List ℕ)) → is_some o ≡ true → bytes_eq [] (unwrap_or (following l o) []) ≡ false
   ends_apart l None e = absurd (true≢false (sym e))
   ends_apart l (Some xs) e = refl
 
@@ -115,23 +118,23 @@ module _ (types : List Type_) where
   pub formed_identity : (r : TypeResolution) (x : Top) → top_key types (Some x) ≡ type_key types r → is_some (over_key types x.over) ≡ true → identity_numbers types (Formed x) ≡ type_identity types r
   formed_identity r x e some = by (type_key types r) (over_key types x.over) (sym e) some _
     where
-      by : (s p : Option (List ℕ)) → s ≡ behind x.level p → is_some p ≡ true → (u : List ℕ) → unwrap_or (behind x.level p) [] ≡ unwrap_or s u
+      by : (s p : Option (List ℕ)) → s ≡ following x.level p → is_some p ≡ true → (u : List ℕ) → unwrap_or (following x.level p) [] ≡ unwrap_or s u
       by s None es sp u = absurd (true≢false (sym sp))
       by s (Some xs) es sp u = sym (ap (λ o. unwrap_or o u) es)
 
   pub distinguished_by : (r : TypeResolution) → type_key types r ≡ None → type_identity types r ≡ 32 ∷ identity_code (identity types r)
   distinguished_by r none = ap (λ o. unwrap_or o (32 ∷ identity_code (identity types r))) none
 
-  pub formless_is : (r : TypeResolution) (l : Option Level) → type_key types r ≡ None →
-      formless_code (option_map numbers l) ≡ identity_code (identity types r) →
-      identity_numbers types (Formless l) ≡ type_identity types r
-  formless_is r l none same = ap (λ w. 32 ∷ w) same ∙ sym (distinguished_by r none)
+  pub unsupported_is : (r : TypeResolution) (l : Option Level) → type_key types r ≡ None →
+      unsupported_code (option_map numbers l) ≡ identity_code (identity types r) →
+      identity_numbers types (Unsupported l) ≡ type_identity types r
+  unsupported_is r l none same = ap (λ w. 32 ∷ w) same ∙ sym (distinguished_by r none)
 
   -- a type with a form is told apart from those without
   pub formed_whole : (r : TypeResolution) (x : Top) → top_key types (Some x) ≡ type_key types r → is_some (over_key types x.over) ≡ true → is_whole types (Formed x) ≡ true
   formed_whole r x e some = by (over_key types x.over) some (ap begins_plain e ∙ key_plain types r)
     where
-      by : (p : Option (List ℕ)) → is_some p ≡ true → begins_plain (behind x.level p) ≡ true → is_some p && not (nat_eq x.level.tag 32) ≡ true
+      by : (p : Option (List ℕ)) → is_some p ≡ true → begins_plain (following x.level p) ≡ true → is_some p && not (nat_eq x.level.tag 32) ≡ true
       by None sp plain = absurd (true≢false (sym sp))
       by (Some xs) sp plain = plain
 
@@ -141,29 +144,29 @@ module _ (types : List Type_) where
       (unwrap_or (over_key types y.over) [])
   both_formed x y sx sy = rests x.level y.level (over_key types x.over) (over_key types y.over) sx sy
 
-  blank_apart : (l : Level) (p : Option (List ℕ)) (v : List ℕ) → is_some p && not (nat_eq l.tag 32) ≡ true → bytes_eq (unwrap_or (behind l p) []) (32 ∷ v) ≡ false
+  blank_apart : (l : Level) (p : Option (List ℕ)) (v : List ℕ) → is_some p && not (nat_eq l.tag 32) ≡ true → bytes_eq (unwrap_or (following l p) []) (32 ∷ v) ≡ false
   blank_apart l None v whole = absurd (true≢false (sym whole))
   blank_apart l (Some xs) v whole = and_left (nat_eq l.tag 32) _ (not-true (nat_eq l.tag 32) whole)
 
-  apart_blank : (l : Level) (p : Option (List ℕ)) (v : List ℕ) → is_some p && not (nat_eq l.tag 32) ≡ true → bytes_eq (32 ∷ v) (unwrap_or (behind l p) []) ≡ false
+  apart_blank : (l : Level) (p : Option (List ℕ)) (v : List ℕ) → is_some p && not (nat_eq l.tag 32) ≡ true → bytes_eq (32 ∷ v) (unwrap_or (following l p) []) ≡ false
   apart_blank l None v whole = absurd (true≢false (sym whole))
   apart_blank l (Some xs) v whole = and_left (nat_eq 32 l.tag) _ (ne_eqb 32 l.tag (λ e. eqb-false l.tag 32 (not-true (nat_eq l.tag 32) whole) (sym e)))
 
-  pub formed_apart : (x : Top) (l : Option Level) → is_whole types (Formed x) ≡ true → bytes_eq (identity_numbers types (Formed x)) (identity_numbers types (Formless l)) ≡ false
-  formed_apart x l whole = blank_apart x.level (over_key types x.over) (formless_code (option_map numbers l)) whole
+  pub formed_apart : (x : Top) (l : Option Level) → is_whole types (Formed x) ≡ true → bytes_eq (identity_numbers types (Formed x)) (identity_numbers types (Unsupported l)) ≡ false
+  formed_apart x l whole = blank_apart x.level (over_key types x.over) (unsupported_code (option_map numbers l)) whole
 
-  pub formless_apart : (l : Option Level) (x : Top) → is_whole types (Formed x) ≡ true → bytes_eq (identity_numbers types (Formless l)) (identity_numbers types (Formed x)) ≡ false
-  formless_apart l x whole = apart_blank x.level (over_key types x.over) (formless_code (option_map numbers l)) whole
+  pub unsupported_apart : (l : Option Level) (x : Top) → is_whole types (Formed x) ≡ true → bytes_eq (identity_numbers types (Unsupported l)) (identity_numbers types (Formed x)) ≡ false
+  unsupported_apart l x whole = apart_blank x.level (over_key types x.over) (unsupported_code (option_map numbers l)) whole
 
   -- ---- what tells a type without a form
-  pub formless_identity : (h : ℕ) (t : Type_) (l : Level) → slice_get types h ≡ Some t →
+  pub unsupported_identity : (h : ℕ) (t : Type_) (l : Level) → slice_get types h ≡ Some t →
       numbers l ≡ inner_code t.inner → type_key types (Handle h) ≡ None →
-      formless_code (Some (numbers l)) ≡ identity_code (identity types (Handle h))
-  formless_identity h t l is code none =
+      unsupported_code (Some (numbers l)) ≡ identity_code (identity types (Handle h))
+  unsupported_identity h t l is code none =
       ap (λ c. 2 ∷ c) code
-      ∙ (ap (λ b. identity_code (if b then StructAt h else Itself t.inner)) (sym (formless_at types h t is none))
+      ∙ (ap (λ b. identity_code (if b then StructAt h else Itself t.inner)) (sym (unsupported_at types h t is none))
       ∙ ap (λ o. identity_code (identity_at h (option_map (λ t. t.inner) o))) (sym is))
 
-  pub nothing_reported : (h : ℕ) → slice_get types h ≡ None → formless_code None ≡ identity_code (identity types (Handle h))
+  pub nothing_reported : (h : ℕ) → slice_get types h ≡ None → unsupported_code None ≡ identity_code (identity types (Handle h))
   nothing_reported h is = ap (λ o. identity_code (identity_at h (option_map (λ t. t.inner) o)))
       (sym is)

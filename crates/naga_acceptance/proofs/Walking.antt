@@ -17,7 +17,7 @@ use Rattle.naga_ir.specs.declared.module.Module.{Module}
 use Rattle.naga_ir.specs.declared.statement.Statement.{Statement}
 use Rattle.naga_ir.specs.declared.statement.SwitchCase.{SwitchCase}
 use Rattle.naga_info.specs.declared.info.TypeResolution.{TypeResolution}
-use Rattle.module_meaning.specs.acceptance.Numbers.{label_fits_32_bits}
+use Rattle.module_meaning.specs.acceptance.Numbers.{case_value_fits_32_bits}
 use Rattle.module_meaning.specs.acceptance.Ranges.{block_in_range, cases_in_range, is_below}
 use Rattle.module_meaning.specs.acceptance.Ranges.{statement_in_range}
 use Rattle.module_meaning.specs.acceptance.StatementsFit.{block_is_sound, body_is_sound}
@@ -25,7 +25,7 @@ use Rattle.module_meaning.specs.acceptance.StatementsFit.{cases_are_sound}
 use Rattle.module_meaning.specs.acceptance.StatementsFit.{is_condition, statement_is_sound}
 use Rattle.std.proofs.lemmas.List.{drop_more}
 use Rattle.naga_acceptance.specs.TextOrder.{PlacedStatement, case_statements, is_in_range, is_sound}
-use Rattle.naga_acceptance.specs.TextOrder.{labels_fit_32_bits, numbered, own_in_range}
+use Rattle.naga_acceptance.specs.TextOrder.{case_values_fit_32_bits, numbered, own_in_range}
 use Rattle.naga_acceptance.specs.TextOrder.{own_is_sound, statements_in}
 use Rattle.naga_acceptance.specs.TextOrder.{statements_inside, text_order}
 
@@ -90,11 +90,11 @@ last_first true false false = refl
 last_first false b true = refl
 last_first false b false = refl
 
-labels_first : (a b c d : Bool) → a && (b && (c && d)) ≡ (a && c) && (b && d)
-labels_first true true c d = refl
-labels_first true false true d = refl
-labels_first true false false d = refl
-labels_first false b c d = refl
+case_values_first : (a b c d : Bool) → a && (b && (c && d)) ≡ (a && c) && (b && d)
+case_values_first true true c d = refl
+case_values_first true false true d = refl
+case_values_first true false false d = refl
+case_values_first false b c d = refl
 
 both : {a b c d : Bool} → a ≡ b → c ≡ d → a && c ≡ b && d
 both p q i = p i && q i
@@ -119,7 +119,7 @@ module _ (callees expressions : ℕ) where
         (block_range breaks continues reject))
     statement_range breaks continues (switch selector cs) =
         both refl (cases_range true continues cs)
-        ∙ sym (regroup (nat_lt selector expressions) (labels_fit_32_bits cs) (list_all (is_in_range callees expressions) (case_statements true continues cs)))
+        ∙ sym (regroup (nat_lt selector expressions) (case_values_fit_32_bits cs) (list_all (is_in_range callees expressions) (case_statements true continues cs)))
     statement_range breaks continues (loop body continuing break_if) =
         last_first (block_in_range callees expressions body) (block_in_range callees expressions continuing) (is_below expressions break_if)
         ∙ both refl (joined (is_in_range callees expressions) (statements_in true true body) (statements_in false false continuing) (block_range true true body) (block_range false false continuing))
@@ -133,16 +133,16 @@ module _ (callees expressions : ℕ) where
         (list_all (is_in_range callees expressions) (statements_in breaks continues b))
         ∙ both refl (sym (list_all-append (is_in_range callees expressions) (statements_inside breaks continues s) (statements_in breaks continues b))))
 
-    -- the labels of all cases, and then the statements of all
+    -- the values of all cases, and then the statements of all
     cases_range : (breaks continues : Bool) (cs : CaseTrees) →
-        cases_in_range callees expressions cs ≡ labels_fit_32_bits cs && list_all
+        cases_in_range callees expressions cs ≡ case_values_fit_32_bits cs && list_all
         (is_in_range callees expressions) (case_statements breaks continues cs)
     cases_range breaks continues no_cases = refl
     cases_range breaks continues (case v b falls cs) =
         both refl (both (block_range breaks continues b) (cases_range breaks continues cs))
-        ∙ (labels_first (label_fits_32_bits v)
+        ∙ (case_values_first (case_value_fits_32_bits v)
         (list_all (is_in_range callees expressions) (statements_in breaks continues b))
-        (labels_fit_32_bits cs)
+        (case_values_fit_32_bits cs)
         (list_all (is_in_range callees expressions) (case_statements breaks continues cs))
         ∙ both refl (sym (list_all-append (is_in_range callees expressions) (statements_in breaks continues b) (case_statements breaks continues cs))))
 

@@ -7,8 +7,8 @@ use Rattle.naga_acceptance.specs.declared.faults.Fault.{Fault}
 use Rattle.naga_acceptance.specs.declared.faults.Fault.TheVariants as fault
 use Rattle.naga_acceptance.specs.declared.faults.Item.{Item}
 use Rattle.naga_acceptance.specs.declared.faults.Item.TheVariants as item
-use Rattle.naga_acceptance.specs.declared.faults.FunctionPlace.{FunctionPlace}
-use Rattle.naga_acceptance.specs.declared.faults.FunctionPlace.TheVariants as part
+use Rattle.naga_acceptance.specs.declared.faults.FunctionPosition.{FunctionPosition}
+use Rattle.naga_acceptance.specs.declared.faults.FunctionPosition.TheVariants as part
 use Rattle.naga_acceptance.specs.declared.faults.Unaccepted.{Unaccepted}
 
 -- a kind of fault
@@ -32,7 +32,7 @@ fault_text fault.Unsatisfied = codes "the statement does not get what it wants"
 fault_text fault.Disagreement = codes "the operator does not agree with an earlier one"
 
 -- a part of a function, after the function, as `, expression 41`; nothing of the whole
-abbrev pub part_text : FunctionPlace → List ℕ
+abbrev pub part_text : FunctionPosition → List ℕ
 part_text part.Whole = []
 part_text (part.Local h) = codes ", local " ++ decimal h
 part_text (part.Expression h) = codes ", expression " ++ decimal h

@@ -25,8 +25,8 @@ use Rattle.naga_acceptance.specs.declared.faults.Fault.{Fault}
 use Rattle.naga_acceptance.specs.declared.faults.Fault.TheVariants as fault
 use Rattle.naga_acceptance.specs.declared.faults.Item.{Item}
 use Rattle.naga_acceptance.specs.declared.faults.Item.TheVariants as item
-use Rattle.naga_acceptance.specs.declared.faults.FunctionPlace.{FunctionPlace}
-use Rattle.naga_acceptance.specs.declared.faults.FunctionPlace.TheVariants as part
+use Rattle.naga_acceptance.specs.declared.faults.FunctionPosition.{FunctionPosition}
+use Rattle.naga_acceptance.specs.declared.faults.FunctionPosition.TheVariants as part
 use Rattle.naga_acceptance.specs.declared.faults.Unaccepted.{Unaccepted}
 use Rattle.module_meaning.specs.acceptance.AgreeingOperators.{Group, groups_of}
 use Rattle.module_meaning.specs.acceptance.ExpressionTypes.{has_its_type}
@@ -126,22 +126,22 @@ WholeFails m f known fault.NamedExpressions = names_fit f ≡ false
 WholeFails m f known _ = ⊥
 
 -- a function's part fails
-abbrev pub FunctionPlaceFails :
-    Module → (callees : ℕ) → Function → (known : List TypeResolution) → FunctionPlace → Fault →
+abbrev pub FunctionPositionFails :
+    Module → (callees : ℕ) → Function → (known : List TypeResolution) → FunctionPosition → Fault →
     Type 0
-FunctionPlaceFails m callees f known part.Whole fault = WholeFails m f known fault
-FunctionPlaceFails m callees f known (part.Local h) fault = LocalFails m f known h fault
-FunctionPlaceFails m callees f known (part.Expression h) fault =
+FunctionPositionFails m callees f known part.Whole fault = WholeFails m f known fault
+FunctionPositionFails m callees f known (part.Local h) fault = LocalFails m f known h fault
+FunctionPositionFails m callees f known (part.Expression h) fault =
     ExpressionFails m f known h fault
-FunctionPlaceFails m callees f known (part.Statement n) fault =
+FunctionPositionFails m callees f known (part.Statement n) fault =
     StatementFails m callees f known n fault
 
 -- an entry point's part fails, or what it names beside its function is not there
-abbrev pub EntryPlaceFails :
-    Module → EntryPoint → (known : List TypeResolution) → FunctionPlace → Fault → Type 0
-EntryPlaceFails m p known part.Whole fault.Names = entry_names_fit m p ≡ false
-EntryPlaceFails m p known part fault =
-    FunctionPlaceFails m (length m.functions) p.function known part fault
+abbrev pub EntryPositionFails :
+    Module → EntryPoint → (known : List TypeResolution) → FunctionPosition → Fault → Type 0
+EntryPositionFails m p known part.Whole fault.Names = entry_names_fit m p ≡ false
+EntryPositionFails m p known part fault =
+    FunctionPositionFails m (length m.functions) p.function known part fault
 
 -- ---- operators
 
@@ -220,15 +220,15 @@ GlobalExpressionFails m info h fault.OperandTypes =
     Unfit (operands_fit m.types info.const_expression_types.items) m.global_expressions h
 GlobalExpressionFails m info h _ = ⊥
 
-abbrev pub FunctionFails : Module → ModuleInfo → (h : ℕ) → FunctionPlace → Fault → Type 0
+abbrev pub FunctionFails : Module → ModuleInfo → (h : ℕ) → FunctionPosition → Fault → Type 0
 FunctionFails m info h part fault =
     (f : Function) × (slice_get m.functions h ≡ Some f)
-    × FunctionPlaceFails m h f (known_of info.functions.items h) part fault
+    × FunctionPositionFails m h f (known_of info.functions.items h) part fault
 
-abbrev pub EntryPointFails : Module → ModuleInfo → (h : ℕ) → FunctionPlace → Fault → Type 0
+abbrev pub EntryPointFails : Module → ModuleInfo → (h : ℕ) → FunctionPosition → Fault → Type 0
 EntryPointFails m info h part fault =
     (p : EntryPoint) × (slice_get m.entry_points.items h ≡ Some p)
-    × EntryPlaceFails m p (known_of info.entry_points.items h) part fault
+    × EntryPositionFails m p (known_of info.entry_points.items h) part fault
 
 -- an item fails, of a fault that is no disagreement of operators
 abbrev pub ItemFails : Module → ModuleInfo → Item → Fault → Type 0

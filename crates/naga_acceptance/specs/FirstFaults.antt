@@ -28,8 +28,8 @@ use Rattle.naga_acceptance.specs.declared.faults.Fault.{Fault}
 use Rattle.naga_acceptance.specs.declared.faults.Fault.TheVariants as fault
 use Rattle.naga_acceptance.specs.declared.faults.Item.{Item}
 use Rattle.naga_acceptance.specs.declared.faults.Item.TheVariants as item
-use Rattle.naga_acceptance.specs.declared.faults.FunctionPlace.{FunctionPlace}
-use Rattle.naga_acceptance.specs.declared.faults.FunctionPlace.TheVariants as part
+use Rattle.naga_acceptance.specs.declared.faults.FunctionPosition.{FunctionPosition}
+use Rattle.naga_acceptance.specs.declared.faults.FunctionPosition.TheVariants as part
 use Rattle.naga_acceptance.specs.declared.faults.Unaccepted.{Unaccepted}
 use Rattle.module_meaning.specs.acceptance.ExpressionTypes.{has_its_type}
 use Rattle.module_meaning.specs.acceptance.InfoSizes.{entry_point_size_fits, function_size_fits}
@@ -50,14 +50,14 @@ abbrev pub at : Item → Fault → Unaccepted
 at place kind = record { item = place; fault = kind }
 
 -- a fault of a part of the function, or of the entry point, with this handle
-abbrev pub at_function : (h : ℕ) → FunctionPlace × Fault → Unaccepted
+abbrev pub at_function : (h : ℕ) → FunctionPosition × Fault → Unaccepted
 at_function h found = at (item.Function h found.0) found.1
 
-abbrev pub at_entry_point : (h : ℕ) → FunctionPlace × Fault → Unaccepted
+abbrev pub at_entry_point : (h : ℕ) → FunctionPosition × Fault → Unaccepted
 at_entry_point h found = at (item.EntryPoint h found.0) found.1
 
 -- a fault of an expression of a function
-abbrev pub at_expression : ℕ × Fault → FunctionPlace × Fault
+abbrev pub at_expression : ℕ × Fault → FunctionPosition × Fault
 at_expression found = (part.Expression found.0, found.1)
 
 -- ---- what is named
@@ -78,7 +78,8 @@ global_expression_range_fault m h e =
     option_or (expression_range_fault m 0 0 h e)
     (unless (initialiser_before m h e) fault.LaterInitialiser None)
 
-abbrev pub function_range_fault : Module → (callees : ℕ) → Function → Option (FunctionPlace × Fault)
+abbrev pub function_range_fault : Module → (callees : ℕ) → Function →
+    Option (FunctionPosition × Fault)
 function_range_fault m callees f =
     unless (signature_fits (length m.types) f) (part.Whole, fault.Signature)
     (unless (names_fit f) (part.Whole, fault.NamedExpressions)
@@ -92,7 +93,7 @@ function_range_fault m callees f =
     (option_map (λ n. (part.Statement n, fault.Names))
     (result_err (numbered (is_in_range callees (length f.expressions)) 0 (text_order f.body)))))))
 
-abbrev pub entry_point_range_fault : Module → EntryPoint → Option (FunctionPlace × Fault)
+abbrev pub entry_point_range_fault : Module → EntryPoint → Option (FunctionPosition × Fault)
 entry_point_range_fault m p =
     unless (entry_names_fit m p) (part.Whole, fault.Names)
     (function_range_fault m (length m.functions) p.function)
@@ -168,12 +169,12 @@ first_unknown overrides types ks =
 
 -- the same among several functions
 abbrev pub known_fault :
-    (overrides types : ℕ) → (h : ℕ) → List ExpressionInfo → Option (FunctionPlace × Fault)
+    (overrides types : ℕ) → (h : ℕ) → List ExpressionInfo → Option (FunctionPosition × Fault)
 known_fault overrides types h ks =
     option_map (λ e. (part.Expression e, fault.KnownType)) (first_unknown overrides types ks)
 
 abbrev pub first_known_fault :
-    (overrides types : ℕ) → List (List ExpressionInfo) → Option (ℕ × (FunctionPlace × Fault))
+    (overrides types : ℕ) → List (List ExpressionInfo) → Option (ℕ × (FunctionPosition × Fault))
 first_known_fault overrides types kss =
     first_faulty (known_fault overrides types) (enumerate_from 0 kss)
 
@@ -208,7 +209,7 @@ expressions_sound_fault m f known es =
     first_faulty (expression_sound_fault m f known) (enumerate_from 0 es)
 
 abbrev pub function_sound_fault :
-    Module → Function → (known : List TypeResolution) → Option (FunctionPlace × Fault)
+    Module → Function → (known : List TypeResolution) → Option (FunctionPosition × Fault)
 function_sound_fault m f known =
     option_or (option_map at_expression (expressions_sound_fault m (Some f) known f.expressions))
     (option_or (option_map (λ h. (part.Local h, fault.InitialiserType))

@@ -3,7 +3,7 @@ pub mod FaultTexts
 pub mod Faults
 pub mod FirstFaults
 pub mod KnownTypes
-pub mod Labels
+pub mod CaseValues
 pub mod OperatorKeys
 pub mod Searching
 pub mod TextOrder

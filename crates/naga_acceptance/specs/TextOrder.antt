@@ -18,7 +18,7 @@ use Rattle.naga_info.specs.declared.info.TypeResolution.{TypeResolution}
 use Rattle.naga_acceptance.specs.KnownTypes.{known_types}
 use Rattle.naga_acceptance.specs.declared.walk.Demand.{Demand}
 use Rattle.naga_acceptance.specs.declared.walk.Demand.TheVariants as demand
-use Rattle.module_meaning.specs.acceptance.Numbers.{label_fits_32_bits}
+use Rattle.module_meaning.specs.acceptance.Numbers.{case_value_fits_32_bits}
 use Rattle.module_meaning.specs.acceptance.Ranges.{is_below, simple_in_range}
 use Rattle.module_meaning.specs.acceptance.StatementsFit.{is_condition, is_selection}
 use Rattle.module_meaning.specs.acceptance.StatementsFit.{simple_is_sound}
@@ -57,18 +57,19 @@ text_order b = statements_in false false b
 
 -- ---- what is asked of a statement by itself
 
--- each label of a switch has 32 bits
-abbrev pub labels_fit_32_bits : CaseTrees → Bool
-labels_fit_32_bits no_cases = true
-labels_fit_32_bits (case v b falls cs) = label_fits_32_bits v && labels_fit_32_bits cs
+-- each case value of a switch has 32 bits
+abbrev pub case_values_fit_32_bits : CaseTrees → Bool
+case_values_fit_32_bits no_cases = true
+case_values_fit_32_bits (case v b falls cs) =
+    case_value_fits_32_bits v && case_values_fit_32_bits cs
 
--- what it names is there, and its labels have 32 bits
+-- what it names is there, and its case values have 32 bits
 abbrev pub own_in_range : (callees expressions : ℕ) → StatementTree → Bool
 own_in_range callees expressions (simple s) = simple_in_range callees expressions s
 own_in_range callees expressions (block b) = true
 own_in_range callees expressions (branch condition accept reject) = nat_lt condition expressions
 own_in_range callees expressions (switch selector cs) =
-    nat_lt selector expressions && labels_fit_32_bits cs
+    nat_lt selector expressions && case_values_fit_32_bits cs
 own_in_range callees expressions (loop body continuing break_if) = is_below expressions break_if
 
 -- it gets what it wants

@@ -22,7 +22,7 @@ use Rattle.naga_acceptance.specs.declared.agreeing.Probe.TheVariants.{Empty, See
 use Rattle.naga_acceptance.specs.declared.agreeing.Part.{Part}
 use Rattle.naga_acceptance.specs.declared.agreeing.Site.{Site}
 use Rattle.naga_acceptance.specs.declared.agreeing.TheConstants.{REMAINDERS}
-use Rattle.naga_acceptance.specs.declared.agreeing.UsePlace.{UsePlace}
+use Rattle.naga_acceptance.specs.declared.agreeing.UsePosition.{UsePosition}
 use Rattle.naga_acceptance.specs.declared.uses.Use.{Use}
 use Rattle.module_meaning.specs.acceptance.AgreeingOperators.{Group, expression_use, identity_at}
 use Rattle.module_meaning.specs.acceptance.AgreeingOperators.{uses_of}
@@ -190,19 +190,19 @@ DisagreesFirst types gs test number index =
 
 -- So does the use at a place; or all that pass the test agree, where there is none.
 abbrev pub IsFirstDisagreement :
-    List Type_ → List Group → (test : Operation → Bool) → Option UsePlace → Type 0
+    List Type_ → List Group → (test : Operation → Bool) → Option UsePosition → Type 0
 IsFirstDisagreement types gs test None =
     all_agree (filter test (group_uses types gs (length gs))) ≡ true
 IsFirstDisagreement types gs test (Some place) =
     DisagreesFirst types gs test place.group place.index
 
-abbrev pub stands_before : UsePlace → UsePlace → Bool
+abbrev pub stands_before : UsePosition → UsePosition → Bool
 stands_before place other =
     nat_lt place.group other.group
     || (place.group == other.group && nat_lt place.index other.index)
 
 -- the one of two places that stands before the other, where there are both
-abbrev pub earlier : Option UsePlace → Option UsePlace → Option UsePlace
+abbrev pub earlier : Option UsePosition → Option UsePosition → Option UsePosition
 earlier None other = other
 earlier (Some place) None = Some place
 earlier (Some place) (Some other) = if stands_before place other then Some place else Some other

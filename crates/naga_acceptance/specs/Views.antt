@@ -13,7 +13,7 @@ use Rattle.naga_acceptance.specs.declared.alike.Over.TheVariants.{Nothing, Type_
 use Rattle.naga_acceptance.specs.declared.alike.Over.TheVariants.{Value as ValueOver}
 use Rattle.naga_acceptance.specs.declared.alike.Top.{Top}
 use Rattle.naga_acceptance.specs.declared.alike.Identity.{Identity}
-use Rattle.naga_acceptance.specs.declared.alike.Identity.TheVariants.{Formed, Formless}
+use Rattle.naga_acceptance.specs.declared.alike.Identity.TheVariants.{Formed, Unsupported}
 use Rattle.module_meaning.specs.AlikeTypes.{key_within, handle_key, value_key}
 use Rattle.module_meaning.specs.TypeIdentity.{level}
 
@@ -53,16 +53,16 @@ next_key Nothing form = Some []
 next_key over form = form
 
 -- the numbers of a type without a form, if there is such a type
-abbrev pub formless_code : Option (List ℕ) → List ℕ
-formless_code None = 0 ∷ []
-formless_code (Some code) = 2 ∷ code
+abbrev pub unsupported_code : Option (List ℕ) → List ℕ
+unsupported_code None = 0 ∷ []
+unsupported_code (Some code) = 2 ∷ code
 
 -- what tells a type: its form, or what it is
 abbrev pub identity_numbers : List Type_ → Identity → List ℕ
 identity_numbers types (Formed top) = unwrap_or (top_key types (Some top)) []
-identity_numbers types (Formless level) = 32 ∷ formless_code (option_map numbers level)
+identity_numbers types (Unsupported level) = 32 ∷ unsupported_code (option_map numbers level)
 
 -- what it is over has a form, and it is told apart from what has none
 abbrev pub is_whole : List Type_ → Identity → Bool
 is_whole types (Formed top) = is_some (over_key types top.over) && not (nat_eq top.level.tag 32)
-is_whole types (Formless level) = true
+is_whole types (Unsupported level) = true

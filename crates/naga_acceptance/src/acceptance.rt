@@ -64,8 +64,8 @@ pub fn unaccepted(module: &Module, info: &ModuleInfo) -> Option<Unaccepted>
 /// handle; a type without a form is alike only to itself. The counts are not looked at.
 ///
 /// It takes no memory and answers whatever numbers a module holds. Time grows with the module;
-/// labels of a switch that don't ascend, the default after all, are sorted, 4,096 at a time, and
-/// all later ones are looked for among each 4,096; where there are more than 509 operators, all
+/// case values of a switch that don't ascend, the default after all, are sorted, 4,096 at a time,
+/// and all later ones are looked for among each 4,096; where there are more than 509 operators, all
 /// expressions are gone through once for some 270 of these.
 ///
 /// Each of its types is made of earlier ones, which is what `type_layout` asks of them. A module

@@ -25,11 +25,11 @@ ghost use Rattle.module_meaning.specs.acceptance.AgreeingOperators.{module_opera
 ghost use Rattle.module_meaning.specs.acceptance.AgreeingOperators.{uses_of};
 ghost use Rattle.module_meaning.specs.acceptance.Operations.{all_agree};
 
-use crate::faults::{Fault, FunctionPlace, Item, Unaccepted, at};
+use crate::faults::{Fault, FunctionPosition, Item, Unaccepted, at};
 use crate::parts::Known;
 use crate::uses::{Use, expression_use, has_same_answer, hash_of, is_same_operator};
 use naga_info::{FunctionInfo, ModuleInfo};
-use naga_ir::{Arena, Expression, Function, Module, Place, Type_, UniqueArena};
+use naga_ir::{Arena, Expression, Function, ItemIndex, Module, Type_, UniqueArena};
 
 /// Expressions that stand together, with their types.
 #[derive(Debug, Clone, Copy)]
@@ -56,7 +56,7 @@ pub(crate) struct Site {
 
 /// Where a use stands: in which group, and the number of its handle there.
 #[derive(Debug, Clone, Copy)]
-pub(crate) struct UsePlace {
+pub(crate) struct UsePosition {
     group: u128,
     index: usize,
 }
@@ -128,7 +128,10 @@ fn group_at<'a>(module: &'a Module, info: &'a ModuleInfo, number: u128) -> Optio
     let functions = module.functions.len().min(infos.len()) as u128;
     if number < functions {
         let index = number as usize;
-        Some(function_group(&module.functions[Place::from_index(index)], &infos[index]))
+        Some(function_group(
+            &module.functions[ItemIndex::from_index(index)],
+            &infos[index],
+        ))
     } else {
         further_group_at(module, info, number - functions)
     }
@@ -144,7 +147,7 @@ fn use_in<'a>(
         ≡ use_in types.now (group_of group.entry) index }
 {
     if index < group.arena.len() {
-        let here = Place::from_index(index);
+        let here = ItemIndex::from_index(index);
         expression_use(types, group.known, here, &group.arena[here])
     } else {
         None
@@ -273,7 +276,7 @@ fn earlier_answer(
 }
 
 /// The slot that is so many steps after one of so many, where the first stands after the last.
-fn slot_behind(slot: usize, steps: usize, slots: usize) -> usize
+fn slot_following(slot: usize, steps: usize, slots: usize) -> usize
     requires slot { slot < slots }
     requires steps { steps < slots }
     ensures slot { result ≡ (slot + steps) % slots }
@@ -305,7 +308,7 @@ fn probe_table(
 {
     let own = hash % slots;
     for steps in 0..slots {
-        let slot = slot_behind(own, steps, slots);
+        let slot = slot_following(own, steps, slots);
         let Some(site) = table[slot] else {
             return Probe::Empty(slot);
         };
@@ -424,7 +427,7 @@ fn part_disagreement(
     module: &Module,
     info: &ModuleInfo,
     part: Part,
-) -> Result<Option<UsePlace>, Crowded>
+) -> Result<Option<UsePosition>, Crowded>
     ensures found { IfOk result (IsFirstDisagreement «module».now.types
         (groups_of «module».now info.now) (is_in part)) }
     ensures crowded { OnErr result (part.first < part.last) }
@@ -434,7 +437,7 @@ fn part_disagreement(
     while let Some(group) = group_at(module, info, number) {
         let found = first_disagreeing(module, info, &mut table, SLOTS, part, number, group)?;
         if let Some(index) = found {
-            return Ok(Some(UsePlace {
+            return Ok(Some(UsePosition {
                 group: number,
                 index,
             }));
@@ -444,14 +447,14 @@ fn part_disagreement(
     Ok(None)
 }
 
-fn stands_before(place: UsePlace, other: UsePlace) -> bool
+fn stands_before(place: UsePosition, other: UsePosition) -> bool
     ensures { result ≡ stands_before place other }
 {
     place.group < other.group || (place.group == other.group && place.index < other.index)
 }
 
 /// The one of two uses that stands before the other, where there are both.
-fn earlier(found: Option<UsePlace>, other: Option<UsePlace>) -> Option<UsePlace>
+fn earlier(found: Option<UsePosition>, other: Option<UsePosition>) -> Option<UsePosition>
     ensures { result ≡ earlier found other }
 {
     let Some(place) = found else {
@@ -468,7 +471,7 @@ fn earlier(found: Option<UsePlace>, other: Option<UsePlace>) -> Option<UsePlace>
 }
 
 /// The same as [`part_disagreement`], half by half where the table has no room.
-fn first_disagreement(module: &Module, info: &ModuleInfo, part: Part) -> Option<UsePlace>
+fn first_disagreement(module: &Module, info: &ModuleInfo, part: Part) -> Option<UsePosition>
     ensures { IsFirstDisagreement «module».now.types (groups_of «module».now info.now) (is_in part)
         result }
 {
@@ -491,7 +494,7 @@ fn first_disagreement(module: &Module, info: &ModuleInfo, part: Part) -> Option<
 }
 
 /// The first use of an operator that does not agree with all that stand before it.
-fn disagreement(module: &Module, info: &ModuleInfo) -> Option<UsePlace>
+fn disagreement(module: &Module, info: &ModuleInfo) -> Option<UsePosition>
     ensures agree { is_none result ≡ module_operators_agree «module».now info.now }
     ensures fault { IfSome result
         (λ place. Disagrees «module».now info.now place.group place.index) }
@@ -509,14 +512,14 @@ fn use_item(module: &Module, number: u128, index: usize) -> Item
     ensures { site_of «module».now result ≡ Some (number, index) }
 {
     let functions = module.functions.len() as u128;
-    let expression = Place::from_index(index);
+    let expression = ItemIndex::from_index(index);
     if number < functions {
-        let handle = Place::from_index(number as usize);
-        return Item::Function(handle, FunctionPlace::Expression(expression));
+        let handle = ItemIndex::from_index(number as usize);
+        return Item::Function(handle, FunctionPosition::Expression(expression));
     }
     let further = number - functions;
     if further < module.entry_points.len() as u128 {
-        return Item::EntryPoint(further as usize, FunctionPlace::Expression(expression));
+        return Item::EntryPoint(further as usize, FunctionPosition::Expression(expression));
     }
     Item::GlobalExpression(expression)
 }

@@ -14,7 +14,7 @@ ghost use Rattle.module_meaning.specs.TypeIdentity.{identity, identity_code, ima
 ghost use Rattle.module_meaning.specs.TypeIdentity.{inner_code, length_kind, length_number, level};
 ghost use Rattle.module_meaning.specs.TypeIdentity.{space_number};
 ghost use Rattle.naga_acceptance.specs.KnownTypes.{inferred};
-ghost use Rattle.naga_acceptance.specs.Views.{bases, depth, formless_code, is_whole, next_key};
+ghost use Rattle.naga_acceptance.specs.Views.{bases, depth, unsupported_code, is_whole, next_key};
 ghost use Rattle.naga_acceptance.specs.Views.{numbers, over_key, rank, identity_numbers, top_key};
 ghost use Rattle.naga_acceptance.specs.declared.alike.Over.TheVariants.{Nothing};
 ghost use Rattle.naga_info.specs.declared.info.TypeResolution.TheVariants.{Handle};
@@ -64,7 +64,7 @@ pub(crate) enum Identity {
     /// Its form.
     Formed(Top),
     /// What it is, where WGSL has no form for it: the type by itself, or nothing.
-    Formless(Option<Level>),
+    Unsupported(Option<Level>),
 }
 
 /// Whether WGSL has a word for the scalar.
@@ -522,8 +522,8 @@ fn own_image_level(dim: ImageDimension, arrayed: bool, class: ImageClass) -> Lev
 }
 
 /// The numbers of a type of the module without a form, if there is such a type.
-fn formless_level_at(types: &UniqueArena<Type_>, handle: Handle<Type_>) -> Option<Level>
-    ensures { handle_key types.now handle ≡ None → formless_code (option_map numbers result)
+fn unsupported_level_at(types: &UniqueArena<Type_>, handle: Handle<Type_>) -> Option<Level>
+    ensures { handle_key types.now handle ≡ None → unsupported_code (option_map numbers result)
         ≡ identity_code (identity types.now (Handle handle)) }
 {
     if handle.index() < types.len() {
@@ -533,12 +533,12 @@ fn formless_level_at(types: &UniqueArena<Type_>, handle: Handle<Type_>) -> Optio
     }
 }
 
-fn resolution_formless_level(types: &UniqueArena<Type_>, ty: &TypeResolution) -> Option<Level>
-    ensures { type_key types.now ty.now ≡ None → formless_code (option_map numbers result)
+fn resolution_unsupported_level(types: &UniqueArena<Type_>, ty: &TypeResolution) -> Option<Level>
+    ensures { type_key types.now ty.now ≡ None → unsupported_code (option_map numbers result)
         ≡ identity_code (identity types.now ty.now) }
 {
     match ty {
-        TypeResolution::Handle(handle) => formless_level_at(types, *handle),
+        TypeResolution::Handle(handle) => unsupported_level_at(types, *handle),
         TypeResolution::Value(inner) => match inner {
             TypeInner::Struct { .. } => None,
             _ => Some(own_level(inner)),
@@ -546,13 +546,13 @@ fn resolution_formless_level(types: &UniqueArena<Type_>, ty: &TypeResolution) ->
     }
 }
 
-fn inferred_formless_level(types: &UniqueArena<Type_>, ty: &InferredType) -> Option<Level>
+fn inferred_unsupported_level(types: &UniqueArena<Type_>, ty: &InferredType) -> Option<Level>
     ensures { type_key types.now (inferred ty.now) ≡ None →
-        formless_code (option_map numbers result)
+        unsupported_code (option_map numbers result)
         ≡ identity_code (identity types.now (inferred ty.now)) }
 {
     match *ty {
-        InferredType::Handle(handle) => formless_level_at(types, handle),
+        InferredType::Handle(handle) => unsupported_level_at(types, handle),
         InferredType::Scalar(scalar) => Some(level_of_scalar(0, scalar, 0, 0, 0)),
         InferredType::Vector { size, scalar } => {
             Some(level_of_scalar(1, scalar, vector_number(size), 0, 0))
@@ -593,7 +593,7 @@ pub(crate) fn identity_of(types: &UniqueArena<Type_>, ty: &TypeResolution) -> Id
 {
     match formed(types, resolution_top(types, ty)) {
         Some(top) => Identity::Formed(top),
-        None => Identity::Formless(resolution_formless_level(types, ty)),
+        None => Identity::Unsupported(resolution_unsupported_level(types, ty)),
     }
 }
 
@@ -605,14 +605,14 @@ pub(crate) fn inferred_identity(types: &UniqueArena<Type_>, ty: &InferredType) -
 {
     match formed(types, inferred_top(types, ty)) {
         Some(top) => Identity::Formed(top),
-        None => Identity::Formless(inferred_formless_level(types, ty)),
+        None => Identity::Unsupported(inferred_unsupported_level(types, ty)),
     }
 }
 
 /// Whether two types without a form are told by the same.
-fn is_same_formless(a: Option<Level>, b: Option<Level>) -> bool
-    ensures { result ≡ bytes_eq (formless_code (option_map numbers a))
-        (formless_code (option_map numbers b)) }
+fn is_same_unsupported(a: Option<Level>, b: Option<Level>) -> bool
+    ensures { result ≡ bytes_eq (unsupported_code (option_map numbers a))
+        (unsupported_code (option_map numbers b)) }
 {
     match (a, b) {
         (Some(a), Some(b)) => is_same_level(&a, &b),
@@ -631,7 +631,7 @@ pub(crate) fn are_alike(types: &UniqueArena<Type_>, a: Identity, b: Identity) ->
         (Identity::Formed(x), Identity::Formed(y)) => {
             is_same_level(&x.level, &y.level) && is_over_same(types, x.over, y.over)
         }
-        (Identity::Formless(x), Identity::Formless(y)) => is_same_formless(x, y),
+        (Identity::Unsupported(x), Identity::Unsupported(y)) => is_same_unsupported(x, y),
         _ => false,
     }
 }

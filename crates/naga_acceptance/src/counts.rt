@@ -12,7 +12,8 @@ ghost use Rattle.naga_acceptance.specs.Counts.{with_use, with_uses, without_uses
 
 use naga_info::{ExpressionInfo, FunctionInfo, ModuleInfo};
 use naga_ir::{
-    Arena, Block, EntryPoint, Expression, Function, Handle, Module, Place, Statement, SwitchCase,
+    Arena, Block, EntryPoint, Expression, Function, Handle, ItemIndex, Module, Statement,
+    SwitchCase,
 };
 
 #[tactic(auto, using(crate::proofs::Counting::with_use_set, crate::proofs::Counting::with_use_past))]
@@ -136,7 +137,7 @@ fn count_functions(infos: &mut [FunctionInfo], functions: &Arena<Function>)
 {
     for (index, info) in infos.iter_mut().enumerate() {
         if index < functions.len() {
-            count_function(info, &functions[Place::from_index(index)]);
+            count_function(info, &functions[ItemIndex::from_index(index)]);
         }
     }
 }

@@ -6,12 +6,12 @@ ghost use Rattle.naga_acceptance.specs.KnownTypes.{inferred, known_types, wanted
 ghost use Rattle.module_meaning.specs.acceptance.ExpressionTypes.{argument_type, binary_type};
 ghost use Rattle.module_meaning.specs.acceptance.ExpressionTypes.{constant_type};
 ghost use Rattle.module_meaning.specs.acceptance.ExpressionTypes.{global_type, has_its_type};
-ghost use Rattle.module_meaning.specs.acceptance.ExpressionTypes.{if_any, is_bool, is_wanted};
+ghost use Rattle.module_meaning.specs.acceptance.ExpressionTypes.{if_any, is_bool, is_expected};
 ghost use Rattle.module_meaning.specs.acceptance.ExpressionTypes.{local_type, logical_type};
 ghost use Rattle.module_meaning.specs.acceptance.ExpressionTypes.{only, override_type, result_type};
 ghost use Rattle.module_meaning.specs.acceptance.ExpressionTypes.{splat_type, swizzle_type};
 ghost use Rattle.module_meaning.specs.acceptance.ExpressionTypes.{variable_type};
-ghost use Rattle.module_meaning.specs.acceptance.ExpressionTypes.{wanted_type};
+ghost use Rattle.module_meaning.specs.acceptance.ExpressionTypes.{expected_type};
 ghost use Rattle.module_meaning.specs.TypeParts.{known_inner, known_pointee, part_type};
 
 use crate::alike::is_like;
@@ -27,7 +27,7 @@ use naga_ir::{
 
 /// What an expression's type may be.
 #[derive(Debug, Clone, Copy, PartialEq, Eq)]
-pub enum Wanted {
+pub enum Expected {
     /// One like this.
     LikeThis(InferredType),
     /// Any.
@@ -36,21 +36,21 @@ pub enum Wanted {
     Nothing,
 }
 
-fn only(ty: Option<InferredType>) -> Wanted
+fn only(ty: Option<InferredType>) -> Expected
     ensures { wanted result ≡ only (option_map inferred ty) }
 {
     match ty {
-        Some(ty) => Wanted::LikeThis(ty),
-        None => Wanted::Nothing,
+        Some(ty) => Expected::LikeThis(ty),
+        None => Expected::Nothing,
     }
 }
 
-fn if_any(ty: Option<InferredType>) -> Wanted
+fn if_any(ty: Option<InferredType>) -> Expected
     ensures { wanted result ≡ if_any (option_map inferred ty) }
 {
     match ty {
-        Some(ty) => Wanted::LikeThis(ty),
-        None => Wanted::Anything,
+        Some(ty) => Expected::LikeThis(ty),
+        None => Expected::Anything,
     }
 }
 
@@ -171,21 +171,21 @@ pub fn is_bool(inner: &TypeInner) -> bool
     }
 }
 
-fn logical_type(left: Option<&TypeInner>) -> Wanted
+fn logical_type(left: Option<&TypeInner>) -> Expected
     ensures { wanted result ≡ logical_type (option_copied left.entry) }
 {
     match left {
-        Some(left) if is_bool(left) => Wanted::LikeThis(InferredType::Scalar(Scalar::BOOL)),
-        _ => Wanted::Anything,
+        Some(left) if is_bool(left) => Expected::LikeThis(InferredType::Scalar(Scalar::BOOL)),
+        _ => Expected::Anything,
     }
 }
 
-fn binary_type(op: BinaryOperator, left: Option<&TypeInner>) -> Wanted
+fn binary_type(op: BinaryOperator, left: Option<&TypeInner>) -> Expected
     ensures { wanted result ≡ binary_type op (option_copied left.entry) }
 {
     match op {
         BinaryOperator::LogicalAnd | BinaryOperator::LogicalOr => logical_type(left),
-        _ => Wanted::Anything,
+        _ => Expected::Anything,
     }
 }
 
@@ -236,18 +236,20 @@ pub fn pointee_at(
 /// - Others may have any type.
 ///
 /// Where a declaration or an operand that is asked is not there, an expression can have no type.
-pub fn wanted_type(
+pub fn expected_type(
     module: &Module,
     function: Option<&Function>,
     known: Known<'_>,
     expression: &Expression,
-) -> Wanted
-    ensures { wanted result ≡ wanted_type «module».now (option_copied function.entry)
+) -> Expected
+    ensures { wanted result ≡ expected_type «module».now (option_copied function.entry)
         (known_types known.entry) expression.now }
 {
     let types = &module.types;
     match expression {
-        Expression::Literal(literal) => { Wanted::LikeThis(InferredType::Scalar(literal.scalar())) }
+        Expression::Literal(literal) => {
+            Expected::LikeThis(InferredType::Scalar(literal.scalar()))
+        }
         Expression::Constant(handle) => only(constant_type(module, *handle)),
         Expression::Override(handle) => only(override_type(module, *handle)),
         Expression::ZeroValue(ty)
@@ -255,7 +257,7 @@ pub fn wanted_type(
         | Expression::AtomicResult { ty, .. }
         | Expression::WorkGroupUniformLoadResult { ty }
         | Expression::SubgroupOperationResult { ty } => {
-            Wanted::LikeThis(InferredType::Handle(*ty))
+            Expected::LikeThis(InferredType::Handle(*ty))
         }
         Expression::Access { base, .. } => only(part_at(types, known, *base, None)),
         Expression::AccessIndex { base, index } => {
@@ -275,18 +277,18 @@ pub fn wanted_type(
             binary_type(*op, known_inner(types, known, *left))
         }
         Expression::CallResult(handle) => only(result_type(module, *handle)),
-        _ => Wanted::Anything,
+        _ => Expected::Anything,
     }
 }
 
 /// Whether a type is what is wanted.
-fn is_wanted(types: &UniqueArena<Type_>, demand: Wanted, own: &TypeResolution) -> bool
-    ensures { result ≡ is_wanted types.now (wanted demand) own.now }
+fn is_expected(types: &UniqueArena<Type_>, demand: Expected, own: &TypeResolution) -> bool
+    ensures { result ≡ is_expected types.now (wanted demand) own.now }
 {
     match demand {
-        Wanted::LikeThis(ty) => is_like(types, own, &ty),
-        Wanted::Anything => true,
-        Wanted::Nothing => false,
+        Expected::LikeThis(ty) => is_like(types, own, &ty),
+        Expected::Anything => true,
+        Expected::Nothing => false,
     }
 }
 
@@ -303,9 +305,9 @@ pub(crate) fn has_its_type(
 {
     match known_type(known, handle) {
         Some(own) => {
-            is_wanted(
+            is_expected(
                 &module.types,
-                wanted_type(module, function, known, expression),
+                expected_type(module, function, known, expression),
                 own,
             )
         }

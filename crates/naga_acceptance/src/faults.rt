@@ -26,14 +26,14 @@ pub enum Item {
     Override(Handle<Override>),
     GlobalVariable(Handle<GlobalVariable>),
     GlobalExpression(Handle<Expression>),
-    Function(Handle<Function>, FunctionPlace),
+    Function(Handle<Function>, FunctionPosition),
     /// The entry point with this index.
-    EntryPoint(usize, FunctionPlace),
+    EntryPoint(usize, FunctionPosition),
 }
 
 /// A part of a function or of an entry point.
 #[derive(Debug, Clone, Copy, PartialEq, Eq)]
-pub enum FunctionPlace {
+pub enum FunctionPosition {
     Whole,
     Local(Handle<LocalVariable>),
     Expression(Handle<Expression>),
@@ -94,24 +94,24 @@ pub(crate) fn at(item: Item, fault: Fault) -> Unaccepted
 }
 
 /// A fault of a part of the function with this handle.
-pub(crate) fn at_function(handle: Handle<Function>, found: (FunctionPlace, Fault)) -> Unaccepted
+pub(crate) fn at_function(handle: Handle<Function>, found: (FunctionPosition, Fault)) -> Unaccepted
     ensures { result ≡ at_function handle found }
 {
     at(Item::Function(handle, found.0), found.1)
 }
 
 /// A fault of a part of the entry point with this index.
-pub(crate) fn at_entry_point(index: usize, found: (FunctionPlace, Fault)) -> Unaccepted
+pub(crate) fn at_entry_point(index: usize, found: (FunctionPosition, Fault)) -> Unaccepted
     ensures { result ≡ at_entry_point index found }
 {
     at(Item::EntryPoint(index, found.0), found.1)
 }
 
 /// A fault of an expression of a function.
-pub(crate) fn at_expression(found: (Handle<Expression>, Fault)) -> (FunctionPlace, Fault)
+pub(crate) fn at_expression(found: (Handle<Expression>, Fault)) -> (FunctionPosition, Fault)
     ensures { result ≡ at_expression found }
 {
-    (FunctionPlace::Expression(found.0), found.1)
+    (FunctionPosition::Expression(found.0), found.1)
 }
 
 impl fmt::Display for Unaccepted {
@@ -139,15 +139,15 @@ impl fmt::Display for Item {
     }
 }
 
-impl fmt::Display for FunctionPlace {
+impl fmt::Display for FunctionPosition {
     ghost output = { λ place. Some (part_text place) };
 
     fn fmt<W: fmt::Write>(&self, f: &mut fmt::Formatter<W>) -> fmt::Result {
         match self {
-            FunctionPlace::Whole => Ok(()),
-            FunctionPlace::Local(handle) => write!(f, ", local {}", handle.index()),
-            FunctionPlace::Expression(handle) => write!(f, ", expression {}", handle.index()),
-            FunctionPlace::Statement(number) => write!(f, ", statement {}", number),
+            FunctionPosition::Whole => Ok(()),
+            FunctionPosition::Local(handle) => write!(f, ", local {}", handle.index()),
+            FunctionPosition::Expression(handle) => write!(f, ", expression {}", handle.index()),
+            FunctionPosition::Statement(number) => write!(f, ", statement {}", number),
         }
     }
 }

@@ -7,12 +7,12 @@
 pub mod acceptance;
 pub mod agreeing;
 pub mod alike;
+mod case_value_numbers;
 pub mod counts;
 pub mod demands;
 pub mod expression_types;
 pub mod faults;
 mod initialisers;
-mod label_numbers;
 mod operator_keys;
 pub mod parts;
 pub mod ranges;
@@ -25,4 +25,4 @@ mod walk;
 
 pub use acceptance::{accepts, unaccepted};
 pub use counts::count;
-pub use faults::{Fault, FunctionPlace, Item, Unaccepted};
+pub use faults::{Fault, FunctionPosition, Item, Unaccepted};

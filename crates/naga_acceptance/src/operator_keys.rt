@@ -10,7 +10,7 @@ ghost use Rattle.naga_ir.specs.declared.types.TypeInner as ir_inner;
 ghost use Rattle.naga_info.specs.declared.info.TypeResolution.TheVariants.{Value};
 ghost use Rattle.module_meaning.specs.acceptance.AgreeingOperators.{constructor_key};
 ghost use Rattle.module_meaning.specs.acceptance.AgreeingOperators.{conversion_key};
-ghost use Rattle.module_meaning.specs.acceptance.AgreeingOperators.{formless_key, letter_number};
+ghost use Rattle.module_meaning.specs.acceptance.AgreeingOperators.{unsupported_key, letter_number};
 ghost use Rattle.module_meaning.specs.acceptance.AgreeingOperators.{one_key};
 ghost use Rattle.module_meaning.specs.acceptance.AgreeingOperators.{operator_key, swizzle_key};
 ghost use Rattle.module_meaning.specs.acceptance.AgreeingOperators.{target_key};
@@ -77,8 +77,8 @@ fn width_number(width: Option<u8>) -> usize
     }
 }
 
-fn formless_key(kind: ScalarKind, convert: Option<u8>) -> Key
-    ensures { (types : List ir_type.Type_) → key types result ≡ formless_key kind convert }
+fn unsupported_key(kind: ScalarKind, convert: Option<u8>) -> Key
+    ensures { (types : List ir_type.Type_) → key types result ≡ unsupported_key kind convert }
 {
     Key::Word(level_of(1, kind_number(kind), width_number(convert), 0, 0, 0))
 }
@@ -136,7 +136,7 @@ fn target_key(
     if inferred_is_spelled(types, target) {
         typed_key(bits, *target)
     } else {
-        formless_key(kind, convert)
+        unsupported_key(kind, convert)
     }
 }
 
@@ -150,14 +150,14 @@ fn conversion_key(
         ≡ conversion_key types.now kind convert (option_copied operand.entry) }
 {
     let Some(operand) = operand else {
-        return formless_key(kind, convert);
+        return unsupported_key(kind, convert);
     };
     match conversion_target(operand, kind, convert) {
         Some(target) => {
             let bits = keeps_bits(operand, convert);
             target_key(types, kind, convert, bits, &target)
         }
-        None => formless_key(kind, convert),
+        None => unsupported_key(kind, convert),
     }
 }
 

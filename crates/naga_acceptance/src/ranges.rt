@@ -28,7 +28,7 @@ pub(crate) mod statements;
 pub(crate) mod types;
 
 use crate::faults::{
-    Fault, FunctionPlace, Item, Unaccepted, at, at_entry_point, at_expression, at_function,
+    Fault, FunctionPosition, Item, Unaccepted, at, at_entry_point, at_expression, at_function,
 };
 use crate::ranges::expressions::{
     first_expression_out_of_range, first_global_expression_out_of_range,
@@ -42,11 +42,11 @@ use crate::ranges::types::{resolution_in_range, types_range_fault};
 use naga_info::{ExpressionInfo, FunctionInfo, ModuleInfo, TypeResolution};
 use naga_ir::{
     Arena, Constant, EntryPoint, Expression, Function, FunctionArgument, GlobalVariable, Handle,
-    LocalVariable, Module, Override, Place, SpecialTypes,
+    ItemIndex, LocalVariable, Module, Override, SpecialTypes,
 };
 
 /// Whether the handle, if there is one, lies below the bound.
-pub(crate) fn is_below<M>(bound: usize, handle: Option<Place<M>>) -> bool
+pub(crate) fn is_below<M>(bound: usize, handle: Option<ItemIndex<M>>) -> bool
     ensures { result ≡ is_below bound handle }
 {
     match handle {
@@ -245,25 +245,25 @@ fn function_range_fault(
     module: &Module,
     callees: usize,
     function: &Function,
-) -> Option<(FunctionPlace, Fault)>
+) -> Option<(FunctionPosition, Fault)>
     ensures { result ≡ function_range_fault «module».now callees function.now }
 {
     let types = module.types.len();
     let expressions = function.expressions.len();
     if !signature_fits(types, function) {
-        return Some((FunctionPlace::Whole, Fault::Signature));
+        return Some((FunctionPosition::Whole, Fault::Signature));
     }
     if !names_fit(function) {
-        return Some((FunctionPlace::Whole, Fault::NamedExpressions));
+        return Some((FunctionPosition::Whole, Fault::NamedExpressions));
     }
     if let Some(local) = first_local_out_of_range(types, expressions, &function.local_variables) {
-        return Some((FunctionPlace::Local(local), Fault::Names));
+        return Some((FunctionPosition::Local(local), Fault::Names));
     }
     if let Some(found) = first_expression_out_of_range(module, function) {
         return Some(at_expression(found));
     }
     match first_out_of_range(callees, expressions, &function.body) {
-        Some(number) => Some((FunctionPlace::Statement(number), Fault::Names)),
+        Some(number) => Some((FunctionPosition::Statement(number), Fault::Names)),
         None => None,
     }
 }
@@ -299,11 +299,11 @@ fn entry_names_fit(module: &Module, entry_point: &EntryPoint) -> bool
 fn entry_point_range_fault(
     module: &Module,
     entry_point: &EntryPoint,
-) -> Option<(FunctionPlace, Fault)>
+) -> Option<(FunctionPosition, Fault)>
     ensures { result ≡ entry_point_range_fault «module».now entry_point.now }
 {
     if !entry_names_fit(module, entry_point) {
-        return Some((FunctionPlace::Whole, Fault::Names));
+        return Some((FunctionPosition::Whole, Fault::Names));
     }
     function_range_fault(module, module.functions.len(), &entry_point.function)
 }
@@ -352,7 +352,7 @@ fn first_unknown(
 {
     for (index, info) in infos.iter().enumerate() {
         if !resolution_fits(overrides, types, &info.ty) {
-            return Some(Place::from_index(index));
+            return Some(ItemIndex::from_index(index));
         }
     }
     None
@@ -363,12 +363,15 @@ fn first_known_fault(
     overrides: usize,
     types: usize,
     infos: &[FunctionInfo],
-) -> Option<(usize, (FunctionPlace, Fault))>
+) -> Option<(usize, (FunctionPosition, Fault))>
     ensures { result ≡ first_known_fault overrides types infos.now }
 {
     for (index, info) in infos.iter().enumerate() {
         if let Some(handle) = first_unknown(overrides, types, info.expressions.as_slice()) {
-            return Some((index, (FunctionPlace::Expression(handle), Fault::KnownType)));
+            return Some((
+                index,
+                (FunctionPosition::Expression(handle), Fault::KnownType),
+            ));
         }
     }
     None
@@ -384,7 +387,7 @@ fn first_unknown_global(
 {
     for (index, ty) in infos.iter().enumerate() {
         if !resolution_fits(overrides, types, ty) {
-            return Some(Place::from_index(index));
+            return Some(ItemIndex::from_index(index));
         }
     }
     None
@@ -398,7 +401,7 @@ fn info_fault(module: &Module, info: &ModuleInfo) -> Option<Unaccepted>
     let overrides = module.overrides.len();
     let types = module.types.len();
     if let Some((index, found)) = first_known_fault(overrides, types, info.functions.as_slice()) {
-        return Some(at_function(Place::from_index(index), found));
+        return Some(at_function(ItemIndex::from_index(index), found));
     }
     let entry_points = info.entry_points.as_slice();
     if let Some((index, found)) = first_known_fault(overrides, types, entry_points) {

@@ -14,13 +14,13 @@ ghost use Rattle.module_meaning.specs.acceptance.Soundness.{module_is_sound};
 use crate::demands::operands_fit;
 use crate::expression_types::has_its_type;
 use crate::faults::{
-    Fault, FunctionPlace, Item, Unaccepted, at, at_entry_point, at_expression, at_function,
+    Fault, FunctionPosition, Item, Unaccepted, at, at_entry_point, at_expression, at_function,
 };
 use crate::initialisers::{first_unsound_local, initialisers_fault};
 use crate::parts::Known;
 use crate::statements::first_unsound;
 use naga_info::{FunctionInfo, ModuleInfo, TypeResolution};
-use naga_ir::{Arena, EntryPoint, Expression, Function, Handle, Module, Place};
+use naga_ir::{Arena, EntryPoint, Expression, Function, Handle, ItemIndex, Module};
 
 /// Whether the expression with this handle has another type than what it stands for, or else takes
 /// no operands of these types.
@@ -66,7 +66,7 @@ fn function_sound_fault(
     module: &Module,
     function: &Function,
     info: &FunctionInfo,
-) -> Option<(FunctionPlace, Fault)>
+) -> Option<(FunctionPosition, Fault)>
     ensures { result ≡ function_sound_fault «module».now function.now
         (map (λ k. k.ty) info.now) }
 {
@@ -76,10 +76,10 @@ fn function_sound_fault(
         return Some(at_expression(found));
     }
     if let Some(local) = first_unsound_local(&module.types, known, &function.local_variables) {
-        return Some((FunctionPlace::Local(local), Fault::InitialiserType));
+        return Some((FunctionPosition::Local(local), Fault::InitialiserType));
     }
     match first_unsound(module, function, known) {
-        Some(number) => Some((FunctionPlace::Statement(number), Fault::Unsatisfied)),
+        Some(number) => Some((FunctionPosition::Statement(number), Fault::Unsatisfied)),
         None => None,
     }
 }
@@ -95,7 +95,7 @@ fn functions_sound_fault(
         return Some(at(Item::Module, Fault::InfoSize));
     }
     for (index, info) in infos.iter().enumerate() {
-        let handle = Place::from_index(index);
+        let handle = ItemIndex::from_index(index);
         if let Some(found) = function_sound_fault(module, &functions[handle], info) {
             return Some(at_function(handle, found));
         }
@@ -151,7 +151,7 @@ pub(crate) fn sound_fault(module: &Module, info: &ModuleInfo) -> Option<Unaccept
 
 /// Whether all that stands in a module gets what it wants by what is known of it: each expression
 /// of its functions, its entry points and its own has its type
-/// ([`wanted_type`](crate::expression_types::wanted_type)) and operands that it takes
+/// ([`expected_type`](crate::expression_types::expected_type)) and operands that it takes
 /// ([`operands_fit`]), initialisers have the types of their items, and statements get what they
 /// want ([`body_is_sound`](crate::statements::body_is_sound)). Of each function and entry point one
 /// thing has to be known. It takes no memory.

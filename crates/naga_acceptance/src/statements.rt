@@ -8,29 +8,30 @@ ghost use Rattle.naga_ir.specs.StatementViews.{cases_of, tree_of};
 ghost use Rattle.module_meaning.specs.acceptance.OperandDemands.{operand_is, points_to_components};
 ghost use Rattle.naga_acceptance.specs.TextOrder.{is_sound, numbered, own_is_sound, text_order};
 ghost use Rattle.module_meaning.specs.acceptance.StatementsFit.{are_passed, body_is_sound};
-ghost use Rattle.module_meaning.specs.acceptance.StatementsFit.{has_label, is_answered};
+ghost use Rattle.module_meaning.specs.acceptance.StatementsFit.{has_case_value, is_answered};
 ghost use Rattle.module_meaning.specs.acceptance.StatementsFit.{is_atomic_result};
 ghost use Rattle.module_meaning.specs.acceptance.StatementsFit.{is_ballot_result, is_call};
 ghost use Rattle.module_meaning.specs.acceptance.StatementsFit.{is_condition};
 ghost use Rattle.module_meaning.specs.acceptance.StatementsFit.{is_result, is_result_if};
 ghost use Rattle.module_meaning.specs.acceptance.StatementsFit.{is_result_of};
-ghost use Rattle.module_meaning.specs.acceptance.StatementsFit.{is_returned, is_same_label};
+ghost use Rattle.module_meaning.specs.acceptance.StatementsFit.{is_returned, is_same_case_value};
 ghost use Rattle.module_meaning.specs.acceptance.StatementsFit.{is_selection};
 ghost use Rattle.module_meaning.specs.acceptance.StatementsFit.{is_stored, is_subgroup_result};
 ghost use Rattle.module_meaning.specs.acceptance.StatementsFit.{is_uniform_load_result};
-ghost use Rattle.module_meaning.specs.acceptance.StatementsFit.{label_is_of};
-ghost use Rattle.module_meaning.specs.acceptance.StatementsFit.{labels_are_of, labels_differ};
-ghost use Rattle.module_meaning.specs.acceptance.StatementsFit.{labels_fit};
-ghost use Rattle.naga_acceptance.specs.Labels.{is_before, is_behind, labels_ascend};
+ghost use Rattle.module_meaning.specs.acceptance.StatementsFit.{case_value_is_of};
+ghost use Rattle.module_meaning.specs.acceptance.StatementsFit.{case_values_are_of};
+ghost use Rattle.module_meaning.specs.acceptance.StatementsFit.{case_values_differ};
+ghost use Rattle.module_meaning.specs.acceptance.StatementsFit.{case_values_fit};
+ghost use Rattle.naga_acceptance.specs.CaseValues.{is_before, is_after, case_values_ascend};
 ghost use Rattle.module_meaning.specs.acceptance.StatementsFit.{last_falls_through};
 ghost use Rattle.module_meaning.specs.acceptance.StatementsFit.{selection_fits, selects};
 ghost use Rattle.module_meaning.specs.acceptance.StatementsFit.{value_has_type};
 ghost use Rattle.module_meaning.specs.TypeParts.{is_atomic, points_to_atomic};
 
 use crate::alike::is_like;
+use crate::case_value_numbers::none_is_repeated;
 use crate::demands::points_to_components;
 use crate::expression_types::{is_bool, pointee_at};
-use crate::label_numbers::none_is_repeated;
 use crate::parts::{InferredType, Known, known_inner, known_type};
 use crate::walk::{first_unmet, sound_demand};
 use module_meaning::type_parts::inner_at;
@@ -136,9 +137,9 @@ pub fn selects(scalar: Scalar) -> bool
     }
 }
 
-/// Whether the label is of the selector's type.
-pub(crate) fn label_is_of(scalar: Scalar, label: SwitchValue) -> bool
-    ensures { result ≡ label_is_of scalar label }
+/// Whether the case value is of the selector's type.
+pub(crate) fn case_value_is_of(scalar: Scalar, label: SwitchValue) -> bool
+    ensures { result ≡ case_value_is_of scalar label }
 {
     match (label, scalar.kind) {
         (SwitchValue::I32(_), ScalarKind::Sint) => true,
@@ -148,20 +149,20 @@ pub(crate) fn label_is_of(scalar: Scalar, label: SwitchValue) -> bool
     }
 }
 
-/// Whether the labels are of the selector's type.
-pub fn labels_are_of(scalar: Scalar, cases: &[SwitchCase]) -> bool
-    ensures { result ≡ labels_are_of scalar (cases_of cases.now) }
+/// Whether the case values are of the selector's type.
+pub fn case_values_are_of(scalar: Scalar, cases: &[SwitchCase]) -> bool
+    ensures { result ≡ case_values_are_of scalar (cases_of cases.now) }
 {
     for case in cases {
-        if !label_is_of(scalar, case.value) {
+        if !case_value_is_of(scalar, case.value) {
             return false;
         }
     }
     true
 }
 
-fn is_same_label(a: SwitchValue, b: SwitchValue) -> bool
-    ensures { result ≡ is_same_label a b }
+fn is_same_case_value(a: SwitchValue, b: SwitchValue) -> bool
+    ensures { result ≡ is_same_case_value a b }
 {
     match (a, b) {
         (SwitchValue::I32(a), SwitchValue::I32(b)) => a == b,
@@ -171,20 +172,20 @@ fn is_same_label(a: SwitchValue, b: SwitchValue) -> bool
     }
 }
 
-/// Whether one of the cases has the label.
-pub fn has_label(label: SwitchValue, cases: &[SwitchCase]) -> bool
-    ensures { result ≡ has_label label (cases_of cases.now) }
+/// Whether one of the cases has the value.
+pub fn has_case_value(label: SwitchValue, cases: &[SwitchCase]) -> bool
+    ensures { result ≡ has_case_value label (cases_of cases.now) }
 {
     for case in cases {
-        if is_same_label(label, case.value) {
+        if is_same_case_value(label, case.value) {
             return true;
         }
     }
     false
 }
 
-/// Whether a label stands before another in ascending order: integers by their numbers, and the
-/// default after all.
+/// Whether a case value stands before another in ascending order: integers by their numbers, and
+/// the default after all.
 fn is_before(a: SwitchValue, b: SwitchValue) -> bool
     ensures { result ≡ is_before a b }
 {
@@ -196,8 +197,8 @@ fn is_before(a: SwitchValue, b: SwitchValue) -> bool
     }
 }
 
-fn is_behind(last: Option<SwitchValue>, label: SwitchValue) -> bool
-    ensures { result ≡ is_behind last label }
+fn is_after(last: Option<SwitchValue>, label: SwitchValue) -> bool
+    ensures { result ≡ is_after last label }
 {
     match last {
         Some(last) => is_before(last, label),
@@ -205,13 +206,13 @@ fn is_behind(last: Option<SwitchValue>, label: SwitchValue) -> bool
     }
 }
 
-/// Whether the labels ascend, the default after all others.
-fn labels_ascend(cases: &[SwitchCase]) -> bool
-    ensures { result ≡ labels_ascend None (cases_of cases.now) }
+/// Whether the case values ascend, the default after all others.
+fn case_values_ascend(cases: &[SwitchCase]) -> bool
+    ensures { result ≡ case_values_ascend None (cases_of cases.now) }
 {
     let mut last = None;
     for case in cases {
-        if !is_behind(last, case.value) {
+        if !is_after(last, case.value) {
             return false;
         }
         last = Some(case.value);
@@ -219,38 +220,38 @@ fn labels_ascend(cases: &[SwitchCase]) -> bool
     true
 }
 
-/// Up to how many labels are compared in pairs, which is less work than sorting them.
-const FEW_LABELS: usize = 32;
+/// Up to how many case values are compared in pairs, which is less work than sorting them.
+const FEW_CASE_VALUES: usize = 32;
 
-/// Whether no label is repeated. It compares each with those after it.
+/// Whether no case value is repeated. It compares each with those after it.
 fn few_differ(cases: &[SwitchCase]) -> bool
-    ensures { result ≡ labels_differ (cases_of cases.now) }
+    ensures { result ≡ case_values_differ (cases_of cases.now) }
 {
     for index in 0..cases.len() {
-        if has_label(cases[index].value, &cases[index + 1..]) {
+        if has_case_value(cases[index].value, &cases[index + 1..]) {
             return false;
         }
     }
     true
 }
 
-/// Whether no two cases have one label, in whatever order they stand.
+/// Whether no two cases have one value, in whatever order they stand.
 fn none_stands_twice(cases: &[SwitchCase]) -> bool
-    ensures { result ≡ labels_differ (cases_of cases.now) }
+    ensures { result ≡ case_values_differ (cases_of cases.now) }
 {
-    if cases.len() <= FEW_LABELS {
+    if cases.len() <= FEW_CASE_VALUES {
         few_differ(cases)
     } else {
         none_is_repeated(cases)
     }
 }
 
-/// Whether no two cases have one label. Where the labels ascend, it looks at each once, else it
+/// Whether no two cases have one value. Where the values ascend, it looks at each once, else it
 /// compares few in pairs and sorts more ([`none_is_repeated`]).
-pub fn labels_differ(cases: &[SwitchCase]) -> bool
-    ensures { result ≡ labels_differ (cases_of cases.now) }
+pub fn case_values_differ(cases: &[SwitchCase]) -> bool
+    ensures { result ≡ case_values_differ (cases_of cases.now) }
 {
-    labels_ascend(cases) || none_stands_twice(cases)
+    case_values_ascend(cases) || none_stands_twice(cases)
 }
 
 /// Whether the last case falls through.
@@ -264,12 +265,12 @@ pub fn last_falls_through(cases: &[SwitchCase]) -> bool
     falls
 }
 
-fn labels_fit(scalar: Scalar, cases: &[SwitchCase]) -> bool
-    ensures { result ≡ labels_fit scalar (cases_of cases.now) }
+fn case_values_fit(scalar: Scalar, cases: &[SwitchCase]) -> bool
+    ensures { result ≡ case_values_fit scalar (cases_of cases.now) }
 {
-    labels_are_of(scalar, cases)
-        && labels_differ(cases)
-        && has_label(SwitchValue::Default, cases)
+    case_values_are_of(scalar, cases)
+        && case_values_differ(cases)
+        && has_case_value(SwitchValue::Default, cases)
         && !last_falls_through(cases)
 }
 
@@ -277,12 +278,12 @@ fn selection_fits(cases: &[SwitchCase], inner: &TypeInner) -> bool
     ensures { result ≡ selection_fits (cases_of cases.now) inner.now }
 {
     match inner {
-        TypeInner::Scalar(scalar) => selects(*scalar) && labels_fit(*scalar, cases),
+        TypeInner::Scalar(scalar) => selects(*scalar) && case_values_fit(*scalar, cases),
         _ => false,
     }
 }
 
-/// Whether a selector is `i32` or `u32`, and the labels of its cases fit.
+/// Whether a selector is `i32` or `u32`, and the values of its cases fit.
 pub(crate) fn is_selection(
     types: &UniqueArena<Type_>,
     known: Known<'_>,
@@ -549,8 +550,8 @@ pub(crate) fn first_unsound(module: &Module, function: &Function, known: Known<'
 /// asked of it. It goes as deep as blocks are nested, and takes no memory.
 ///
 /// - A condition and a `break_if` are `bool`.
-/// - A selector is `i32` or `u32`. The labels of its cases are of that type and distinct, one is the
-///   default, and the last case does not fall through.
+/// - A selector is `i32` or `u32`. The values of its cases are of that type and distinct, one is
+///   the default, and the last case does not fall through.
 /// - A `Break` stands in a loop's body or a case, a `Continue` in a loop's body, and neither leaves a
 ///   `continuing`.
 /// - What is stored, returned and passed has a type like what is wanted, and as many arguments are

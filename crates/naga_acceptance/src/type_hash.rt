@@ -54,7 +54,7 @@ pub(crate) fn identity_mixed(types: &UniqueArena<Type_>, hash: usize, identity: 
 {
     match identity {
         Identity::Formed(top) => over_mixed(types, level_mixed(hash, &top.level), top.over),
-        Identity::Formless(Some(level)) => level_mixed(mixed(mixed(hash, 32), 2), &level),
-        Identity::Formless(None) => mixed(mixed(hash, 32), 0),
+        Identity::Unsupported(Some(level)) => level_mixed(mixed(mixed(hash, 32), 2), &level),
+        Identity::Unsupported(None) => mixed(mixed(hash, 32), 0),
     }
 }

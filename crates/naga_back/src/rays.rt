@@ -19,7 +19,7 @@ bitflag_items! {
         const TERMINATE_ON_FIRST_HIT = 4;
         /// The nearest hit is not answered by a shader.
         const SKIP_CLOSEST_HIT_SHADER = 8;
-        /// It passes through triangles that it meets from behind.
+        /// It passes through triangles that it meets from after.
         const CULL_BACK_FACING = 16;
         /// It passes through triangles that it meets from the front.
         const CULL_FRONT_FACING = 32;

@@ -46,13 +46,13 @@ use Rattle.naga_form.proofs.names.FreeNames.{free_names, free_naming, freely_nam
 use Rattle.naga_form.proofs.names.FreeNames.{free_within, free_distinct, free_functions_distinct}
 use Rattle.naga_form.proofs.names.FreeNames.{free_constants_distinct, function_not_hidden}
 use Rattle.naga_form.proofs.names.FreeWords.{free_request}
-use Rattle.naga_form.proofs.statements.FunctionsFit.{AllBehind, Tells, all_from, all_distinguished}
+use Rattle.naga_form.proofs.statements.FunctionsFit.{AllAfter, Tells, all_from, all_distinguished}
 use Rattle.naga_form.proofs.statements.FunctionsFit.{named}
-use Rattle.naga_form.proofs.statements.FunctionsFit.{regular_at, shape_numbered, stand_behind}
+use Rattle.naga_form.proofs.statements.FunctionsFit.{regular_at, shape_numbered, stand_after}
 use Rattle.naga_form.proofs.statements.FunctionsFit.{worded_at}
 use Rattle.naga_form.proofs.operators.Leaves.{leaves}
 use Rattle.naga_form.proofs.operators.Ordered.{ordered}
-use Rattle.naga_form.proofs.statements.Regular.{StandBehind}
+use Rattle.naga_form.proofs.statements.Regular.{StandAfter}
 use Rattle.naga_form.proofs.operators.ShapeWords.{function_words, initialiser_words_outside}
 use Rattle.naga_form.proofs.operators.ShapeWords.{operator_asks}
 use Rattle.naga_form.proofs.statements.WellFormed.{all_well_formed}
@@ -92,28 +92,28 @@ module _ (m : ir_module.Module) (info : ModuleInfo) (accepted : IsTrue (is_accep
     }
 
     regular_freely : (callees : List shapes.Function) →
-        StandBehind m info (accepted_at m info accepted k f es at).callees callees →
+        StandAfter m info (accepted_at m info accepted k f es at).callees callees →
         AreRegular q callees own (function_shape m info f es).body
-    regular_freely callees behind =
-        regular_at m info accepted k f es at q body own.names distinguished callees behind
+    regular_freely callees following =
+        regular_at m info accepted k f es at q body own.names distinguished callees following
         (omega arith)
         (worded_at m info accepted k f es at q body own.names true (omega arith) all_ask refl)
 
   -- so many callees of the module stand after it, and so they do with their cases unfolded
-  all_behind : (k : ℕ) (f : ir_function.Function) (es : List ExpressionInfo)
+  all_after : (k : ℕ) (f : ir_function.Function) (es : List ExpressionInfo)
       (at : slice_get (functions_known m info) k ≡ Some (f, es)) (callees : List shapes.Function) →
       length callees ≡ k → Tells (shape_numbered m info accepted) callees →
-      StandBehind m info (accepted_at m info accepted k f es at).callees callees
-  all_behind k f es at callees number tells =
+      StandAfter m info (accepted_at m info accepted k f es at).callees callees
+  all_after k f es at callees number tells =
       let is = accepted_at m info accepted k f es at in
       let before = is.before in
-      stand_behind m info accepted is.callees callees (omega (arith, before, number)) tells
+      stand_after m info accepted is.callees callees (omega (arith, before, number)) tells
 
-  behind_unfolded : (count : ℕ) (callees : List shapes.Function) →
-      StandBehind m info count callees → StandBehind m info count (unfolded_functions callees)
-  behind_unfolded count callees behind = record {
+  after_unfolded : (count : ℕ) (callees : List shapes.Function) →
+      StandAfter m info count callees → StandAfter m info count (unfolded_functions callees)
+  after_unfolded count callees following = record {
     shape_of_callee = λ g f lt there.
-        let one = behind.shape_of_callee g f lt there in
+        let one = following.shape_of_callee g f lt there in
         (one.0, unfolded_all one.1, unfolded_numbered callees g _ one.2);
   }
 
@@ -126,7 +126,7 @@ module _ (m : ir_module.Module) (info : ModuleInfo) (accepted : IsTrue (is_accep
       ap (λ gs. free_within free_request (length gs)) (sym (free_functions free_request fs))
 
   named_freely : (fs : List shapes.Function) →
-      AllBehind (λ callees f. f.names ≡ free_within free_request (length callees))
+      AllAfter (λ callees f. f.names ≡ free_within free_request (length callees))
       (free_naming free_request fs)
   named_freely [] = tt
   named_freely (f ∷ fs) =
@@ -143,10 +143,10 @@ module _ (m : ir_module.Module) (info : ModuleInfo) (accepted : IsTrue (is_accep
       subst (λ own. AreRegular program callees (named (function_shape m info f es) own)
       (function_shape m info f es).body) (ap (free_within free_request) (sym number) ∙ sym is)
       (regular_freely k f es at program (function_shape m info f es).body callees
-      (all_behind k f es at callees number tells))
+      (all_after k f es at callees number tells))
 
   regular_of : (fs : List Naming) →
-      AllBehind (λ callees f. AreRegular program callees f f.function.body) fs →
+      AllAfter (λ callees f. AreRegular program callees f f.function.body) fs →
       AllRegular program fs
   regular_of [] all = tt
   regular_of (f ∷ fs) all = (all.0, regular_of fs all.1)
@@ -186,7 +186,7 @@ module _ (m : ir_module.Module) (info : ModuleInfo) (accepted : IsTrue (is_accep
       (f.names ≡ free_within free_request (length callees)) × ScopeHolds f.function
 
   are_freely_named : (fs : List shapes.Function) → EachScopeHolds fs →
-      AllBehind IsLeftlyNamed (free_naming free_request fs)
+      AllAfter IsLeftlyNamed (free_naming free_request fs)
   are_freely_named [] scopes = tt
   are_freely_named (f ∷ fs) scopes = (
     (counted fs, scopes.0),
@@ -235,7 +235,7 @@ module _ (m : ir_module.Module) (info : ModuleInfo) (accepted : IsTrue (is_accep
         regular = regular_unfolded unfolded (unfolded_functions callees)
             (freely_named free_request k (unfolded_function shape)) shape.body
             (regular_freely k f es at unfolded body (unfolded_functions callees)
-            (behind_unfolded this.callees callees (all_behind k f es at callees number tells)));
+            (after_unfolded this.callees callees (all_after k f es at callees number tells)));
         cases = none_falls shape.body;
         distinct = free_distinct free_request unfolded k (unfolded_function shape);
         scope = (scope_check_is_the_rules
@@ -243,7 +243,7 @@ module _ (m : ir_module.Module) (info : ModuleInfo) (accepted : IsTrue (is_accep
             (scope_unfolded shape is.1);
       })
 
-  fit_unfolded : (fs : List Naming) → AllBehind FitsUnfolded fs →
+  fit_unfolded : (fs : List Naming) → AllAfter FitsUnfolded fs →
       AllFit unfolded names (unfolded_namings fs)
   fit_unfolded [] all = tt
   fit_unfolded (f ∷ fs) all = (

@@ -16,8 +16,8 @@ use Rattle.text_meaning.specs.Resolution.{place_among}
 
 -- ---- words
 -- what is found after a word
-abbrev found_behind : List ℕ → (is_first : Bool) → List (List ℕ) → Option ℕ
-found_behind w is_first xs =
+abbrev found_following : List ℕ → (is_first : Bool) → List (List ℕ) → Option ℕ
+found_following w is_first xs =
     if is_first then Some 0 else option_map (λ i. suc i) (place_among w xs)
 
 -- a word that stands at one place alone is found there
@@ -25,9 +25,9 @@ pub place_found : (w : List ℕ) (xs : List (List ℕ)) (i : ℕ) → slice_get 
     ((j : ℕ) → slice_get xs j ≡ Some w → j ≡ i) → place_among w xs ≡ Some i
 place_found w [] i at one = absurd cc
 place_found w (x ∷ xs) zero at one =
-    ap (λ b. found_behind w b xs) ((bytes_eq-Decides w x).1 (sym (same_Some x w at)))
+    ap (λ b. found_following w b xs) ((bytes_eq-Decides w x).1 (sym (same_Some x w at)))
 place_found w (x ∷ xs) (suc i) at one =
-    ap (λ b. found_behind w b xs) (false_from_ne_true (bytes_eq w x) no_first)
+    ap (λ b. found_following w b xs) (false_from_ne_true (bytes_eq w x) no_first)
     ∙ ap (option_map (λ i. suc i)) (place_found w xs i at before)
   where
     no_first : bytes_eq w x ≡ true → ⊥
@@ -42,7 +42,7 @@ pub place_none : (w : List ℕ) (xs : List (List ℕ)) →
     ((j : ℕ) → slice_get xs j ≡ Some w → ⊥) → place_among w xs ≡ None
 place_none w [] none = refl
 place_none w (x ∷ xs) none =
-    ap (λ b. found_behind w b xs)
+    ap (λ b. found_following w b xs)
     (false_from_ne_true (bytes_eq w x) (λ e. none 0 (ap Some (sym ((bytes_eq-Decides w x).0 e)))))
     ∙ ap (option_map (λ i. suc i)) (place_none w xs (λ j there. none (suc j) there))
 

@@ -33,7 +33,7 @@ use Rattle.naga_form.proofs.Facts.{further, from_start}
 use Rattle.naga_form.proofs.statements.EmptyCases.{no_case_falls}
 use Rattle.naga_form.proofs.names.NamedFits.{is_free}
 use Rattle.naga_form.proofs.declarations.ConstantsFit.{constants_are_typed}
-use Rattle.naga_form.proofs.statements.FunctionsFit.{IsFree, AllBehind, all_fit_freely}
+use Rattle.naga_form.proofs.statements.FunctionsFit.{IsFree, AllAfter, all_fit_freely}
 use Rattle.naga_form.proofs.statements.AcceptedFunctions.{all_counted, functions_known, group_at}
 use Rattle.naga_form.proofs.operators.Leaves.{ConstantsAreTyped}
 use Rattle.module_meaning.specs.acceptance.Accepted.{is_accepted}
@@ -69,19 +69,19 @@ shapes_counted m info (f ∷ fs) (es ∷ ess) paired =
     ap suc (shapes_counted m info fs ess (omega (arith, paired)))
 
 -- what holds of all of a list that is turned round onto another holds of all of both
-behind_all : {X : Type 0} (test : X → Bool) (xs behind : List X) →
-    IsTrue (list_all test (reverse_aux xs behind)) → IsTrue (list_all test behind)
-behind_all test [] behind all = all
-behind_all test (x ∷ xs) behind all =
-    and_right (test x) (list_all test behind) (behind_all test xs (x ∷ behind) all)
+following_all : {X : Type 0} (test : X → Bool) (xs following : List X) →
+    IsTrue (list_all test (reverse_aux xs following)) → IsTrue (list_all test following)
+following_all test [] following all = all
+following_all test (x ∷ xs) following all =
+    and_right (test x) (list_all test following) (following_all test xs (x ∷ following) all)
 
-all_reversed : {X : Type 0} (test : X → Bool) (xs behind : List X) →
-    IsTrue (list_all test (reverse_aux xs behind)) → IsTrue (list_all test xs)
-all_reversed test [] behind all = refl
-all_reversed test (x ∷ xs) behind all =
+all_reversed : {X : Type 0} (test : X → Bool) (xs following : List X) →
+    IsTrue (list_all test (reverse_aux xs following)) → IsTrue (list_all test xs)
+all_reversed test [] following all = refl
+all_reversed test (x ∷ xs) following all =
     and_from (test x) (list_all test xs)
-    (and_left (test x) (list_all test behind) (behind_all test xs (x ∷ behind) all))
-    (all_reversed test xs (x ∷ behind) all)
+    (and_left (test x) (list_all test following) (following_all test xs (x ∷ following) all))
+    (all_reversed test xs (x ∷ following) all)
 
 -- ---- an accepted module
 module _ (m : Module) (info : ModuleInfo) (accepted : IsTrue (is_accepted m info)) where
@@ -111,12 +111,12 @@ module _ (m : Module) (info : ModuleInfo) (accepted : IsTrue (is_accepted m info
         slice_get (all_functions m) (g + i) ≡ Some f) →
         IsTrue (list_all fits_function
         (namings_from named (module_names m) m g (function_shapes m info fs ess))) →
-        (behind : List Naming) → length behind ≡ g → AllBehind (IsFree false p names) behind →
-        AllBehind (IsFree false p names)
-        (reverse_aux (namings_from named (module_names m) m g (function_shapes m info fs ess)) behind)
-    all_free g [] ess there scoped behind at so_far = so_far
-    all_free g (f ∷ fs) [] there scoped behind at so_far = so_far
-    all_free g (f ∷ fs) (es ∷ ess) there scoped behind at so_far =
+        (following : List Naming) → length following ≡ g → AllAfter (IsFree false p names) following →
+        AllAfter (IsFree false p names)
+        (reverse_aux (namings_from named (module_names m) m g (function_shapes m info fs ess)) following)
+    all_free g [] ess there scoped following at so_far = so_far
+    all_free g (f ∷ fs) [] there scoped following at so_far = so_far
+    all_free g (f ∷ fs) (es ∷ ess) there scoped following at so_far =
         let here : g + 0 ≡ g = omega arith in
         let found = subst (λ h. slice_get (all_functions m) h ≡ Some f) here (there 0 f refl) in
         let own = function_naming (module_names m) (named g) m info g f es in
@@ -125,8 +125,8 @@ module _ (m : Module) (info : ModuleInfo) (accepted : IsTrue (is_accepted m info
         (list_all fits_function
         (namings_from named (module_names m) m (g + 1) (function_shapes m info fs ess))) scoped in
         let this = is_free m info (types_are_fit m info accepted) p counts g f found (named g)
-        (are g f found) es (functions_of behind) (length-functions_of behind ∙ at) scopes.0 in
-        all_free (g + 1) fs ess (further (all_functions m) g f fs there) scopes.1 (own ∷ behind)
+        (are g f found) es (functions_of following) (length-functions_of following ∙ at) scopes.0 in
+        all_free (g + 1) fs ess (further (all_functions m) g f fs there) scopes.1 (own ∷ following)
         (ap suc at ∙ sym (add-one g)) (this, so_far)
 
   pub constants_typed : (k : ℕ) (f : ir_function.Function) (es : List ExpressionInfo) →

@@ -29,14 +29,14 @@ use Rattle.naga_form.proofs.operators.AgreeingUses.{value_at}
 
 -- ---- where an item of a list comes from
 -- what stands in a list that is turned round onto another stands in one of both
-in_either : {X : Type 0} (xs behind : List X) (i : ℕ) (x : X) →
-    slice_get (reverse_aux xs behind) i ≡ Some x →
-    ((k : ℕ) × (slice_get xs k ≡ Some x)) ⊎ ((k : ℕ) × (slice_get behind k ≡ Some x))
-in_either [] behind i x there = inr (i, there)
-in_either (y ∷ xs) behind i x there = go (in_either xs (y ∷ behind) i x there)
+in_either : {X : Type 0} (xs following : List X) (i : ℕ) (x : X) →
+    slice_get (reverse_aux xs following) i ≡ Some x →
+    ((k : ℕ) × (slice_get xs k ≡ Some x)) ⊎ ((k : ℕ) × (slice_get following k ≡ Some x))
+in_either [] following i x there = inr (i, there)
+in_either (y ∷ xs) following i x there = go (in_either xs (y ∷ following) i x there)
   where
-    go : ((k : ℕ) × (slice_get xs k ≡ Some x)) ⊎ ((k : ℕ) × (slice_get (y ∷ behind) k ≡ Some x)) →
-        ((k : ℕ) × (slice_get (y ∷ xs) k ≡ Some x)) ⊎ ((k : ℕ) × (slice_get behind k ≡ Some x))
+    go : ((k : ℕ) × (slice_get xs k ≡ Some x)) ⊎ ((k : ℕ) × (slice_get (y ∷ following) k ≡ Some x)) →
+        ((k : ℕ) × (slice_get (y ∷ xs) k ≡ Some x)) ⊎ ((k : ℕ) × (slice_get following k ≡ Some x))
     go (inl found) = inl (suc found.0, found.1)
     go (inr (zero, at)) = inl (0, at)
     go (inr (suc k, at)) = inr (k, at)

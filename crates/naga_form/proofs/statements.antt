@@ -1,7 +1,7 @@
 -- Functions, their statements, and the `let`s that are written for them.
 pub mod Abstraction
 pub mod AcceptedFunctions
-pub mod Bindings
+pub mod WrittenLets
 pub mod EmptyCases
 pub mod FirstFunctions
 pub mod FittingStatements
@@ -11,7 +11,7 @@ pub mod Regular
 pub mod ScopeRules
 pub mod SimpleShapes
 pub mod StatementPrograms
-pub mod SwitchLabels
+pub mod SwitchCaseValues
 pub mod Switches
 pub mod WellFormed
 pub mod Worded

@@ -27,7 +27,7 @@ use Rattle.shader_runs.specs.Value.{Selector, MemberNamed, ElementAt}
 use Rattle.module_meaning.specs.Conversions.{conversion_target, keeps_bits}
 use Rattle.module_meaning.specs.ExpressionOperators.{ExpressionContext, applied_operator}
 use Rattle.module_meaning.specs.ExpressionOperators.{constructor, is_depth_image, level_of}
-use Rattle.module_meaning.specs.ExpressionOperators.{load_operator, scalar_behind, type_known}
+use Rattle.module_meaning.specs.ExpressionOperators.{load_operator, pointee_scalar, type_known}
 use Rattle.module_meaning.specs.ExpressionShapes.{Declared, part_selector, swizzle_letters}
 use Rattle.module_meaning.specs.OperatorTable.{Operator, WithoutForm, PartAt, is_zero_by_name}
 use Rattle.module_meaning.specs.OperatorTable.{zero_is_written}
@@ -101,7 +101,7 @@ matrix_tree t columns rows role row_major s =
 
 -- the scalars that the expression with this handle points to
 abbrev pub scalar_pointed : ExpressionContext → ℕ → Option Scalar
-scalar_pointed a pointer = option_and_then (scalar_behind a.types) (type_known a pointer)
+scalar_pointed a pointer = option_and_then (pointee_scalar a.types) (type_known a pointer)
 
 -- the type by which the operator of an expression is spelled, if it is one that has a form
 abbrev pub operator_type : ExpressionContext → TypeNames → ir.Expression → Option TypeSpecifier
@@ -117,14 +117,14 @@ abbrev pub no_form : PlainForm
 no_form = ValueForm (Constant (Truth false))
 
 -- a pointer to a type of the module, or to a scalar or a vector that has no type there
-abbrev pub is_pointer : TypeInner → Bool
-is_pointer (inner.Pointer base space) = true
-is_pointer (inner.ValuePointer size s space) = true
-is_pointer _ = false
+abbrev pub is_pointer_type : TypeInner → Bool
+is_pointer_type (inner.Pointer base space) = true
+is_pointer_type (inner.ValuePointer size s space) = true
+is_pointer_type _ = false
 
 -- the expression with this handle has such a type
-abbrev pub points : ExpressionContext → ℕ → Bool
-points a h = option_map_or is_pointer (type_known a h) false
+abbrev pub is_pointer : ExpressionContext → ℕ → Bool
+is_pointer a h = option_map_or is_pointer_type (type_known a h) false
 
 -- Through a pointer a part is a reference, over the reference that the base is written as;
 -- otherwise it is a value.
@@ -210,12 +210,12 @@ own_plain n source operand (expression.GlobalVariable handle) =
 own_plain n source operand (expression.LocalVariable handle) =
     ReferenceForm (Name (n.names.local_ handle))
 own_plain n source operand (expression.Access base index) =
-    part_plain (points source.declared.context base) (λ e. Index e (as_value (operand index)))
+    part_plain (is_pointer source.declared.context base) (λ e. Index e (as_value (operand index)))
     (operand base)
 own_plain n source operand (expression.AccessIndex base index) =
     let without = Some (WithoutForm (PartAt index)) in
     option_map_or
-    (λ x. part_plain (points source.declared.context base) (selected_part x) (operand base))
+    (λ x. part_plain (is_pointer source.declared.context base) (selected_part x) (operand base))
     (part_selector source.declared base index)
     (applied_plain no_form None operand (base ∷ []) without)
 own_plain n source operand (expression.Swizzle size vector pattern) =

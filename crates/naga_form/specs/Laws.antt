@@ -36,7 +36,7 @@ use Rattle.shader_runs.specs.World.{Meaning, Settings}
 use Rattle.text_meaning.specs.Abstraction.{function_read, program_read}
 use Rattle.module_meaning.specs.acceptance.Accepted.{is_accepted}
 use Rattle.module_meaning.specs.AlikeTypes.{are_alike}
-use Rattle.module_meaning.specs.Bindings.{BindsAt, BindsUnder}
+use Rattle.module_meaning.specs.FunctionLets.{BindsAt, BindsUnder}
 use Rattle.module_meaning.specs.DeclarationForms.{DeclarationsHaveForms, IsInitialiser}
 use Rattle.module_meaning.specs.DeclarationForms.{ItemsHaveForms}
 use Rattle.module_meaning.specs.ExpressionForms.{global_is_written}
@@ -98,8 +98,8 @@ NamesAreLabelNames = (m : Module) → AreLabelNames m (expression_name m)
 
 -- and so they are where those of one function are named after any others, in front of which those
 -- of the module's items are named
-abbrev pub NamesBehindAreLabelNames : Type 0
-NamesBehindAreLabelNames =
+abbrev pub NamesAfterAreLabelNames : Type 0
+NamesAfterAreLabelNames =
     (m : Module) (number : ℕ) (later : List (List ℕ)) →
     AreLabelNames m
     (named_apart m number

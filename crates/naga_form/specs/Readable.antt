@@ -60,7 +60,7 @@ pub data AreAlike (types : List Type_) : TypeResolution → TypeResolution → T
   SpelledAlike : {a b : TypeResolution} (t : TypeSpecifier) →
       resolution_tree (handle_names types) a ≡ Some t →
       resolution_tree (handle_names types) b ≡ Some t → AreAlike types a b
-  Formless : {a b : TypeResolution} →
+  Unsupported : {a b : TypeResolution} →
       resolution_tree (handle_names types) a ≡ None →
       resolution_tree (handle_names types) b ≡ None →
       inner_of a types ≡ inner_of b types → AreAlike types a b

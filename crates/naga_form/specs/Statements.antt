@@ -7,14 +7,15 @@ use Rattle.std.specs.Prelude.{ℕ, Bool, List, [], ◌∷◌, Option, true, fals
 use Rattle.std.specs.Prelude.{pos, negsuc}
 use Rattle.std.specs.Option.{option_map}
 use Rattle.naga_ir.specs.declared.statement.SwitchValue.{SwitchValue}
-use Rattle.naga_ir.specs.declared.statement.SwitchValue.TheVariants as label
+use Rattle.naga_ir.specs.declared.statement.SwitchValue.TheVariants as switch_value
 use Rattle.naga_ir.specs.StatementTree.{SimpleStatement}
 use Rattle.naga_ir.specs.StatementTree.{StatementTree, simple, block, branch, switch, loop}
 use Rattle.naga_ir.specs.StatementTree.{BlockTree, no_statements, statement, CaseTrees, no_cases}
 use Rattle.naga_ir.specs.StatementTree.{case}
 use Rattle.wgsl_text.specs.Expressions.{Expression, Arguments, NoArguments, Call, operands}
-use Rattle.wgsl_text.specs.Statements.{Label, DefaultLabel, SignedLabel, UnsignedLabel, Labels}
-use Rattle.wgsl_text.specs.Statements.{LastLabel, MoreLabels, Statement, Let, TypedLet, Assign}
+use Rattle.wgsl_text.specs.Statements.{CaseValue, DefaultCase, SignedCase, UnsignedCase, CaseValues}
+use Rattle.wgsl_text.specs.Statements.{LastCaseValue, MoreCaseValues, Statement, Let, TypedLet}
+use Rattle.wgsl_text.specs.Statements.{Assign}
 use Rattle.wgsl_text.specs.Statements.{CallStatement, Return, ReturnValue, Discard, Break}
 use Rattle.wgsl_text.specs.Statements.{Continue, If, Loop}
 use Rattle.wgsl_text.specs.Statements.{LoopBreakIf, Switch, Block, Statements, NoStatements, Then}
@@ -120,16 +121,16 @@ loop_form body b continuing None = Loop body (optional_form b continuing)
 loop_form body b continuing (Some e) = LoopBreakIf body continuing e
 
 -- the label of a case
-abbrev pub label_form : SwitchValue → Label
-label_form (label.I32 (pos n)) = SignedLabel false n
-label_form (label.I32 (negsuc n)) = SignedLabel true (suc n)
-label_form (label.U32 n) = UnsignedLabel n
-label_form label.Default = DefaultLabel
+abbrev pub case_value_form : SwitchValue → CaseValue
+case_value_form (switch_value.I32 (pos n)) = SignedCase false n
+case_value_form (switch_value.I32 (negsuc n)) = SignedCase true (suc n)
+case_value_form (switch_value.U32 n) = UnsignedCase n
+case_value_form switch_value.Default = DefaultCase
 
 -- the labels of a group: these, and after them its own
-abbrev pub labels_form : List Label → Label → Labels
-labels_form [] own = LastLabel own
-labels_form (l ∷ ls) own = MoreLabels l (labels_form ls own)
+abbrev pub case_values_form : List CaseValue → CaseValue → CaseValues
+case_values_form [] own = LastCaseValue own
+case_values_form (l ∷ ls) own = MoreCaseValues l (case_values_form ls own)
 
 -- Statements in order: k names were given by front ends, s are the handles in scope.
 abbrev mutual
@@ -141,19 +142,19 @@ abbrev mutual
   line_form n annotated source k (block b) s rest =
       Then (Block (lines_form n annotated source k b s)) rest
   line_form n annotated source k (branch condition accept reject) s rest =
-      let behind = named_by_all n.function (statements_shape source.declared.context accept) k in
+      let following = named_by_all n.function (statements_shape source.declared.context accept) k in
       let accepted = lines_form n annotated source k accept s in
-      let rejected = lines_form n annotated source behind reject s in
+      let rejected = lines_form n annotated source following reject s in
       Then (If (value_form n source s condition) accepted (optional_form reject rejected)) rest
   line_form n annotated source k (switch selector cases) s rest =
       Then (Switch (value_form n source s selector) (cases_form n annotated source k [] cases s))
       rest
   line_form n annotated source k (loop body continuing break_if) s rest =
-      let behind = named_by_all n.function (statements_shape source.declared.context body) k in
+      let following = named_by_all n.function (statements_shape source.declared.context body) k in
       let inside = after_all n k (statements_shape source.declared.context body) s in
-      let last = after_all n behind (statements_shape source.declared.context continuing) inside in
+      let last = after_all n following (statements_shape source.declared.context continuing) inside in
       let turn = lines_form n annotated source k body s in
-      let next = lines_form n annotated source behind continuing inside in
+      let next = lines_form n annotated source following continuing inside in
       Then (loop_form turn continuing next (option_map (value_form n source last) break_if)) rest
 
   pub lines_form :
@@ -162,19 +163,20 @@ abbrev mutual
   lines_form n annotated source k no_statements s = NoStatements
   lines_form n annotated source k (statement st b) s =
       let shape = statement_shape source.declared.context st in
-      let behind = named_by n.function shape k in
+      let following = named_by n.function shape k in
       line_form n annotated source k st s
-      (lines_form n annotated source behind b (after n k shape s))
+      (lines_form n annotated source following b (after n k shape s))
 
   -- a case that falls through has no lines, and gives its label to the next one: these wait for one
   pub cases_form :
-      Naming → (annotated : ℕ → Option TypeSpecifier) → Source → ℕ → List Label → CaseTrees →
+      Naming → (annotated : ℕ → Option TypeSpecifier) → Source → ℕ → List CaseValue → CaseTrees →
       Handles → Cases
   cases_form n annotated source k labels no_cases s = NoCases
   cases_form n annotated source k labels (case value body true cases) s =
-      let behind = named_by_all n.function (statements_shape source.declared.context body) k in
-      cases_form n annotated source behind (labels ++ label_form value ∷ []) cases s
+      let following = named_by_all n.function (statements_shape source.declared.context body) k in
+      cases_form n annotated source following (labels ++ case_value_form value ∷ []) cases s
   cases_form n annotated source k labels (case value body false cases) s =
-      let behind = named_by_all n.function (statements_shape source.declared.context body) k in
-      Case (labels_form labels (label_form value)) (lines_form n annotated source k body s)
-      (cases_form n annotated source behind [] cases s)
+      let following = named_by_all n.function (statements_shape source.declared.context body) k in
+      Case (case_values_form labels (case_value_form value))
+      (lines_form n annotated source k body s)
+      (cases_form n annotated source following [] cases s)

@@ -4,7 +4,7 @@
 
 pub mod types;
 
-ghost use Rattle.naga_form.specs.Laws.{NamesAreLabelNames, NamesBehindAreLabelNames};
+ghost use Rattle.naga_form.specs.Laws.{NamesAreLabelNames, NamesAfterAreLabelNames};
 ghost use Rattle.naga_form.specs.Laws.{NamesOfEachAreLabelNames};
 ghost use Rattle.naga_form.specs.Laws.{IsAProgram, HasTheInterface, KeepsTheLayouts};
 ghost use Rattle.naga_form.specs.Laws.{TellsTheLayouts};
@@ -27,7 +27,7 @@ ghost use Rattle.naga_form.specs.Laws.{OperandsAreDistinguished, RequestsAreDist
 /// those of each function are, each after others.
 pub fn names_are_of_labels()
     ensures whole { NamesAreLabelNames }
-    ensures behind { NamesBehindAreLabelNames }
+    ensures following { NamesAfterAreLabelNames }
     ensures each { NamesOfEachAreLabelNames }
 {}
 

@@ -19,17 +19,17 @@ pub trait Item {
 
 /// The place of an item in an [`Arena<T>`] or a [`UniqueArena<T>`](crate::UniqueArena), counted
 /// from zero.
-pub type Handle<T> = Place<<T as Item>::Mark>;
+pub type Handle<T> = ItemIndex<<T as Item>::Mark>;
 
 /// What [`Handle`] stands for: an index, with the mark of the items that it is an index of.
 #[derive(Drop)]
 #[derive_where(Clone, Copy, PartialEq, Eq, PartialOrd, Ord, Hash, Debug)]
-pub struct Place<M> {
+pub struct ItemIndex<M> {
     index: usize,
     mark: PhantomData<M>,
 }
 
-impl<M> Model for Place<M> {
+impl<M> Model for ItemIndex<M> {
     ghost Value = { ℕ };
 
     ghost view = { λ h. h.index };
@@ -37,13 +37,13 @@ impl<M> Model for Place<M> {
     ghost inverse = { λ n. record { index = n; mark = record {} } };
 }
 
-impl<M> Place<M> {
+impl<M> ItemIndex<M> {
     /// The handle of the item at `index`, counted from zero. Whether an arena has such an item is
     /// for its user to see to.
     pub fn from_index(index: usize) -> Self
         ensures { result ≡ index }
     {
-        Place {
+        ItemIndex {
             index,
             mark: PhantomData,
         }
@@ -103,7 +103,7 @@ impl<T: Item + Drop> Arena<T> {
         ensures items { IfOk result (λ _. self.new ≡ self.old ++ item ∷ []) }
         ensures err { OnErr result (self.new ≡ self.old) }
     {
-        let place = Place::from_index(self.items.len());
+        let place = ItemIndex::from_index(self.items.len());
         self.items.push(item)?;
         Ok(place)
     }
@@ -167,7 +167,7 @@ impl<'a, T: Item> Iterator for Iter<'a, T> {
 
     fn next(&mut self) -> Option<(Handle<T>, &'a T)> {
         let item = self.items.get(self.index)?;
-        let place = Place::from_index(self.index);
+        let place = ItemIndex::from_index(self.index);
         self.index += 1;
         Some((place, item))
     }

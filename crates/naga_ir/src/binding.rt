@@ -1,6 +1,6 @@
 //! How values go in and out of entry points, and how resources are found.
 
-/// The value that the hardware gives to an argument or takes from a result.
+/// A built-in value or a location, to which an argument or a result is bound.
 #[derive(Debug, Clone, Copy, PartialEq, Eq, Hash)]
 pub enum BuiltIn {
     /// The vertex's or the fragment's place.

@@ -49,7 +49,7 @@ bitflag_items! {
     impl MemoryDecorations: u32 {
         /// Writes are made visible to the other invocations: `@coherent`.
         const COHERENT = 1;
-        /// The memory may change behind the shader's back: `@volatile`.
+        /// The memory may be changed by others than the shader: `@volatile`.
         const VOLATILE = 2;
     }
 }

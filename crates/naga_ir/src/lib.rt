@@ -26,7 +26,7 @@ pub mod statement_operands;
 pub mod types;
 pub mod unique_arena;
 
-pub use arena::{Arena, Handle, Item, Place};
+pub use arena::{Arena, Handle, Item, ItemIndex};
 pub use binding::{Binding, BuiltIn, Interpolation, ResourceBinding, Sampling};
 pub use diagnostics::{FilterableTriggeringRule, Severity, StandardFilterableTriggeringRule};
 pub use expression::{

@@ -334,7 +334,7 @@ pub enum GatherMode {
     Shuffle(Handle<Expression>),
     /// From the one that lies this far ahead: `subgroupShuffleDown`.
     ShuffleDown(Handle<Expression>),
-    /// From the one that lies this far behind: `subgroupShuffleUp`.
+    /// From the one whose number is less by so much: `subgroupShuffleUp`.
     ShuffleUp(Handle<Expression>),
     /// From the one whose number differs by these bits: `subgroupShuffleXor`.
     ShuffleXor(Handle<Expression>),

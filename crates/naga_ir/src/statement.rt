@@ -80,7 +80,7 @@ pub struct SwitchCase {
     /// What it does.
     pub body: Block,
     /// Whether the next case's body runs after it. WGSL has this only for cases with an empty body,
-    /// whose labels it joins: `case 1, 2: {`.
+    /// whose values it joins: `case 1, 2: {`.
     pub fall_through: bool,
 }
 

@@ -171,7 +171,7 @@ impl<'a> Iterator for StatementOperands<'a> {
 
     ghost remaining = { item_count (λ s. s) };
 
-    #[tactic(auto, using(crate::proofs::Remaining::one_behind))]
+    #[tactic(auto, using(crate::proofs::Remaining::one_after))]
     fn next(&mut self) -> Option<Handle<Expression>> {
         match self.statement.operand(self.number) {
             Some(operand) => {

@@ -4,7 +4,7 @@ ghost use Rattle.std.specs.Prelude.{◌≡◌, ◌<◌, ◌==◌, List, [], leng
 ghost use Rattle.std.specs.List.{enumerate_from, position_or_len};
 ghost use Rattle.indexmap.specs.IndexSet.{insert_key};
 
-use crate::arena::{Handle, Item, Iter, Place};
+use crate::arena::{Handle, Item, ItemIndex, Iter};
 use indexmap::IndexSet;
 use std::alloc::{AllocError, Global};
 use std::hash::Hash;
@@ -55,7 +55,7 @@ impl<T: Item + Eq + Hash + Drop> UniqueArena<T> {
         ensures err { OnErr result (self.new ≡ self.old) }
     {
         let (index, _) = self.items.insert_full(item)?;
-        Ok(Place::from_index(index))
+        Ok(ItemIndex::from_index(index))
     }
 
     /// The handles with their items, in order.

@@ -1,6 +1,6 @@
 //! Functions, and what modules declare.
 
-use crate::error::{Problem, ReadError, Wanted};
+use crate::error::{Expected, Problem, ReadError};
 use crate::let_be;
 use crate::shape::{
     FromJson, expect_members, expect_members_beside, expect_null, fill, in_item, in_member,
@@ -10,8 +10,8 @@ use indexmap::IndexMap;
 use json::Value;
 use naga_ir::{
     Constant, EntryPoint, Expression, Function, FunctionArgument, FunctionResult, GlobalVariable,
-    Handle, LocalVariable, MeshStageInfo, Module, Override, Place, PredeclaredType, ShaderStage,
-    SpecialTypes, Type_,
+    Handle, ItemIndex, LocalVariable, MeshStageInfo, Module, Override, PredeclaredType,
+    ShaderStage, SpecialTypes, Type_,
 };
 use std::alloc::Global;
 use std::collections::BTreeMap;
@@ -216,7 +216,7 @@ impl FromJson for IndexMap<Handle<Expression>, String> {
         named.sort_unstable_by_key(|named| named.index);
         let mut read = IndexMap::new(alloc);
         for named in named {
-            read.insert(Place::from_index(named.index), named.label)?;
+            read.insert(ItemIndex::from_index(named.index), named.label)?;
         }
         Ok(read)
     }
@@ -232,7 +232,7 @@ fn named_expression(alloc: Global, key: &str, label: &Value) -> Result<NamedExpr
 /// The index that a member's name is.
 fn index_in(alloc: Global, key: &str) -> Result<usize, ReadError> {
     if !is_numeral(key) {
-        return Err(mistyped(alloc, Wanted::WholeNumber));
+        return Err(mistyped(alloc, Expected::WholeNumber));
     }
     match key.parse::<usize>() {
         Ok(index) => Ok(index),

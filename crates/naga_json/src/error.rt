@@ -6,7 +6,7 @@ use std::fmt;
 
 /// What a JSON value should be.
 #[derive(Clone, Copy, Debug, PartialEq, Eq)]
-pub enum Wanted {
+pub enum Expected {
     /// A number.
     Number,
     /// A whole number, told without a point or an exponent: `1.0` is none.
@@ -27,18 +27,18 @@ pub enum Wanted {
     Null,
 }
 
-impl fmt::Display for Wanted {
+impl fmt::Display for Expected {
     fn fmt<W: fmt::Write>(&self, f: &mut fmt::Formatter<W>) -> fmt::Result {
         match self {
-            Wanted::Number => f.write_str("number"),
-            Wanted::WholeNumber => f.write_str("whole number"),
-            Wanted::Text => f.write_str("text"),
-            Wanted::List => f.write_str("list"),
-            Wanted::Object => f.write_str("object"),
-            Wanted::TruthValue => f.write_str("truth value"),
-            Wanted::Variant => f.write_str("name and no object with one member"),
-            Wanted::Resolution => f.write_str("number and no object with one member"),
-            Wanted::Null => f.write_str("null"),
+            Expected::Number => f.write_str("number"),
+            Expected::WholeNumber => f.write_str("whole number"),
+            Expected::Text => f.write_str("text"),
+            Expected::List => f.write_str("list"),
+            Expected::Object => f.write_str("object"),
+            Expected::TruthValue => f.write_str("truth value"),
+            Expected::Variant => f.write_str("name and no object with one member"),
+            Expected::Resolution => f.write_str("number and no object with one member"),
+            Expected::Null => f.write_str("null"),
         }
     }
 }
@@ -49,7 +49,7 @@ pub enum Problem {
     /// It is absent.
     Missing,
     /// It is something else than is wanted.
-    Mistyped(Wanted),
+    Mistyped(Expected),
     /// It is a number that the wanted type does not have. No number is cut.
     OutOfRange,
     /// It is a list of another length than this.
@@ -145,7 +145,7 @@ impl ReadError {
     }
 
     /// The same, seen from the value around it.
-    pub(crate) fn behind(self, alloc: Global, step: &str) -> ReadError {
+    pub(crate) fn within(self, alloc: Global, step: &str) -> ReadError {
         match self {
             ReadError::Misfit { place, problem } => match joined(alloc, step, place.as_str()) {
                 Ok(place) => ReadError::Misfit { place, problem },

@@ -1,10 +1,10 @@
 //! What is known of modules.
 
-use crate::error::{ReadError, Wanted};
+use crate::error::{Expected, ReadError};
 use crate::shape::{FromJson, Variants, expect_known, fill, member, mistyped, read_variant};
 use json::Value;
 use naga_info::{ExpressionInfo, FunctionInfo, ModuleInfo, TypeResolution};
-use naga_ir::Place;
+use naga_ir::ItemIndex;
 use std::alloc::Global;
 
 /// The variants of [`TypeResolution`].
@@ -24,9 +24,9 @@ const TYPE_RESOLUTION_NAMES: &[(&str, TypeResolutionName)] = &[
 impl FromJson for TypeResolution {
     fn from_json(alloc: Global, value: &Value) -> Result<TypeResolution, ReadError> {
         match value {
-            Value::Number(_) => Ok(TypeResolution::Handle(Place::from_json(alloc, value)?)),
+            Value::Number(_) => Ok(TypeResolution::Handle(ItemIndex::from_json(alloc, value)?)),
             Value::Object(_) => read_variant(alloc, value),
-            _ => Err(mistyped(alloc, Wanted::Resolution)),
+            _ => Err(mistyped(alloc, Expected::Resolution)),
         }
     }
 }

@@ -1,9 +1,9 @@
 //! The shapes of JSON that values of Rust's types have: numbers, lists, objects, and enums whose
 //! variant is a text or the only member of an object.
 
-use crate::error::{Problem, ReadError, Wanted, told_name};
+use crate::error::{Expected, Problem, ReadError, told_name};
 use json::Value;
-use naga_ir::{Arena, Item, Place};
+use naga_ir::{Arena, Item, ItemIndex};
 use std::alloc::Global;
 
 /// What is read from a JSON value.
@@ -30,7 +30,7 @@ pub(crate) trait Variants: Sized + Drop {
 }
 
 /// The error of a value that is something else than is wanted.
-pub(crate) fn mistyped(alloc: Global, wanted: Wanted) -> ReadError {
+pub(crate) fn mistyped(alloc: Global, wanted: Expected) -> ReadError {
     ReadError::at(alloc, Problem::Mistyped(wanted))
 }
 
@@ -42,7 +42,7 @@ pub(crate) fn in_member<T>(
 ) -> Result<T, ReadError> {
     match read {
         Ok(value) => Ok(value),
-        Err(error) => Err(error.behind(alloc, name)),
+        Err(error) => Err(error.within(alloc, name)),
     }
 }
 
@@ -55,7 +55,7 @@ pub(crate) fn in_item<T>(
     match read {
         Ok(value) => Ok(value),
         Err(error) => match format!(in alloc; "[{index}]") {
-            Ok(step) => Err(error.behind(alloc, step.as_str())),
+            Ok(step) => Err(error.within(alloc, step.as_str())),
             Err(_) => Err(ReadError::OutOfMemory),
         },
     }
@@ -68,7 +68,7 @@ pub(crate) fn member<T: FromJson>(
     name: &str,
 ) -> Result<T, ReadError> {
     if !is_object(value) {
-        return Err(mistyped(alloc, Wanted::Object));
+        return Err(mistyped(alloc, Expected::Object));
     }
     let read = match value.get(name) {
         Some(found) => T::from_json(alloc, found),
@@ -98,7 +98,7 @@ pub(crate) fn fill<T: FromJson>(
     slot: &mut T,
 ) -> Result<(), ReadError> {
     if !is_object(value) {
-        return Err(mistyped(alloc, Wanted::Object));
+        return Err(mistyped(alloc, Expected::Object));
     }
     if let Some(found) = value.get(name) {
         *slot = in_member(alloc, name, T::from_json(alloc, found))?;
@@ -184,7 +184,7 @@ pub(crate) fn members_of<'v, 'a>(
 ) -> Result<&'v Vec<Member<'a>>, ReadError> {
     match value {
         Value::Object(members) => Ok(members),
-        _ => Err(mistyped(alloc, Wanted::Object)),
+        _ => Err(mistyped(alloc, Expected::Object)),
     }
 }
 
@@ -233,7 +233,7 @@ pub(crate) fn read_variant<T: Variants + 'static>(
 ) -> Result<T, ReadError> {
     let null = Value::Null;
     let Some(found) = named_variant(value, &null) else {
-        return Err(mistyped(alloc, Wanted::Variant));
+        return Err(mistyped(alloc, Expected::Variant));
     };
     let which = meaning(alloc, found.name, T::names())?;
     in_member(
@@ -248,7 +248,7 @@ pub(crate) fn unit<T: Drop>(alloc: Global, content: &Value, variant: T) -> Resul
     if content.is_null() {
         Ok(variant)
     } else {
-        Err(mistyped(alloc, Wanted::Null))
+        Err(mistyped(alloc, Expected::Null))
     }
 }
 
@@ -260,7 +260,7 @@ pub(crate) fn word<T: Copy + Drop>(
 ) -> Result<T, ReadError> {
     let null = Value::Null;
     let Some(found) = named_variant(value, &null) else {
-        return Err(mistyped(alloc, Wanted::Variant));
+        return Err(mistyped(alloc, Expected::Variant));
     };
     let which = meaning(alloc, found.name, words)?;
     in_member(alloc, found.name, unit(alloc, found.content, which))
@@ -304,10 +304,10 @@ const BEYOND_WHOLE_NUMBERS: f64 = 9223372036854775808.0;
 fn no_such_number(alloc: Global, value: &Value) -> ReadError {
     match value.as_f64() {
         Some(number) if is_fraction(value) && number.abs() < BEYOND_WHOLE_NUMBERS => {
-            mistyped(alloc, Wanted::WholeNumber)
+            mistyped(alloc, Expected::WholeNumber)
         }
         Some(_) => ReadError::at(alloc, Problem::OutOfRange),
-        None => mistyped(alloc, Wanted::Number),
+        None => mistyped(alloc, Expected::Number),
     }
 }
 
@@ -328,7 +328,7 @@ impl FromJson for bool {
     fn from_json(alloc: Global, value: &Value) -> Result<bool, ReadError> {
         match value.as_bool() {
             Some(truth) => Ok(truth),
-            None => Err(mistyped(alloc, Wanted::TruthValue)),
+            None => Err(mistyped(alloc, Expected::TruthValue)),
         }
     }
 
@@ -413,15 +413,15 @@ impl FromJson for String {
     fn from_json(alloc: Global, value: &Value) -> Result<String, ReadError> {
         match value.as_str() {
             Some(text) => Ok(String::from_str(alloc, text)?),
-            None => Err(mistyped(alloc, Wanted::Text)),
+            None => Err(mistyped(alloc, Expected::Text)),
         }
     }
 }
 
-impl<M> FromJson for Place<M> {
-    fn from_json(alloc: Global, value: &Value) -> Result<Place<M>, ReadError> {
+impl<M> FromJson for ItemIndex<M> {
+    fn from_json(alloc: Global, value: &Value) -> Result<ItemIndex<M>, ReadError> {
         let index = usize::from_json(alloc, value)?;
-        Ok(Place::from_index(index))
+        Ok(ItemIndex::from_index(index))
     }
 }
 
@@ -473,7 +473,7 @@ pub(crate) fn items_of<'v, 'a>(
 ) -> Result<&'v Vec<Value<'a>>, ReadError> {
     match value {
         Value::Array(items) => Ok(items),
-        _ => Err(mistyped(alloc, Wanted::List)),
+        _ => Err(mistyped(alloc, Expected::List)),
     }
 }
 

@@ -24,7 +24,7 @@ pub record IsBetween (ks : List (List ℕ)) (w : List ℕ) (low high : ℕ) : Ty
   pub ascend : low ≤ high
   pub within : high ≤ length ks
   pub before : (i : ℕ) (d : List ℕ) → i < low → word_cmp (get_or ks i d) w ≡ Less
-  pub behind : (i : ℕ) (d : List ℕ) → high ≤ i → i < length ks →
+  pub following : (i : ℕ) (d : List ℕ) → high ≤ i → i < length ks →
       word_cmp (get_or ks i d) w ≡ Greater
 
 module _ (ks : List (List ℕ)) (w : List ℕ) where
@@ -33,14 +33,14 @@ module _ (ks : List (List ℕ)) (w : List ℕ) where
     ascend = omega arith;
     within = omega (arith, is);
     before = λ i d less. absurd (omega (arith, less));
-    behind = λ i d from below. absurd (omega (arith, from, below, is));
+    following = λ i d from below. absurd (omega (arith, from, below, is));
   }
 
   pub nowhere : (low high : ℕ) → high ≤ low → IsBetween ks w low high → IsPlaceOf ks w low
   nowhere low high met b = record {
     within = omega (arith, b.ascend, b.within, met);
     before = b.before;
-    behind = λ i d from. b.behind i d (omega (arith, from, met));
+    following = λ i d from. b.following i d (omega (arith, from, met));
   }
 
   module _ (up : IsStrictlySortedBy word_cmp ks) (middle : ℕ) (within : middle < length ks) where
@@ -60,23 +60,23 @@ module _ (ks : List (List ℕ)) (w : List ℕ) where
       turned : word_cmp w (get_or ks middle d) ≡ Less
       turned = nat_list_cmp_total.antisymm w (get_or ks middle d) ∙ ap ordering_reverse is
 
-      behind_middle : (i : ℕ) → middle ≤ i → i < length ks → (b : Bool) → nat_lt middle i ≡ b →
+      following_middle : (i : ℕ) → middle ≤ i → i < length ks → (b : Bool) → nat_lt middle i ≡ b →
           word_cmp (get_or ks i d) w ≡ Greater
-      behind_middle i le end true lt =
+      following_middle i le end true lt =
           nat_list_cmp_total.antisymm (get_or ks i d) w
           ∙ ap ordering_reverse (nat_list_cmp_total.trans w (get_or ks middle d) (get_or ks i d) turned
           (Less-from_sorted word_cmp ks middle i d up (ltb-true middle i lt) end))
-      behind_middle i le end false not =
+      following_middle i le end false not =
           let same : i ≡ middle = omega (arith, le, ltb-false middle i not) in
           ap (λ at. word_cmp (get_or ks at d) w) same ∙ is
 
-    pub goes_behind : (low high : ℕ) → middle < high → IsBetween ks w low high →
+    pub goes_after : (low high : ℕ) → middle < high → IsBetween ks w low high →
         ((d : List ℕ) → word_cmp (get_or ks middle d) w ≡ Less) → IsBetween ks w (middle + 1) high
-    goes_behind low high lt b is = record {
+    goes_after low high lt b is = record {
       ascend = omega (arith, lt);
       within = b.within;
       before = λ i d less. before_middle d (is d) i (omega (arith, less)) (nat_lt i middle) refl;
-      behind = b.behind;
+      following = b.following;
     }
 
     pub goes_before : (low high : ℕ) → low ≤ middle → IsBetween ks w low high →
@@ -85,18 +85,18 @@ module _ (ks : List (List ℕ)) (w : List ℕ) where
       ascend = le;
       within = omega (arith, within);
       before = b.before;
-      behind = λ i d from end. behind_middle d (is d) i from end (nat_lt middle i) refl;
+      following = λ i d from end. following_middle d (is d) i from end (nat_lt middle i) refl;
     }
 
 -- where the last comes before the wanted one, all do
-pub place_behind : (ks : List (List ℕ)) (w : List ℕ) → IsStrictlySortedBy word_cmp ks → (n : ℕ) →
+pub place_after : (ks : List (List ℕ)) (w : List ℕ) → IsStrictlySortedBy word_cmp ks → (n : ℕ) →
     n ≡ length ks → 0 < n → ((d : List ℕ) → word_cmp (get_or ks (n - 1) d) w ≡ Less) →
     IsPlaceOf ks w n
-place_behind ks w up n is some less =
+place_after ks w up n is some less =
     let last : n - 1 < length ks = omega (arith, is, some) in
-    let all = goes_behind ks w up (n - 1) last 0 n (omega (arith, some)) (everywhere ks w n is) less in
-    let behind_all : n - 1 + 1 ≡ n = omega (arith, some) in
-    nowhere ks w n n (omega arith) (subst (λ low. IsBetween ks w low n) behind_all all)
+    let all = goes_after ks w up (n - 1) last 0 n (omega (arith, some)) (everywhere ks w n is) less in
+    let following_all : n - 1 + 1 ≡ n = omega (arith, some) in
+    nowhere ks w n n (omega arith) (subst (λ low. IsBetween ks w low n) following_all all)
 
 -- With so many comparisons made and so many members left, no more are made than the number of
 -- members has binary digits.
@@ -131,9 +131,9 @@ one_probe c left rest members some half had = record {
 pub middle_below : (low high : ℕ) → low < high → low + (high - low) / 2 < high
 middle_below low high some = omega (arith, some)
 
-pub left_behind : (low high : ℕ) → low < high →
+pub left_after : (low high : ℕ) → low < high →
     let rest = high - (low + (high - low) / 2 + 1) in rest + rest ≤ high - low
-left_behind low high some = omega (arith, some)
+left_after low high some = omega (arith, some)
 
 pub left_before : (low high : ℕ) → low < high →
     let rest = low + (high - low) / 2 - low in rest + rest ≤ high - low

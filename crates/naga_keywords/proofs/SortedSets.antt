@@ -60,7 +60,7 @@ module _ (w : List ℕ) where
     other_at i place j d end true less =
         differs (get_or ks j d) Less refl (place.before j d (ltb-true j i less))
     other_at i place j d end false from =
-        differs (get_or ks j d) Greater refl (place.behind j d (ltb-false j i from) end)
+        differs (get_or ks j d) Greater refl (place.following j d (ltb-false j i from) end)
 
     pub not_contained : (i : ℕ) → IsPlaceOf ks w i → set.contains (set_of ks) w ≡ false
     not_contained i place =
@@ -111,13 +111,13 @@ sorted_insert [] w (suc i) up place = (tt, tt)
 sorted_insert (k ∷ ks) w zero up place =
     let less : word_cmp w k ≡ Less =
     nat_list_cmp_total.antisymm w k
-    ∙ ap ordering_reverse (place.behind 0 [] (omega arith) (omega arith)) in
+    ∙ ap ordering_reverse (place.following 0 [] (omega arith) (omega arith)) in
     ((less, before_all w k ks less up.0), up)
 sorted_insert (k ∷ ks) w (suc i) up place =
     let here : IsPlaceOf ks w i = record {
       within = omega (arith, place.within);
       before = λ j d less. place.before (suc j) d (omega (arith, less));
-      behind = λ j d from end. place.behind (suc j) d (omega (arith, from)) (omega (arith, end));
+      following = λ j d from end. place.following (suc j) d (omega (arith, from)) (omega (arith, end));
     } in
     (before_more k w ks i up.0 (place.before 0 [] (omega arith)), sorted_insert ks w i up.1 here)
 

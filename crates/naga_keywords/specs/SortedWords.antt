@@ -31,7 +31,7 @@ keys_of case members = map (λ member. comparison_key case member.now) members
 pub record IsPlaceOf (ks : List (List ℕ)) (w : List ℕ) (index : ℕ) : Type 0 where
   pub within : index ≤ length ks
   pub before : (i : ℕ) (d : List ℕ) → i < index → word_cmp (get_or ks i d) w ≡ Less
-  pub behind : (i : ℕ) (d : List ℕ) → index ≤ i → i < length ks →
+  pub following : (i : ℕ) (d : List ℕ) → index ≤ i → i < length ks →
       word_cmp (get_or ks i d) w ≡ Greater
 
 -- the wanted one stands at the index

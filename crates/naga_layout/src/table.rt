@@ -15,7 +15,7 @@ ghost use Rattle.naga_layout.specs.Types.{arrays_are_kept, kept_struct, layout_a
 ghost use Rattle.naga_layout.specs.Types.{parts_before, placed_member, placed_members, told_length};
 
 use crate::types::{atomic_width_of, laid_matrix, laid_scalar, laid_vector, told_length, width_of};
-use naga_ir::{ArraySize, Handle, Place, StructMember, Type_, TypeInner, UniqueArena};
+use naga_ir::{ArraySize, Handle, ItemIndex, StructMember, Type_, TypeInner, UniqueArena};
 use std::alloc::{AllocError, Global};
 use wgsl_layout::{
     Layout, Misplaced, Placed, ended, free_array_layout, goes_on, own_fault, stands_after,
@@ -33,7 +33,7 @@ pub fn layouts_of(
 {
     let mut cells = Vec::with_capacity(alloc, types.len())?;
     for index in 0..types.len() {
-        let handle: Handle<Type_> = Place::from_index(index);
+        let handle: Handle<Type_> = ItemIndex::from_index(index);
         let layout = named_layout(types, undeclared, &cells, handle, &types[handle].inner);
         cells.push(layout)?;
     }
@@ -54,7 +54,7 @@ pub fn strides_of(
 {
     let mut marks = Vec::with_capacity(alloc, types.len())?;
     for index in 0..types.len() {
-        let handle: Handle<Type_> = Place::from_index(index);
+        let handle: Handle<Type_> = ItemIndex::from_index(index);
         let inner = &types[handle].inner;
         let kept = arrays_are_kept(types, undeclared, layouts, &marks, handle, inner);
         marks.push(kept)?;

@@ -8,12 +8,12 @@ use Rattle.std.specs.Hash.DefaultHasher.{wrapping_add}
 use Rattle.naga_ir.specs.StatementTree.{StatementTree, BlockTree, no_statements, statement}
 use Rattle.naga_ir.specs.StatementTree.{CaseTrees, case, has_no_statements}
 use Rattle.naga_ir.specs.declared.statement.SwitchValue.{SwitchValue}
-use Rattle.naga_listing.specs.declared.places.Line.{Line}
-use Rattle.naga_listing.specs.declared.places.Row.{Row}
-use Rattle.naga_listing.specs.declared.places.Row.TheVariants as row
-use Rattle.naga_listing.specs.declared.places.Spot.{Spot}
-use Rattle.naga_listing.specs.declared.places.Title.{Title}
-use Rattle.naga_listing.specs.declared.places.Title.TheVariants as title
+use Rattle.naga_listing.specs.declared.positions.Line.{Line}
+use Rattle.naga_listing.specs.declared.positions.Row.{Row}
+use Rattle.naga_listing.specs.declared.positions.Row.TheVariants as row
+use Rattle.naga_listing.specs.declared.positions.Spot.{Spot}
+use Rattle.naga_listing.specs.declared.positions.Title.{Title}
+use Rattle.naga_listing.specs.declared.positions.Title.TheVariants as title
 use Rattle.naga_listing.specs.Lines.{after_block, after_cases, after_statement, another_lines}
 use Rattle.naga_listing.specs.Lines.{block_lines, body_lines, case_lines, headed_lines, items_below}
 use Rattle.naga_listing.specs.Lines.{line, section, spot_in, statement_lines}

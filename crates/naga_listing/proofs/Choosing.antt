@@ -2,8 +2,8 @@
 use Rattle.std.proofs.Common.{◌≡◌, ℕ, ◌+◌, ◌<◌, List, length, drop, ap, slice_index_or, suc, ◌∙◌}
 use Rattle.std.proofs.Common.{arith}
 use Rattle.naga_listing.specs.Choice.{kept_from, with_any}
-use Rattle.naga_listing.specs.declared.places.Line.{Line}
-use Rattle.naga_listing.specs.declared.places.Spot.{Spot}
+use Rattle.naga_listing.specs.declared.positions.Line.{Line}
+use Rattle.naga_listing.specs.declared.positions.Spot.{Spot}
 use Rattle.std.proofs.lemmas.List.{drop_more}
 
 pub kept_next : (marked : ℕ) (spots : List Spot) (ls : List Line) (i : ℕ) (d : Line)

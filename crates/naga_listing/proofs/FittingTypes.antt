@@ -8,7 +8,7 @@ use Rattle.naga_ir.specs.declared.types.TypeInner.TheVariants as inner
 use Rattle.naga_ir.specs.declared.types.ArraySize.{ArraySize}
 use Rattle.naga_ir.specs.declared.types.ArraySize.TheVariants as size
 use Rattle.naga_words.specs.Contexts.{global_context}
-use Rattle.naga_words.specs.Spelling.{Fits, StandsBehind, knows_override, knows_size}
+use Rattle.naga_words.specs.Spelling.{Fits, StandsAfter, knows_override, knows_size}
 use Rattle.naga_words.specs.Spelling.{length_within, size_within}
 
 module _ (types : List Type_) (overrides : List Override) where
@@ -36,6 +36,6 @@ module _ (types : List Type_) (overrides : List Override) where
   length_known (inner.RayQuery vertex_return) k = k
 
   -- what stands after all types fits their context
-  pub fits : (it : TypeInner) → StandsBehind (length types) (length overrides) it
+  pub fits : (it : TypeInner) → StandsAfter (length types) (length overrides) it
       → Fits (global_context types overrides) it
-  fits it behind = record { in_range = behind.before; knows = length_known it behind.known }
+  fits it following = record { in_range = following.before; knows = length_known it following.known }

@@ -8,12 +8,12 @@ use Rattle.std.specs.Prelude.{List, [], ◌∷◌, if◌then◌else◌, slice_ge
 use Rattle.std.specs.List.{list_any, position}
 use Rattle.std.specs.Option.{option_map_or}
 use Rattle.naga_ir.specs.declared.module.Module.{Module}
-use Rattle.naga_listing.specs.contracts.places.SpotPartialEq.TheImpl.{eq-value}
-use Rattle.naga_listing.specs.declared.places.Line.{Line}
-use Rattle.naga_listing.specs.declared.places.Place.{Place}
-use Rattle.naga_listing.specs.declared.places.Row.{Row}
-use Rattle.naga_listing.specs.declared.places.Row.TheVariants as row
-use Rattle.naga_listing.specs.declared.places.Spot.{Spot}
+use Rattle.naga_listing.specs.contracts.positions.SpotPartialEq.TheImpl.{eq-value}
+use Rattle.naga_listing.specs.declared.positions.Line.{Line}
+use Rattle.naga_listing.specs.declared.positions.ListingPosition.{ListingPosition}
+use Rattle.naga_listing.specs.declared.positions.Row.{Row}
+use Rattle.naga_listing.specs.declared.positions.Row.TheVariants as row
+use Rattle.naga_listing.specs.declared.positions.Spot.{Spot}
 use Rattle.naga_listing.specs.Lines.{all_lines, line}
 use Rattle.naga_listing.specs.Named.{named_spots}
 
@@ -104,5 +104,5 @@ shown_lines s spots lines = (kept_from (marked_line s lines) spots 0 lines).line
 
 -- The lines of a place: those near its own, which is marked, those that enclose it, and those that
 -- it names. In the place of others stands a gap.
-abbrev pub place_lines : Module → Place → List Line
+abbrev pub place_lines : Module → ListingPosition → List Line
 place_lines m p = shown_lines p.spot (named_spots m p) (all_lines m p.listed)

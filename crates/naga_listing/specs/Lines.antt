@@ -10,15 +10,15 @@ use Rattle.naga_ir.specs.declared.module.Module.{Module}
 use Rattle.naga_ir.specs.StatementTree.{StatementTree, simple, block, branch, switch, loop}
 use Rattle.naga_ir.specs.StatementTree.{BlockTree, no_statements, statement, CaseTrees, no_cases}
 use Rattle.naga_ir.specs.StatementTree.{case}
-use Rattle.naga_listing.specs.declared.places.Line.{Line}
-use Rattle.naga_listing.specs.declared.places.Listed.{Listed}
-use Rattle.naga_listing.specs.declared.places.Listed.TheVariants as listed
-use Rattle.naga_listing.specs.declared.places.Row.{Row}
-use Rattle.naga_listing.specs.declared.places.Row.TheVariants as row
-use Rattle.naga_listing.specs.declared.places.Spot.{Spot}
-use Rattle.naga_listing.specs.declared.places.Spot.TheVariants as spot
-use Rattle.naga_listing.specs.declared.places.Title.{Title}
-use Rattle.naga_listing.specs.declared.places.Title.TheVariants as title
+use Rattle.naga_listing.specs.declared.positions.Line.{Line}
+use Rattle.naga_listing.specs.declared.positions.Listed.{Listed}
+use Rattle.naga_listing.specs.declared.positions.Listed.TheVariants as listed
+use Rattle.naga_listing.specs.declared.positions.Row.{Row}
+use Rattle.naga_listing.specs.declared.positions.Row.TheVariants as row
+use Rattle.naga_listing.specs.declared.positions.Spot.{Spot}
+use Rattle.naga_listing.specs.declared.positions.Spot.TheVariants as spot
+use Rattle.naga_listing.specs.declared.positions.Title.{Title}
+use Rattle.naga_listing.specs.declared.positions.Title.TheVariants as title
 
 abbrev pub line : (level : ℕ) → Row → Line
 line level r = record { level = level; row = r }

@@ -17,11 +17,11 @@ use Rattle.naga_ir.specs.Operands.{expression_operands, own_operands, own_result
 use Rattle.naga_ir.specs.StatementTree.{StatementTree, simple, block, branch, switch, loop}
 use Rattle.naga_ir.specs.StatementTree.{BlockTree, no_statements, statement, CaseTrees, no_cases}
 use Rattle.naga_ir.specs.StatementTree.{case}
-use Rattle.naga_listing.specs.declared.places.Listed.{Listed}
-use Rattle.naga_listing.specs.declared.places.Listed.TheVariants as listed
-use Rattle.naga_listing.specs.declared.places.Place.{Place}
-use Rattle.naga_listing.specs.declared.places.Spot.{Spot}
-use Rattle.naga_listing.specs.declared.places.Spot.TheVariants as spot
+use Rattle.naga_listing.specs.declared.positions.Listed.{Listed}
+use Rattle.naga_listing.specs.declared.positions.Listed.TheVariants as listed
+use Rattle.naga_listing.specs.declared.positions.ListingPosition.{ListingPosition}
+use Rattle.naga_listing.specs.declared.positions.Spot.{Spot}
+use Rattle.naga_listing.specs.declared.positions.Spot.TheVariants as spot
 
 -- ---- statements in the order of the text
 -- the statements inside one, those of a block, those of cases
@@ -130,5 +130,5 @@ listed_spots m (listed.EntryPoint index) s =
     option_map_or (λ e. part_spots e.function s) (slice_get m.entry_points.items index) []
 
 -- what a place names, and what is to be seen beside it
-abbrev pub named_spots : Module → Place → List Spot
+abbrev pub named_spots : Module → ListingPosition → List Spot
 named_spots m p = listed_spots m p.listed p.spot ++ option_to_list p.beside

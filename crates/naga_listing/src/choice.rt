@@ -9,7 +9,7 @@ ghost use Rattle.naga_listing.specs.Choice.{with_marked};
 
 use crate::lines::all_lines;
 use crate::named::named_spots;
-use crate::places::{Line, Place, Row, Spot};
+use crate::positions::{Line, ListingPosition, Row, Spot};
 use naga_ir::Module;
 use std::alloc::{AllocError, Global};
 use std::marker::Model;
@@ -24,10 +24,14 @@ const RADIUS: usize = 5;
 /// Where the module has no such place, the first line is marked.
 ///
 /// ```text
-/// let place = Place::of(Listed::Function(double), Spot::Expression(sum));
+/// let place = ListingPosition::of(Listed::Function(double), Spot::Expression(sum));
 /// let lines = listing(alloc, &module, &place)?;
 /// ```
-pub fn listing(alloc: Global, module: &Module, place: &Place) -> Result<Vec<Line>, AllocError>
+pub fn listing(
+    alloc: Global,
+    module: &Module,
+    place: &ListingPosition,
+) -> Result<Vec<Line>, AllocError>
     ensures { IfOk result (λ lines. lines.items ≡ place_lines «module».now place.now) }
 {
     let lines = all_lines(alloc, module, &place.listed)?;

@@ -7,7 +7,7 @@ use crate::expressions::{push_expression, push_function};
 use crate::lookup::item_at;
 use crate::numbers::statement_at;
 use crate::operands::{push_label, push_numbered};
-use crate::places::{Listed, Spot};
+use crate::positions::{Listed, Spot};
 use crate::statement_words::push_statement;
 use crate::types::{push_resolution, push_type};
 use naga_info::{FunctionInfo, ModuleInfo};

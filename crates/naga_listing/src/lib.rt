@@ -15,12 +15,12 @@ mod named;
 mod numbers;
 mod one_line;
 mod operands;
-mod places;
+mod positions;
 mod statement_words;
 mod text;
 mod types;
 
 pub use choice::listing;
 pub use one_line::on_one_line;
-pub use places::{Line, Listed, Place, Row, Spot, Title};
+pub use positions::{Line, Listed, ListingPosition, Row, Spot, Title};
 pub use text::explain;

@@ -11,8 +11,8 @@ ghost use Rattle.naga_listing.specs.Lines.{statement_lines};
 ghost use Rattle.naga_listing.specs.Lines.{two_lines};
 
 use crate::lookup::{entry_point_at, item_at};
-use crate::places::{Line, Listed, Row, Spot, Title};
-use naga_ir::{Block, Function, Module, Place, Statement, SwitchCase};
+use crate::positions::{Line, Listed, Row, Spot, Title};
+use naga_ir::{Block, Function, ItemIndex, Module, Statement, SwitchCase};
 use std::alloc::{AllocError, Global};
 
 /// All lines of what is listed; the first alone, where the module has no such function.
@@ -96,13 +96,13 @@ fn spot_in(title: Title, index: usize) -> Spot
     ensures { result ≡ spot_in title index }
 {
     match title {
-        Title::Types => Spot::Type_(Place::from_index(index)),
-        Title::Constants => Spot::Constant(Place::from_index(index)),
-        Title::Overrides => Spot::Override(Place::from_index(index)),
-        Title::GlobalVariables => Spot::GlobalVariable(Place::from_index(index)),
-        Title::GlobalExpressions => Spot::GlobalExpression(Place::from_index(index)),
-        Title::Locals => Spot::Local(Place::from_index(index)),
-        Title::Expressions => Spot::Expression(Place::from_index(index)),
+        Title::Types => Spot::Type_(ItemIndex::from_index(index)),
+        Title::Constants => Spot::Constant(ItemIndex::from_index(index)),
+        Title::Overrides => Spot::Override(ItemIndex::from_index(index)),
+        Title::GlobalVariables => Spot::GlobalVariable(ItemIndex::from_index(index)),
+        Title::GlobalExpressions => Spot::GlobalExpression(ItemIndex::from_index(index)),
+        Title::Locals => Spot::Local(ItemIndex::from_index(index)),
+        Title::Expressions => Spot::Expression(ItemIndex::from_index(index)),
         Title::Statements => Spot::Statement(index),
     }
 }

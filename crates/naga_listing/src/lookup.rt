@@ -3,7 +3,7 @@
 ghost use Rattle.std.specs.Prelude.{◌≡◌, slice_get};
 ghost use Rattle.std.specs.Option.{option_copied};
 
-use naga_ir::{Arena, EntryPoint, Handle, Item, Module, Place, Type_};
+use naga_ir::{Arena, EntryPoint, Handle, Item, ItemIndex, Module, Type_};
 
 /// The item at a handle, if there is one.
 #[tactic(auto, using(std::proofs::lemmas::Option::slice_get_past))]
@@ -12,7 +12,7 @@ pub(crate) fn item_at<T: Item + Drop>(arena: &Arena<T>, handle: Handle<T>) -> Op
 {
     let index = handle.index();
     if index < arena.len() {
-        Some(&arena[Place::from_index(index)])
+        Some(&arena[ItemIndex::from_index(index)])
     } else {
         None
     }

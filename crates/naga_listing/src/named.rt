@@ -4,7 +4,7 @@ ghost use Rattle.std.specs.Prelude.{◌≡◌, ◌∷◌, IfOk, map, take};
 ghost use Rattle.std.specs.Option.{option_to_list};
 ghost use Rattle.naga_ir.specs.Operands.{expression_operands, own_operands};
 ghost use Rattle.naga_ir.specs.StatementViews.{tree_of};
-ghost use Rattle.naga_listing.specs.declared.places.Spot.TheVariants as spot;
+ghost use Rattle.naga_listing.specs.declared.positions.Spot.TheVariants as spot;
 ghost use Rattle.naga_listing.specs.Named.{beside_operands, declared_spots, global_spots};
 ghost use Rattle.naga_listing.specs.Named.{listed_spots, most_named, named_spots, operand_spots};
 ghost use Rattle.naga_listing.specs.Named.{part_spots};
@@ -12,7 +12,7 @@ ghost use Rattle.naga_listing.specs.Named.{size_spots, statement_spots, type_spo
 
 use crate::lookup::{entry_point_at, item_at, type_at};
 use crate::numbers::statement_at;
-use crate::places::{Listed, Place, Spot};
+use crate::positions::{Listed, ListingPosition, Spot};
 use naga_ir::{
     ArraySize, Expression, Function, Handle, Module, Statement, StructMember, Type_, TypeInner,
 };
@@ -25,7 +25,7 @@ const MOST_NAMED: usize = 6;
 pub(crate) fn named_spots(
     alloc: Global,
     module: &Module,
-    place: &Place,
+    place: &ListingPosition,
 ) -> Result<Vec<Spot>, AllocError>
     ensures { IfOk result (λ spots. spots.items ≡ named_spots «module».now place.now) }
 {

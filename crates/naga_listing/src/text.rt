@@ -2,7 +2,7 @@
 
 use crate::choice::listing;
 use crate::items::Lister;
-use crate::places::{Line, Place, Row, Spot, Title};
+use crate::positions::{Line, ListingPosition, Row, Spot, Title};
 use crate::statement_words::push_case;
 use naga_info::ModuleInfo;
 use naga_ir::Module;
@@ -13,7 +13,7 @@ use std::alloc::{AllocError, Global};
 /// those that hold them; and the message under the place's own line.
 ///
 /// ```text
-/// let place = Place::of(Listed::Function(double), Spot::Expression(sum));
+/// let place = ListingPosition::of(Listed::Function(double), Spot::Expression(sum));
 /// let text = explain(alloc, &module, &info, &place, "an operand is no number")?;
 /// // function 0 "double"("x": i32) -> i32
 /// //   expressions
@@ -30,7 +30,7 @@ pub fn explain(
     alloc: Global,
     module: &Module,
     info: &ModuleInfo,
-    place: &Place,
+    place: &ListingPosition,
     message: &str,
 ) -> Result<String, AllocError> {
     let lines = listing(alloc, module, place)?;

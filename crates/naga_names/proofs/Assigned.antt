@@ -33,10 +33,10 @@ module _ (names : Names) (base : List ℕ) where
   here : (label : List ℕ) (labels : List (List ℕ)) → bytes_eq (label_base names label) base ≡ true → Counted names (label ∷ labels) base 0
   here label labels is = record { place = 0; label = label; there = refl; own = (bytes_decides (label_base names label) base).0 is; before = refl }
 
-  behind : (x : List ℕ) (labels : List (List ℕ)) (k number : ℕ) (b : Bool) →
+  following : (x : List ℕ) (labels : List (List ℕ)) (k number : ℕ) (b : Bool) →
       bytes_eq (label_base names x) base ≡ b → cond b 1 0 + k ≡ number →
       Counted names labels base k → Counted names (x ∷ labels) base number
-  behind x labels k number b is total inner = record {
+  following x labels k number b is total inner = record {
     place = suc inner.place;
     label = inner.label;
     there = inner.there;
@@ -58,11 +58,11 @@ module _ (names : Names) (base : List ℕ) where
       either inner (suc n) true is lt =
           let less : suc n < 1 + labels_with_base names labels base = subst (λ t. suc n < cond t 1 0 + labels_with_base names labels base) is lt in
           let one_more : 1 + n ≡ suc n = omega arith in
-          behind x labels n (suc n) true is one_more (inner n (omega (arith, less)))
+          following x labels n (suc n) true is one_more (inner n (omega (arith, less)))
       either inner number false is lt =
           let less : number < 0 + labels_with_base names labels base = subst (λ t. number < cond t 1 0 + labels_with_base names labels base) is lt in
           let same : 0 + number ≡ number = omega arith in
-          behind x labels number number false is same (inner number (omega (arith, less)))
+          following x labels number number false is same (inner number (omega (arith, less)))
 
 module _ (names : Names) (labels : List (List ℕ)) (has : HasNamed names labels) where
   pub assigned_follow : (word : List ℕ) → WasAssigned names labels word → FollowsFromUses names word

@@ -145,17 +145,17 @@ unseparated-zeros (suc n) = unseparated-zeros n
 no_separator_glyph : (d : ℕ) → d < 16 → not (digit_glyph false d == 95) ≡ true
 no_separator_glyph d lt = grind (arith, nat_tests)
 
-unseparated-digits : (k n : ℕ) (behind : List ℕ) → unseparated behind ≡ true → unseparated (digits_onto k 16 false n behind) ≡ true
-unseparated-digits zero n behind e = e
-unseparated-digits (suc k) n behind e =
-    more (n / 16 == 0) (ap (λ b. b && unseparated behind) (no_separator_glyph (n % 16) (omega arith)) ∙ e) (unseparated-digits k (n / 16) (digit_glyph false (n % 16) ∷ behind))
+unseparated-digits : (k n : ℕ) (following : List ℕ) → unseparated following ≡ true → unseparated (digits_onto k 16 false n following) ≡ true
+unseparated-digits zero n following e = e
+unseparated-digits (suc k) n following e =
+    more (n / 16 == 0) (ap (λ b. b && unseparated following) (no_separator_glyph (n % 16) (omega arith)) ∙ e) (unseparated-digits k (n / 16) (digit_glyph false (n % 16) ∷ following))
   where
-    more : (b : Bool) → unseparated (digit_glyph false (n % 16) ∷ behind) ≡ true →
-        (unseparated (digit_glyph false (n % 16) ∷ behind) ≡ true →
-        unseparated (digits_onto k 16 false (n / 16) (digit_glyph false (n % 16) ∷ behind)) ≡
+    more : (b : Bool) → unseparated (digit_glyph false (n % 16) ∷ following) ≡ true →
+        (unseparated (digit_glyph false (n % 16) ∷ following) ≡ true →
+        unseparated (digits_onto k 16 false (n / 16) (digit_glyph false (n % 16) ∷ following)) ≡
         true) → unseparated
-        (cond b (digit_glyph false (n % 16) ∷ behind)
-        (digits_onto k 16 false (n / 16) (digit_glyph false (n % 16) ∷ behind))) ≡ true
+        (cond b (digit_glyph false (n % 16) ∷ following)
+        (digits_onto k 16 false (n / 16) (digit_glyph false (n % 16) ∷ following))) ≡ true
     more true one rest = one
     more false one rest = rest one
 
@@ -478,17 +478,17 @@ without_last-pop text shorter n long last split cut =
 
 -- ---- digits
 module _ (p : ℕ → Bool) (base : ℕ) (each : (n : ℕ) → p (digit_glyph false (n % base)) ≡ true) where
-  pub all_digits_onto : (k n : ℕ) (behind : List ℕ) → list_all p behind ≡ true → list_all p (digits_onto k base false n behind) ≡ true
-  all_digits_onto zero n behind e = e
-  all_digits_onto (suc k) n behind e =
-      more (n / base == 0) (ap (λ b. b && list_all p behind) (each n) ∙ e) (all_digits_onto k (n / base) (digit_glyph false (n % base) ∷ behind))
+  pub all_digits_onto : (k n : ℕ) (following : List ℕ) → list_all p following ≡ true → list_all p (digits_onto k base false n following) ≡ true
+  all_digits_onto zero n following e = e
+  all_digits_onto (suc k) n following e =
+      more (n / base == 0) (ap (λ b. b && list_all p following) (each n) ∙ e) (all_digits_onto k (n / base) (digit_glyph false (n % base) ∷ following))
     where
-      more : (b : Bool) → list_all p (digit_glyph false (n % base) ∷ behind) ≡ true →
-          (list_all p (digit_glyph false (n % base) ∷ behind) ≡ true →
-          list_all p (digits_onto k base false (n / base) (digit_glyph false (n % base) ∷ behind)) ≡
+      more : (b : Bool) → list_all p (digit_glyph false (n % base) ∷ following) ≡ true →
+          (list_all p (digit_glyph false (n % base) ∷ following) ≡ true →
+          list_all p (digits_onto k base false (n / base) (digit_glyph false (n % base) ∷ following)) ≡
           true) → list_all p
-          (cond b (digit_glyph false (n % base) ∷ behind)
-          (digits_onto k base false (n / base) (digit_glyph false (n % base) ∷ behind))) ≡ true
+          (cond b (digit_glyph false (n % base) ∷ following)
+          (digits_onto k base false (n / base) (digit_glyph false (n % base) ∷ following))) ≡ true
       more true one rest = one
       more false one rest = rest one
 

@@ -315,37 +315,37 @@ pub reserved_plain : HasPlainEnds (set.from_list (map (λ word. word.now) RESERV
 reserved_plain = plain_ends (map (λ word. word.now) RESERVED.now) (words_are (map (λ word. word.now) RESERVED.now) refl)
 
 -- the item stands among these, directly after those
-pub record StandsBehind (items : List LabelledItem) (item : LabelledItem) (done : List LabelledItem) : Type 0 where
+pub record StandsAfter (items : List LabelledItem) (item : LabelledItem) (done : List LabelledItem) : Type 0 where
   pub place : ℕ
   pub there : slice_get items place ≡ Some item
   pub front : List LabelledItem
   pub before : take place items ≡ front ++ done
 
-behind_left : (xs ys : List LabelledItem) (item : LabelledItem) (done : List LabelledItem) → StandsBehind xs item done → StandsBehind (xs ++ ys) item done
-behind_left xs ys item done s =
+after_left : (xs ys : List LabelledItem) (item : LabelledItem) (done : List LabelledItem) → StandsAfter xs item done → StandsAfter (xs ++ ys) item done
+after_left xs ys item done s =
     let le : s.place ≤ length xs = omega (arith, slice_get_within xs s.place item s.there) in
     record { place = s.place; there = place_left xs ys s.place item s.there; front = s.front; before = take-append-le s.place xs ys le ∙ s.before }
 
-behind_right : (xs ys : List LabelledItem) (item : LabelledItem) (done : List LabelledItem) → StandsBehind ys item done → StandsBehind (xs ++ ys) item done
-behind_right [] ys item done s = s
-behind_right (x ∷ xs) ys item done s =
-    let inner = behind_right xs ys item done s in
+after_right : (xs ys : List LabelledItem) (item : LabelledItem) (done : List LabelledItem) → StandsAfter ys item done → StandsAfter (xs ++ ys) item done
+after_right [] ys item done s = s
+after_right (x ∷ xs) ys item done s =
+    let inner = after_right xs ys item done s in
     record { place = suc inner.place; there = inner.there; front = x ∷ inner.front; before = ap (λ items. x ∷ items) inner.before }
 
-behind_sections : {X : Type 0} (section : ℕ → X → List LabelledItem) (n i : ℕ) (xs : List X) (x : X)
+after_sections : {X : Type 0} (section : ℕ → X → List LabelledItem) (n i : ℕ) (xs : List X) (x : X)
     (item : LabelledItem) (done : List LabelledItem) → slice_get xs i ≡ Some x →
-    StandsBehind (section (n + i) x) item done →
-    StandsBehind (flat_map (λ p. section p.0 p.1) (enumerate_from n xs)) item done
-behind_sections section n i [] x item done e s = absurd (none-some x e)
-behind_sections section n zero (y ∷ xs) x item done e s =
+    StandsAfter (section (n + i) x) item done →
+    StandsAfter (flat_map (λ p. section p.0 p.1) (enumerate_from n xs)) item done
+after_sections section n i [] x item done e s = absurd (none-some x e)
+after_sections section n zero (y ∷ xs) x item done e s =
     let here : n + zero ≡ n = omega arith in
-    behind_left (section n y) (flat_map (λ p. section p.0 p.1) (enumerate_from (n + 1) xs)) item done
-    (subst (λ z. StandsBehind (section n z) item done) (sym (ap (λ o. unwrap_or o y) e)) (subst (λ m. StandsBehind (section m x) item done) here s))
-behind_sections section n (suc i) (y ∷ xs) x item done e s =
+    after_left (section n y) (flat_map (λ p. section p.0 p.1) (enumerate_from (n + 1) xs)) item done
+    (subst (λ z. StandsAfter (section n z) item done) (sym (ap (λ o. unwrap_or o y) e)) (subst (λ m. StandsAfter (section m x) item done) here s))
+after_sections section n (suc i) (y ∷ xs) x item done e s =
     let next : n + suc i ≡ n + 1 + i = omega arith in
-    behind_right (section n y) (flat_map (λ p. section p.0 p.1) (enumerate_from (n + 1) xs)) item
-    done (behind_sections section (n + 1) i xs x item done e
-    (subst (λ m. StandsBehind (section m x) item done) next s))
+    after_right (section n y) (flat_map (λ p. section p.0 p.1) (enumerate_from (n + 1) xs)) item
+    done (after_sections section (n + 1) i xs x item done e
+    (subst (λ m. StandsAfter (section m x) item done) next s))
 
 module _ {X : Type 0} (entry : ℕ → X → LabelledItem) where
   entry_at : (n i : ℕ) (xs : List X) (x : X) → slice_get xs i ≡ Some x → slice_get (map (λ p. entry p.0 p.1) (enumerate_from n xs)) i ≡ Some (entry (n + i) x)
@@ -371,7 +371,7 @@ module _ (start : Names) («module» : Module) (t : ℕ) (ty : Type_)
   abbrev item : LabelledItem
   item = (key.StructMember t n, member_label member)
 
-  in_type : StandsBehind (labelled_type «module».entry_points.items t ty) item done
+  in_type : StandsAfter (labelled_type «module».entry_points.items t ty) item done
   in_type =
       let same : 0 + n ≡ n = omega arith in
       record {
@@ -383,14 +383,14 @@ module _ (start : Names) («module» : Module) (t : ℕ) (ty : Type_)
             (members_of ty.inner));
       }
 
-  pub in_module : StandsBehind (labelled_items start «module») item done
+  pub in_module : StandsAfter (labelled_items start «module») item done
   in_module =
       let m = «module» in
       let same : t ≡ 0 + t = omega arith in
       let others = labelled_entry_points m.entry_points.items ++ (labelled_functions m.types m.functions ++ labelled_globals m.types m.global_variables) in
-      behind_left (labelled_declarations m) (labelled_values (type_name start m) m) item done
-      (behind_left (labelled_types m.entry_points.items m.types) others item done
-      (behind_sections (labelled_type m.entry_points.items) 0 t m.types ty item done found (subst (λ k. StandsBehind (labelled_type m.entry_points.items k ty) item done) same in_type)))
+      after_left (labelled_declarations m) (labelled_values (type_name start m) m) item done
+      (after_left (labelled_types m.entry_points.items m.types) others item done
+      (after_sections (labelled_type m.entry_points.items) 0 t m.types ty item done found (subst (λ k. StandsAfter (labelled_type m.entry_points.items k ty) item done) same in_type)))
 
   long : length (take n (members_of ty.inner)) ≡ n
   long = let le : n ≤ length (members_of ty.inner) = omega (arith, slice_get_within (members_of ty.inner) n member there) in omega (arith, length-take-le n (members_of ty.inner) le)

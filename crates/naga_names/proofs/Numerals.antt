@@ -3,7 +3,8 @@
 --
 -- Throughout, k and j are how many digits may be written, n is the number and after what stands
 -- after its digits.
-use Rattle.std.proofs.Common.{◌≡◌, ℕ, zero, suc, ◌+◌, ◌-◌, ◌*◌, ◌/◌, ◌%◌, ◌^◌, ◌<◌, ◌==◌, ap, sym, refl}
+use Rattle.std.proofs.Common.{◌≡◌, ℕ, zero, suc, ◌+◌, ◌-◌, ◌*◌, ◌/◌, ◌%◌, ◌^◌, ◌<◌, ◌==◌, ap, sym}
+use Rattle.std.proofs.Common.{refl}
 use Rattle.std.proofs.Common.{Bool, true, false, cond, List, [], ◌∷◌, ◌∙◌, arith}
 use Rattle.std.specs.Fmt.{decimal, digits, digits_onto, digit_glyph}
 use Rattle.std.proofs.lemmas.Bool.Decides.{nat_tests}
@@ -26,26 +27,26 @@ fits (suc n) = omega (arith, pow-suc 10 (suc n), fits n)
 none : (m : ℕ) → (m == 0) ≡ true → m ≡ 0
 none m e = grind (arith, nat_tests)
 
-reads_back : (k n : ℕ) (behind : List ℕ) → n < 10 ^ k →
-    read_on 0 (digits_onto k 10 false n behind) ≡ read_on n behind
-reads_back zero n behind small =
-    ap (λ m. read_on m behind) {x = 0} {y = n} (omega (arith, small, pow-zero 10))
-reads_back (suc k) n behind small =
+reads_back : (k n : ℕ) (following : List ℕ) → n < 10 ^ k →
+    read_on 0 (digits_onto k 10 false n following) ≡ read_on n following
+reads_back zero n following small =
+    ap (λ m. read_on m following) {x = 0} {y = n} (omega (arith, small, pow-zero 10))
+reads_back (suc k) n following small =
     by (n / 10 == 0) refl
-    (reads_back k (n / 10) (digit_glyph false (n % 10) ∷ behind) (omega (arith, small, pow-suc 10 k)))
+    (reads_back k (n / 10) (digit_glyph false (n % 10) ∷ following) (omega (arith, small, pow-suc 10 k)))
   where
     digit : ℕ
     digit = digit_glyph false (n % 10)
 
     by : (b : Bool) → (n / 10 == 0) ≡ b →
-        read_on 0 (digits_onto k 10 false (n / 10) (digit ∷ behind)) ≡ read_on (n / 10) (digit ∷ behind) →
-        read_on 0 (cond b (digit ∷ behind) (digits_onto k 10 false (n / 10) (digit ∷ behind)))
-        ≡ read_on n behind
+        read_on 0 (digits_onto k 10 false (n / 10) (digit ∷ following)) ≡ read_on (n / 10) (digit ∷ following) →
+        read_on 0 (cond b (digit ∷ following) (digits_onto k 10 false (n / 10) (digit ∷ following)))
+        ≡ read_on n following
     by true e r =
-        ap (λ m. read_on m behind) {x = 0 * 10 + (digit - 48)} {y = n}
+        ap (λ m. read_on m following) {x = 0 * 10 + (digit - 48)} {y = n}
         (omega (arith, none (n / 10) e, last_digit n))
     by false e r =
-        r ∙ ap (λ m. read_on m behind) {x = n / 10 * 10 + (digit - 48)} {y = n} (omega (arith, last_digit n))
+        r ∙ ap (λ m. read_on m following) {x = n / 10 * 10 + (digit - 48)} {y = n} (omega (arith, last_digit n))
 
 -- a numeral tells its number
 pub numeral_injective : (m n : ℕ) → numeral m ≡ numeral n → m ≡ n
@@ -61,14 +62,14 @@ some_digits zero m small some =
 some_digits (suc k) m small some = omega arith
 
 -- as many digits are written wherever there may be so many
-one_numeral : (k j n : ℕ) (behind : List ℕ) → 0 < k → 0 < j → n < 10 ^ k → n < 10 ^ j →
-    digits_onto k 10 false n behind ≡ digits_onto j 10 false n behind
-one_numeral zero j n behind some_k some_j small_k small_j = absurd (omega (arith, some_k))
-one_numeral (suc k) zero n behind some_k some_j small_k small_j = absurd (omega (arith, some_j))
-one_numeral (suc k) (suc j) n behind some_k some_j small_k small_j =
+one_numeral : (k j n : ℕ) (following : List ℕ) → 0 < k → 0 < j → n < 10 ^ k → n < 10 ^ j →
+    digits_onto k 10 false n following ≡ digits_onto j 10 false n following
+one_numeral zero j n following some_k some_j small_k small_j = absurd (omega (arith, some_k))
+one_numeral (suc k) zero n following some_k some_j small_k small_j = absurd (omega (arith, some_j))
+one_numeral (suc k) (suc j) n following some_k some_j small_k small_j =
     by (n / 10 == 0) refl
     (λ some.
-    one_numeral k j (n / 10) (digit_glyph false (n % 10) ∷ behind) (some_digits k (n / 10) below_k some)
+    one_numeral k j (n / 10) (digit_glyph false (n % 10) ∷ following) (some_digits k (n / 10) below_k some)
     (some_digits j (n / 10) below_j some) below_k below_j)
   where
     below_k : n / 10 < 10 ^ k
@@ -79,12 +80,12 @@ one_numeral (suc k) (suc j) n behind some_k some_j small_k small_j =
 
     by : (b : Bool) → (n / 10 == 0) ≡ b →
         ((n / 10 == 0) ≡ false →
-        digits_onto k 10 false (n / 10) (digit_glyph false (n % 10) ∷ behind)
-        ≡ digits_onto j 10 false (n / 10) (digit_glyph false (n % 10) ∷ behind)) →
-        cond b (digit_glyph false (n % 10) ∷ behind)
-        (digits_onto k 10 false (n / 10) (digit_glyph false (n % 10) ∷ behind))
-        ≡ cond b (digit_glyph false (n % 10) ∷ behind)
-        (digits_onto j 10 false (n / 10) (digit_glyph false (n % 10) ∷ behind))
+        digits_onto k 10 false (n / 10) (digit_glyph false (n % 10) ∷ following)
+        ≡ digits_onto j 10 false (n / 10) (digit_glyph false (n % 10) ∷ following)) →
+        cond b (digit_glyph false (n % 10) ∷ following)
+        (digits_onto k 10 false (n / 10) (digit_glyph false (n % 10) ∷ following))
+        ≡ cond b (digit_glyph false (n % 10) ∷ following)
+        (digits_onto j 10 false (n / 10) (digit_glyph false (n % 10) ∷ following))
     by true e rest = refl
     by false e rest = rest e
 

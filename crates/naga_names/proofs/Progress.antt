@@ -51,8 +51,8 @@ pub gives_same : {a b : Progress} {xs ys : List LabelledItem} → xs ≡ ys → 
 gives_same {a} {b} same gives = subst (λ items. Gives a items b) same gives
 
 -- after a refusal nothing is named
-pub gives_behind : (a : Progress) (items : List LabelledItem) → is_some a.refusal ≡ true → Gives a items a
-gives_behind a items is = record { more = λ start first earlier stands. either start first earlier a.refusal is stands }
+pub gives_after : (a : Progress) (items : List LabelledItem) → is_some a.refusal ≡ true → Gives a items a
+gives_after a items is = record { more = λ start first earlier stands. either start first earlier a.refusal is stands }
   where
     either : (start : Names) (first : NameMap) (earlier : List LabelledItem)
         (o : Option NamerError) → is_some o ≡ true → Stands start first earlier a.names a.map o →
@@ -154,7 +154,7 @@ module _ (a b : Progress) («module» : Module) (declared : Gives a (labelled_de
   pub module_refused : is_some b.refusal ≡ true → GivesModule a «module» b
   module_refused is = record {
     more = λ start first stands.
-        (gives_behind b (labelled_values (type_name start «module») «module») is).more start first (labelled_declarations «module») (declared.more start first [] stands);
+        (gives_after b (labelled_values (type_name start «module») «module») is).more start first (labelled_declarations «module») (declared.more start first [] stands);
   }
 
   -- they are labelled by the names that the map has for their types

@@ -34,7 +34,7 @@ use Rattle.naga_scope.specs.Availabilities.{is_constant_by}
 use Rattle.naga_scope.specs.Availabilities.{first_availability, is_constant_kind, is_pure_kind}
 use Rattle.naga_scope.specs.Availabilities.{kind_at}
 use Rattle.naga_scope.specs.Availabilities.{operands_at}
-use Rattle.naga_scope.proofs.Shaped.{constant_at, pure_at, pure_operands}
+use Rattle.naga_scope.proofs.ShapeKinds.{constant_at, pure_at, pure_operands}
 
 -- ---- tests of the operands
 -- tests that agree below a bound agree on operands below it

@@ -37,10 +37,11 @@ use Rattle.naga_scope.specs.Availabilities.{availability_of, handles_of, kind_at
 use Rattle.naga_scope.specs.Availabilities.{unbound_availability}
 use Rattle.naga_scope.specs.Availabilities.{emitted_availability, is_emittable_kind, name_of_bound}
 use Rattle.naga_scope.specs.Availabilities.{next_name, operands_at}
-use Rattle.naga_scope.specs.ScopeChecks.{Checked, check_bound, check_emitted, check_operands, unless}
+use Rattle.naga_scope.specs.ScopeChecks.{Checked, check_bound, check_emitted, check_operands}
+use Rattle.naga_scope.specs.ScopeChecks.{unless}
 use Rattle.naga_scope.specs.declared.scope_faults.ScopeFault.TheVariants.{GivenBefore, NeedsNoEmit}
 use Rattle.naga_scope.proofs.Offsets.{checked_operands}
-use Rattle.naga_scope.proofs.Shaped.{emittable_at}
+use Rattle.naga_scope.proofs.ShapeKinds.{emittable_at}
 use Rattle.naga_scope.specs.Availabilities.{KeepsStart}
 use Rattle.module_meaning.specs.Premises.{OperandsStandBefore}
 

@@ -1,5 +1,6 @@
 -- Labels that are named one after another.
-use Rattle.std.proofs.Common.{◌≡◌, ◌≤◌, ◌^◌, ◌++◌, ◌∙◌, ℕ, List, [], ◌∷◌, append-nil, append_assoc, ap, refl}
+use Rattle.std.proofs.Common.{◌≡◌, ◌≤◌, ◌^◌, ◌++◌, ◌∙◌, ℕ, List, [], ◌∷◌, append-nil, append_assoc}
+use Rattle.std.proofs.Common.{ap, refl}
 use Rattle.std.proofs.Common.{arith, length-append, subst, sym}
 use Rattle.std.specs.Prelude.{Err, IfErr, Ok, OnOk, Result}
 use Rattle.module_meaning.specs.ExpressionLabels.{SomeLabelIsFull}
@@ -11,32 +12,32 @@ use Rattle.naga_names.specs.declared.error.NamerError.{NamerError}
 use Rattle.naga_names.specs.declared.error.NamerError.TheVariants.{Full, KeyFull, Memory}
 use Rattle.naga_scope.specs.ExpressionNames.{HasBegunLabels, HasOtherUses}
 use Rattle.naga_scope.specs.ExpressionNames.{IsRefusalOfLabels, NamesLabels, RefusesLabels}
-use Rattle.naga_scope.specs.ExpressionNames.{names_behind}
+use Rattle.naga_scope.specs.ExpressionNames.{names_following}
 
 -- ---- names of labels
 -- uses are nothing to names
 names_of_uses : (old : Names) (u : Uses) (earlier labels : List (List ℕ)) →
-    names_behind (record old { uses = u }) earlier labels ≡ names_behind old earlier labels
+    names_following (record old { uses = u }) earlier labels ≡ names_following old earlier labels
 names_of_uses old u earlier [] = refl
 names_of_uses old u earlier (label ∷ labels) =
     ap (λ names. name_after old earlier label ∷ names)
     (names_of_uses old u (earlier ++ label ∷ []) labels)
 
 names_kept : (old mid : Names) → HasOtherUses old mid → (earlier labels : List (List ℕ)) →
-    names_behind mid earlier labels ≡ names_behind old earlier labels
+    names_following mid earlier labels ≡ names_following old earlier labels
 names_kept old mid words earlier labels =
-    ap (λ n. names_behind n earlier labels) words ∙ names_of_uses old mid.uses earlier labels
+    ap (λ n. names_following n earlier labels) words ∙ names_of_uses old mid.uses earlier labels
 
 -- the names of labels and of others after them
 names_joined : (old : Names) (earlier xs ys : List (List ℕ)) →
-    names_behind old earlier (xs ++ ys)
-    ≡ names_behind old earlier xs ++ names_behind old (earlier ++ xs) ys
-names_joined old earlier [] ys = ap (λ e. names_behind old e ys) (sym (append-nil earlier))
+    names_following old earlier (xs ++ ys)
+    ≡ names_following old earlier xs ++ names_following old (earlier ++ xs) ys
+names_joined old earlier [] ys = ap (λ e. names_following old e ys) (sym (append-nil earlier))
 names_joined old earlier (x ∷ xs) ys =
     let rest = earlier ++ x ∷ [] in
     ap (λ names. name_after old earlier x ∷ names)
     (names_joined old rest xs ys
-    ∙ ap (λ e. names_behind old rest xs ++ names_behind old e ys) (append_assoc earlier (x ∷ []) xs))
+    ∙ ap (λ e. names_following old rest xs ++ names_following old e ys) (append_assoc earlier (x ∷ []) xs))
 
 -- ---- words and prefixes stay
 other_uses : (old mid new : Names) → HasOtherUses old mid → HasOtherUses mid new →
@@ -70,7 +71,7 @@ names_then {old} {mid} {new} {held} {between} {now} {xs} {ys} first second = rec
   names = λ earlier has.
       second.names (earlier ++ xs) (first.labels_named earlier has)
       ∙ ((λ i. first.names earlier has i ++ names_kept old mid first.words (earlier ++ xs) ys i)
-      ∙ (append_assoc held (names_behind old earlier xs) (names_behind old (earlier ++ xs) ys)
+      ∙ (append_assoc held (names_following old earlier xs) (names_following old (earlier ++ xs) ys)
       ∙ ap (λ names. held ++ names) (sym (names_joined old earlier xs ys))));
 }
 

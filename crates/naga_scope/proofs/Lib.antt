@@ -1,5 +1,5 @@
 pub mod ScopeChecks
-pub mod Shaped
+pub mod ShapeKinds
 pub mod Constants
 pub mod Emitting
 pub mod ExpressionNames
@@ -19,5 +19,5 @@ pub mod SpelledTypes
 pub mod Sweeping
 pub mod Turns
 pub mod WrittenConstants
-pub mod FormlessDeclarations
+pub mod UnsupportedDeclarations
 pub mod Searching

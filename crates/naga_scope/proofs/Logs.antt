@@ -1,18 +1,25 @@
 -- The log: what undoing it gives, and what forgetting by it leaves.
-use Rattle.std.proofs.Common.{◌≡◌, ℕ, ◌+◌, ◌-◌, ◌<◌, ◌≤◌, Bool, true, false, nat_eq, List, [], ◌∷◌, ◌++◌, append_assoc, length, take, drop, get_or, slice_set, slice_get}
+use Rattle.std.proofs.Common.{◌≡◌, ℕ, ◌+◌, ◌-◌, ◌<◌, ◌≤◌, Bool, true, false, nat_eq, List, [], ◌∷◌}
+use Rattle.std.proofs.Common.{◌++◌, append_assoc, length, take, drop, get_or, slice_set, slice_get}
 use Rattle.std.proofs.Common.{Some, refl, sym, ap, ◌∙◌, subst, arith}
 use Rattle.std.specs.Prelude.{IsTrue}
 use Rattle.std.proofs.lemmas.Bool.{eqb-true, eqb-false}
-use Rattle.std.proofs.lemmas.List.{append-nil, take-append-drop, take-take, get_or-set_other, get_or-take, length-set, set-set, set_comm, set-get_or, get_or-set_same}
-use Rattle.std.proofs.lemmas.List.{take_more, drop_more, drop-append-le, take_at, drop_at, take_all, drop_all, length-take-le, length-append}
+use Rattle.std.proofs.lemmas.List.{append-nil, take-append-drop, take-take, get_or-set_other}
+use Rattle.std.proofs.lemmas.List.{get_or-take, length-set, set-set, set_comm, set-get_or}
+use Rattle.std.proofs.lemmas.List.{get_or-set_same}
+use Rattle.std.proofs.lemmas.List.{take_more, drop_more, drop-append-le, take_at, drop_at, take_all}
+use Rattle.std.proofs.lemmas.List.{drop_all, length-take-le, length-append}
 use Rattle.std.proofs.lemmas.Option.{slice_get-get_or}
 use Rattle.std.proofs.lemmas.Grind.{get_or-set_at}
-use Rattle.naga_scope.specs.Availabilities.{TextPoint, availability_of, emitted_availability, forgotten_cell, handles_of}
-use Rattle.naga_scope.specs.Log.{undo, forget, forget_if, forget_at, undone, forgotten, back_to, forget_from, grows, Grown, Logged, Reverts, Extends, Same, Counted}
+use Rattle.naga_scope.specs.Availabilities.{TextPoint, availability_of, emitted_availability}
+use Rattle.naga_scope.specs.Availabilities.{forgotten_cell, handles_of}
+use Rattle.naga_scope.specs.Log.{undo, forget, forget_if, forget_at, undone, forgotten, back_to}
+use Rattle.naga_scope.specs.Log.{forget_from, grows, Grown, Logged, Reverts, Extends, Same, Counted}
 use Rattle.naga_scope.specs.declared.points.Change.{Change}
 use Rattle.naga_scope.specs.declared.points.Availability.{Availability}
 use Rattle.naga_scope.specs.declared.points.BoundName.{BoundName}
-use Rattle.naga_scope.specs.declared.points.Availability.TheVariants.{Absent, Barred, Everywhere, Inline, Bound}
+use Rattle.naga_scope.specs.declared.points.Availability.TheVariants.{Absent, Barred, Everywhere}
+use Rattle.naga_scope.specs.declared.points.Availability.TheVariants.{Inline, Bound}
 use Rattle.module_meaning.specs.Names.{numbered_name}
 use Rattle.shader_runs.specs.Scope as runs
 
@@ -235,10 +242,10 @@ last_undone items used k t c a b some within is was now =
 pub restored : (m : ℕ) (a b c : TextPoint) → c ≡ back_to m b → m ≡ length a.log → Reverts a b → Same a c
 unfolding back_to Logged
 restored m a b c is at x =
-    let behind : drop m b.log ≡ x.more = ap (drop m) x.logged.0 ∙ drop_at a.log x.more m (sym at) in
+    let following : drop m b.log ≡ x.more = ap (drop m) x.logged.0 ∙ drop_at a.log x.more m (sym at) in
     let front : take m b.log ≡ a.log = ap (take m) x.logged.0 ∙ take_at a.log x.more m (sym at) in
     record {
-      table = ap (λ (s : TextPoint). s.table) is ∙ ap (λ cs. undone cs b.table) behind ∙ x.logged.1;
+      table = ap (λ (s : TextPoint). s.table) is ∙ ap (λ cs. undone cs b.table) following ∙ x.logged.1;
       log = ap (λ (s : TextPoint). s.log) is ∙ front;
       room = ap (λ (s : TextPoint). s.room) is ∙ x.room;
     }
@@ -343,8 +350,8 @@ pub forgotten_says : (named : ℕ → List ℕ) (m : ℕ) (a b c : TextPoint) �
     handles_of named c.table ≡ runs.forgotten_handles (handles_of named a.table) (handles_of named b.table)
 unfolding forget_from Logged
 forgotten_says named m a b c x at is =
-    let behind : drop m b.log ≡ x.more = ap (drop m) x.logged.0 ∙ drop_at a.log x.more m (sym at) in
-    let table : c.table ≡ forgotten x.more b.table = ap (λ (s : TextPoint). s.table) is ∙ ap (λ cs. forgotten cs b.table) behind in
+    let following : drop m b.log ≡ x.more = ap (drop m) x.logged.0 ∙ drop_at a.log x.more m (sym at) in
+    let table : c.table ≡ forgotten x.more b.table = ap (λ (s : TextPoint). s.table) is ∙ ap (λ cs. forgotten cs b.table) following in
     λ i h. (ap (λ t. handles_of named t h) table
     ∙ ap (availability_of named (numbered_name h)) (forgotten_is x.more b.table h x.grown ∙ ap (λ t. forgotten_cell (cell_in t h) (cell_in b.table h)) x.logged.1)
     ∙ forgotten_as named (numbered_name h) (cell_in a.table h) (cell_in b.table h)) i
@@ -371,8 +378,8 @@ undone-forgotten (c ∷ cs) t = undone_over cs (forgotten cs t) c.index _ c.befo
 pub forgotten_reverts : (m : ℕ) (a b c : TextPoint) → c ≡ forget_from m b → m ≡ length a.log → Extends a b → Reverts a c
 unfolding forget_from Logged
 forgotten_reverts m a b c is at x =
-    let behind : drop m b.log ≡ x.more = ap (drop m) x.logged.0 ∙ drop_at a.log x.more m (sym at) in
-    let table : c.table ≡ forgotten x.more b.table = ap (λ (s : TextPoint). s.table) is ∙ ap (λ cs. forgotten cs b.table) behind in
+    let following : drop m b.log ≡ x.more = ap (drop m) x.logged.0 ∙ drop_at a.log x.more m (sym at) in
+    let table : c.table ≡ forgotten x.more b.table = ap (λ (s : TextPoint). s.table) is ∙ ap (λ cs. forgotten cs b.table) following in
     record {
       size = ap length table ∙ forgotten-length x.more b.table ∙ x.size;
       room = ap (λ (s : TextPoint). s.room) is ∙ x.room;

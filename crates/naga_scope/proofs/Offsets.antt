@@ -10,7 +10,8 @@ use Rattle.std.proofs.lemmas.Option.{slice_get_within}
 use Rattle.module_meaning.proofs.ExpressionShapes.{shape_operands}
 use Rattle.module_meaning.specs.ExpressionOperators.{constructor}
 use Rattle.module_meaning.specs.ExpressionShapes.{Declared, built, constant_tree}
-use Rattle.module_meaning.specs.ExpressionShapes.{shape_of, tree_over, tree_then, tree_within, trees_of}
+use Rattle.module_meaning.specs.ExpressionShapes.{shape_of, tree_over, tree_then, tree_within}
+use Rattle.module_meaning.specs.ExpressionShapes.{trees_of}
 use Rattle.module_meaning.specs.FunctionShapes.{function_shape}
 use Rattle.module_meaning.specs.OperatorTable.{Operator, Splat}
 use Rattle.module_meaning.specs.Premises.{OperandsStandBefore}
@@ -27,7 +28,7 @@ use Rattle.naga_ir.specs.declared.module.Module.{Module}
 use Rattle.naga_ir.specs.Kinds.{kind_of}
 use Rattle.naga_ir.specs.declared.kind.ExpressionKind.TheVariants as kind
 use Rattle.naga_scope.proofs.Constants.{any_bound, constant_to, counted, one_more}
-use Rattle.naga_scope.proofs.Shaped.{pure_at, usable_is}
+use Rattle.naga_scope.proofs.ShapeKinds.{pure_at, usable_is}
 use Rattle.naga_scope.specs.Availabilities.{KeepsStart, is_constant_kind, is_pure_kind, operands_at}
 use Rattle.naga_scope.specs.Availabilities.{usable_by}
 use Rattle.naga_scope.specs.ScopeChecks.{Checked, check_operands, unless}

@@ -5,7 +5,7 @@ use Rattle.std.specs.Prelude.{IsTrue, cond, nat_lt}
 use Rattle.std.proofs.lemmas.Bool.{and_parts}
 use Rattle.module_meaning.specs.acceptance.Ranges.{block_in_range, cases_in_range, is_below}
 use Rattle.module_meaning.specs.acceptance.Ranges.{statement_in_range}
-use Rattle.module_meaning.specs.acceptance.Numbers.{label_fits_32_bits}
+use Rattle.module_meaning.specs.acceptance.Numbers.{case_value_fits_32_bits}
 use Rattle.naga_ir.specs.StatementTree.{StatementTree, simple, block, branch, switch, loop}
 use Rattle.naga_ir.specs.StatementTree.{BlockTree, no_statements, statement, CaseTrees, no_cases}
 use Rattle.naga_ir.specs.StatementTree.{case}
@@ -41,7 +41,7 @@ module _ (callees count : ℕ) where
     case_results_fit (case v b falls cs) within =
         let in_b = block_in_range callees count b in
         let in_cs = cases_in_range callees count cs in
-        let parts = and_parts in_b in_cs (and_right (label_fits_32_bits v) (in_b && in_cs) within) in
+        let parts = and_parts in_b in_cs (and_right (case_value_fits_32_bits v) (in_b && in_cs) within) in
         (results_fit b parts.0, case_results_fit cs parts.1)
 
 -- so do those of a list's parts
@@ -58,8 +58,8 @@ module _ (count : ℕ) where
   first_results b front is fit = subst (ResultsFit count) (sym is) (results_before b fit)
 
   from_by : (c : Bool) (all rest : BlockTree) → ResultsFit count all → ResultsFit count rest → ResultsFit count (cond c all rest)
-  from_by true all rest fit behind = fit
-  from_by false all rest fit behind = behind
+  from_by true all rest fit following = fit
+  from_by false all rest fit following = following
 
   results_from : (b : BlockTree) → ResultsFit count b → ResultsFit count (from_continue b)
   results_from no_statements fit = tt

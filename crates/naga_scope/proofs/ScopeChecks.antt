@@ -1,6 +1,7 @@
 -- The check of the rules of scope finds a fault where they fail, and numbers statements in the order
 -- of the text.
-use Rattle.std.proofs.Common.{◌≡◌, ◌⊎◌, inl, inr, ⊎_elim, ℕ, zero, suc, ◌+◌, ◌<◌, ◌%◌, ◌^◌, Bool, true, false}
+use Rattle.std.proofs.Common.{◌≡◌, ◌⊎◌, inl, inr, ⊎_elim, ℕ, zero, suc, ◌+◌, ◌<◌, ◌%◌, ◌^◌, Bool}
+use Rattle.std.proofs.Common.{true, false}
 use Rattle.std.proofs.Common.{not, List, [], ◌∷◌, ◌++◌, length, Option, Some, None, ◌&&◌, ◌||◌}
 use Rattle.std.proofs.Common.{refl, sym, subst, ap, ◌∙◌, true≢false, arith, length-append}
 use Rattle.std.proofs.Math.Nat.{mod-add-mod}
@@ -8,10 +9,12 @@ use Rattle.std.specs.Prelude.{IsTrue, IsFalse, slice_get, Result, Ok, Err}
 use Rattle.std.specs.Hash.DefaultHasher.{wrapping_add}
 use Rattle.std.specs.Result.{IsErrAnd, is_ok, result_and}
 use Rattle.std.proofs.lemmas.Option.{same_Some}
-use Rattle.naga_scope.specs.ScopeChecks.{Checked, unless, onward, next_number, check_use, check_uses}
+use Rattle.naga_scope.specs.ScopeChecks.{Checked, unless, onward, next_number, check_use}
+use Rattle.naga_scope.specs.ScopeChecks.{check_uses}
 use Rattle.naga_scope.specs.ScopeChecks.{check_use_if, check_operands, check_bound, check_emitted}
 use Rattle.naga_scope.specs.ScopeChecks.{check_emit, check_result, check_statement, check_all}
-use Rattle.naga_scope.specs.ScopeChecks.{check_cases, check_first, check_first_values, check_function}
+use Rattle.naga_scope.specs.ScopeChecks.{check_cases, check_first, check_first_values}
+use Rattle.naga_scope.specs.ScopeChecks.{check_function}
 use Rattle.naga_scope.specs.ScopeFaults.{Standing, inside, standing, case_standing, IsOperandOf}
 use Rattle.naga_scope.specs.ScopeFaults.{BreaksWith, IsScopeFault}
 use Rattle.naga_scope.specs.declared.scope_faults.ScopeFault.{ScopeFault}
@@ -28,7 +31,8 @@ use Rattle.shader_runs.specs.Scope.{may_emit_all, may_give, fits, fits_all, fits
 use Rattle.shader_runs.specs.Scope.{first_values_fit, fits_function}
 use Rattle.shader_runs.specs.Premises.{AllBelow}
 use Rattle.shader_runs.specs.ScopeRules.{IntroducedHandle, Emitted, AsResult, Point, entry_point}
-use Rattle.shader_runs.specs.ScopeRules.{behind_one, behind, behind_turn, WasIntroduced, handle_of}
+use Rattle.shader_runs.specs.ScopeRules.{following_one, following, after_turn, WasIntroduced}
+use Rattle.shader_runs.specs.ScopeRules.{handle_of}
 use Rattle.shader_runs.specs.ScopeFaults.{IsOutOfScopeAt, after_some, UsesAt, emitted_operand}
 use Rattle.shader_runs.specs.ScopeFaults.{stored_pointer, stored_value, condition, selector}
 use Rattle.shader_runs.specs.ScopeFaults.{break_if, returned, operand, GivesAt, emitted, as_result}
@@ -268,7 +272,7 @@ module _ (f : Naming) (g : Function) where
         let x = onward_of next (check_all f k (next_number n) b s) j ok in
         let y = onward_of last (check_all f k1 x.0 d s1) j x.2 in
         let bs = standing g at b in
-        let there = behind_turn g b at in
+        let there = after_turn g b at in
         let ds = standing g there d in
         let body = all_number k (next_number n) (suc m) x.0 b at s (next_is n m is) x.1 in
         let continuing = all_number k1 x.0 (suc m + length bs) y.0 d there s1 body y.1 in
@@ -290,7 +294,7 @@ module _ (f : Naming) (g : Function) where
         let s1 = after f k st s in
         let x = onward_of (λ n. check_all f k1 n ss s1) (check_statement f k n st s) j ok in
         let xs = inside g at st in
-        let there = behind g st at in
+        let there = following g st at in
         let ys = standing g there ss in
         further_is j (suc m + length xs + length ys) (m + suc (length (xs ++ ys)))
         (let e = length-append xs ys in omega (arith, e))
@@ -371,7 +375,7 @@ gives_emitted f at first count i j q l =
 -- what the rest of an Emit gives and breaks
 module _ (f : Function) (at : Point) (first count : ℕ) where
   gives_further : (there : Point) (g : IntroducedHandle) →
-      GivesAt f (behind_one f first at) (Emit (suc first) count) there g →
+      GivesAt f (following_one f first at) (Emit (suc first) count) there g →
       GivesAt f at (Emit first (suc count)) there g
   gives_further there g (emitted i l) =
       gives_emitted f at first (suc count) (suc i) (suc first + i) (omega arith) (omega (arith, l))
@@ -379,7 +383,7 @@ module _ (f : Function) (at : Point) (first count : ℕ) where
   gives_first : GivesAt f at (Emit first (suc count)) at (Emitted first)
   gives_first = gives_emitted f at first (suc count) 0 first (omega arith) (omega arith)
 
-  emits_further : (n : ℕ) (e : ScopeFault) → EmitsWith f (behind_one f first at) (Emit (suc first) count) n e →
+  emits_further : (n : ℕ) (e : ScopeFault) → EmitsWith f (following_one f first at) (Emit (suc first) count) n e →
       EmitsWith f at (Emit first (suc count)) n e
   emits_further n (FirstValue i h) b = elim b [ ]
   emits_further n (Operand k h) b = elim b [ ]
@@ -470,7 +474,7 @@ module _ (f : Naming) (e : ScopeFault) where
       let kind = ((may_emit_rule f.function at s first t).0 may).kind in
       let t1 = tracks_emitted f.function first at s t kind (bound_name f k first) in
       emits_further f.function at first count n e
-      (emit_breaks k1 n (suc first) count (behind_one f.function first at) s1 t1 p.1))
+      (emit_breaks k1 n (suc first) count (following_one f.function first at) s1 t1 p.1))
       (and_err (check_emitted f.function s n first) (check_emit f k1 n (from (suc first) count) s1) e is)
 
   mutual
@@ -519,7 +523,7 @@ module _ (f : Naming) (e : ScopeFault) where
         let ended = check_use_if f.function s2 n o in
         let last : ℕ → Result ℕ ScopeFault = λ n. result_and ended (Ok n) in
         let next : ℕ → Result ℕ ScopeFault = λ n. onward last (check_all f k1 n d s1) in
-        let there = behind_turn f.function b at in
+        let there = after_turn f.function b at in
         let xs = standing f.function at b in
         let ys = standing f.function there d in
         ⊎_elim
@@ -540,12 +544,12 @@ module _ (f : Naming) (e : ScopeFault) where
         (onward_err last (check_all f k1 x.0 d s1) e x.2))
         (onward_err next (check_all f k n1 b s) e is)
       where
-        ended_breaks : (s2 : Handles) → Tracks f.function (behind_turn f.function d (behind_turn f.function b at)) s2 →
+        ended_breaks : (s2 : Handles) → Tracks f.function (after_turn f.function d (after_turn f.function b at)) s2 →
             (p : Option ℕ) → o ≡ p → check_use_if f.function s2 n p ≡ Err e →
             BreaksWith f.function (record { at = at; statement = Loop b d o }) n e
         ended_breaks s2 t2 None same is = absurd cc
         ended_breaks s2 t2 (Some h) same is =
-            let last = behind_turn f.function d (behind_turn f.function b at) in
+            let last = after_turn f.function d (after_turn f.function b at) in
             let x = unless_err (usable f.function s2 h) (Operand n h) e is in
             let used = subst (λ o. UsesAt f.function at (Loop b d o) last h) (sym same) break_if in
             let out : IsOutOfScopeAt f.function last h = λ d. false_is_not_true (usable f.function s2 h) x.0 ((t2.used h).1 d) in
@@ -570,7 +574,7 @@ module _ (f : Naming) (e : ScopeFault) where
     all_breaks k n m (then st ss) at s t num is =
         let k1 = named_by f.function st k in
         let s1 = after f k st s in
-        let there = behind f.function st at in
+        let there = following f.function st at in
         let here : Standing = record { at = at; statement = st } in
         let xs = inside f.function at st in
         let ys = standing f.function there ss in
@@ -655,8 +659,8 @@ mutual
   stands_in f at (then st ss) zero s is =
       subst (λ s. StandsIn f at (then st ss) s.at s.statement) (same_Some (record { at = at; statement = st }) s is) stands_first
   stands_in f at (then st ss) (suc i) s is =
-      ⊎_elim (inside_in f at st ss i s) (λ p. later (stands_in f (behind f st at) ss p.0 s p.1))
-      (within (inside f at st) (standing f (behind f st at) ss) i s is)
+      ⊎_elim (inside_in f at st ss i s) (λ p. later (stands_in f (following f st at) ss p.0 s p.1))
+      (within (inside f at st) (standing f (following f st at) ss) i s is)
 
   inside_in : (f : Function) (at : Point) (st : Statement) (ss : Statements) (i : ℕ) (s : Standing) →
       slice_get (inside f at st) i ≡ Some s → StandsIn f at (then st ss) s.at s.statement
@@ -667,8 +671,8 @@ mutual
   inside_in f at (Switch h cs) ss i s is = let x = case_in f at cs i s is in in_case x.1 x.2
   inside_in f at (Loop b d e) ss i s is =
       ⊎_elim (λ is. in_loop (stands_in f at b i s is))
-      (λ p. in_continuing (stands_in f (behind_turn f b at) d p.0 s p.1))
-      (within (standing f at b) (standing f (behind_turn f b at) d) i s is)
+      (λ p. in_continuing (stands_in f (after_turn f b at) d p.0 s p.1))
+      (within (standing f at b) (standing f (after_turn f b at) d) i s is)
   inside_in f at _ ss i s is = absurd cc
 
   case_in : (f : Function) (at : Point) (cs : Cases) (i : ℕ) (s : Standing) → slice_get (case_standing f at cs) i ≡ Some s →

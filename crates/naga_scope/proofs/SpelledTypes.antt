@@ -1,6 +1,8 @@
 -- What a search for a type without a form says of the types that the text of a function spells.
-use Rattle.std.proofs.Common.{◌≡◌, ◌<◌, ◌+◌, ℕ, zero, suc, Bool, true, false, ◌&&◌, List, [], ◌∷◌, ◌++◌}
-use Rattle.std.proofs.Common.{drop, length, map, slice_index_or, Option, Some, None, refl, sym, ap, subst, ◌∙◌, arith}
+use Rattle.std.proofs.Common.{◌≡◌, ◌<◌, ◌+◌, ℕ, zero, suc, Bool, true, false, ◌&&◌, List, [], ◌∷◌}
+use Rattle.std.proofs.Common.{◌++◌}
+use Rattle.std.proofs.Common.{drop, length, map, slice_index_or, Option, Some, None, refl, sym, ap}
+use Rattle.std.proofs.Common.{subst, ◌∙◌, arith}
 use Rattle.std.specs.Prelude.{IsFalse, IsSomeAnd, IsTrue, ◌⊎◌, cond, if◌then◌else◌, not, slice_get}
 use mathlib.Core.Logic.{inl, inr}
 use Rattle.std.specs.List.{IsAmong, enumerate_from, filter, find}
@@ -20,8 +22,8 @@ use Rattle.naga_info.specs.declared.info.TypeResolution.TheVariants.{Handle}
 use Rattle.naga_ir.specs.declared.module.Function.{Function}
 use Rattle.naga_ir.specs.declared.module.FunctionResult.{FunctionResult}
 use Rattle.naga_ir.specs.declared.module.Module.{Module}
-use Rattle.naga_scope.specs.SpelledTypes.{declared_formless, is_formless, is_formless_let}
-use Rattle.naga_scope.specs.SpelledTypes.{is_annotated_formless, annotated_formless}
+use Rattle.naga_scope.specs.SpelledTypes.{declared_unsupported, is_unsupported, is_unsupported_let}
+use Rattle.naga_scope.specs.SpelledTypes.{is_annotated_unsupported, annotated_unsupported}
 use Rattle.shader_runs.specs.Program.{binds}
 
 -- ---- searches
@@ -137,27 +139,27 @@ local_types f = map (λ l. l.ty) f.local_variables
 
 -- the first of all is the first of the arguments', or of the result's, or of the locals'
 pub parted : (m : Module) (f : Function) →
-    declared_formless m f ≡
-    option_or (find (is_formless m) (argument_types f))
-    (option_or (find (is_formless m) (answer_types f)) (find (is_formless m) (local_types f)))
+    declared_unsupported m f ≡
+    option_or (find (is_unsupported m) (argument_types f))
+    (option_or (find (is_unsupported m) (answer_types f)) (find (is_unsupported m) (local_types f)))
 parted m f =
-    find-append (is_formless m) (argument_types f) (answer_types f ++ local_types f)
-    ∙ ap (option_or (find (is_formless m) (argument_types f)))
-    (find-append (is_formless m) (answer_types f) (local_types f))
+    find-append (is_unsupported m) (argument_types f) (answer_types f ++ local_types f)
+    ∙ ap (option_or (find (is_unsupported m) (argument_types f)))
+    (find-append (is_unsupported m) (answer_types f) (local_types f))
 
 module _ (explicit : Bool) (m : Module) (info : ModuleInfo) (f : Function) (es : List ExpressionInfo) where
   abbrev bound : ℕ → Bool
   bound = binds (function_shape m info f es)
 
   abbrev p : ℕ → Bool
-  p = is_formless m
+  p = is_unsupported m
 
   abbrev annotated : ℕ → Bool
-  annotated = is_formless_let m es
+  annotated = is_unsupported_let m es
 
   -- where neither search finds one, each type that is spelled has a form
-  pub spelled_formed : declared_formless m f ≡ None →
-      annotated_formless explicit m es bound f ≡ None →
+  pub spelled_formed : declared_unsupported m f ≡ None →
+      annotated_unsupported explicit m es bound f ≡ None →
       (r : TypeResolution) → IsSpelledIn explicit m info f es r → IsTrue (is_spellable m r)
   spelled_formed none_declared none_annotated = spelled
     where
@@ -180,7 +182,7 @@ module _ (explicit : Bool) (m : Module) (info : ModuleInfo) (f : Function) (es :
           let place = there_among (block_lets bound f.body) h among in
           let fails = none_passes annotated (block_lets bound f.body) none place.0 h place.1 in
           let formed = not-false (is_spelled m.types k.ty)
-          (sym (ap (λ o. option_map_or (λ k. is_annotated_formless m k.ty) o false) at
+          (sym (ap (λ o. option_map_or (λ k. is_annotated_unsupported m k.ty) o false) at
           ∙ ap (λ b. not b && not (is_spelled m.types k.ty)) declared)
           ∙ fails) in
           λ i. formed i && not (declared i)
@@ -196,7 +198,7 @@ module _ (explicit : Bool) (m : Module) (info : ModuleInfo) (f : Function) (es :
           let_formed explicit tells none_annotated h k among at declared
 
   -- what the first search finds is spelled, and has no form
-  pub declared_lacks : (ty : ℕ) → declared_formless m f ≡ Some ty → IsSpelledIn explicit m info f es (Handle ty) × IsFalse (is_spellable m (Handle ty))
+  pub declared_lacks : (ty : ℕ) → declared_unsupported m f ≡ Some ty → IsSpelledIn explicit m info f es (Handle ty) × IsFalse (is_spellable m (Handle ty))
   declared_lacks ty is = by (either_one _ _ ty (sym (parted m f) ∙ is))
     where
       of_answer : (o : Option FunctionResult) → f.result ≡ o → (i : ℕ) →
@@ -230,12 +232,12 @@ module _ (explicit : Bool) (m : Module) (info : ModuleInfo) (f : Function) (es :
       by (inr is) = inside (either_one _ _ ty is)
 
   -- so it is with what the second finds
-  pub let_lacks : (h : ℕ) → annotated_formless explicit m es bound f ≡ Some h →
+  pub let_lacks : (h : ℕ) → annotated_unsupported explicit m es bound f ≡ Some h →
       IsSomeAnd (slice_get es h) (λ k. IsSpelledIn explicit m info f es k.ty × IsFalse (is_spellable m k.ty))
   let_lacks h is = by explicit refl is
     where
       known : (o : Option ExpressionInfo) → slice_get es h ≡ o → explicit ≡ true → IsAmong (block_lets bound f.body) h →
-          option_map_or (λ k. is_annotated_formless m k.ty) o false ≡ true → IsSomeAnd o (λ k. IsSpelledIn explicit m info f es k.ty × IsFalse (is_spellable m k.ty))
+          option_map_or (λ k. is_annotated_unsupported m k.ty) o false ≡ true → IsSomeAnd o (λ k. IsSpelledIn explicit m info f es k.ty × IsFalse (is_spellable m k.ty))
       known None at tells among lacks = absurd cc
       known (Some k) at tells among lacks =
           let parts = and_parts (not (names_undeclared m k.ty)) (not (is_spelled m.types k.ty)) lacks in (

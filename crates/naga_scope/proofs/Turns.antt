@@ -1,23 +1,32 @@
 -- A loop's body, cut at its first statement that holds a `continue`.
-use Rattle.std.proofs.Common.{◌≡◌, ℕ, suc, ◌+◌, ◌≤◌, Bool, true, false, ◌&&◌, ◌||◌, List, [], ◌∷◌, length, take, drop, Option, Some, None, nat_eq, eqb-true, refl, sym, ap, ◌∙◌, arith, add-one, subst}
+use Rattle.std.proofs.Common.{◌≡◌, ℕ, suc, ◌+◌, ◌≤◌, Bool, true, false, ◌&&◌, ◌||◌, List, [], ◌∷◌}
+use Rattle.std.proofs.Common.{length, take, drop, Option, Some, None, nat_eq, eqb-true, refl, sym}
+use Rattle.std.proofs.Common.{ap, ◌∙◌, arith, add-one, subst}
 use Rattle.std.specs.Prelude.{cond, Result, Ok, Err}
 use Rattle.module_meaning.specs.ExpressionOperators.{ExpressionContext, is_atomic_pointer}
 use Rattle.module_meaning.specs.FunctionShapes.{cases_shape, statement_shape, statements_shape}
 use Rattle.module_meaning.specs.StatementShapes.{store_shape}
-use Rattle.naga_ir.specs.StatementTree.{continue, store, StatementTree, simple, block, branch, switch, loop}
-use Rattle.naga_ir.specs.StatementTree.{BlockTree, no_statements, statement, CaseTrees, no_cases, case, statement_size, block_size}
+use Rattle.naga_ir.specs.StatementTree.{continue, store, StatementTree, simple, block, branch}
+use Rattle.naga_ir.specs.StatementTree.{switch, loop}
+use Rattle.naga_ir.specs.StatementTree.{BlockTree, no_statements, statement, CaseTrees, no_cases}
+use Rattle.naga_ir.specs.StatementTree.{case, statement_size, block_size}
 use Rattle.naga_ir.specs.StatementViews.{block_of, tree_of}
 use Rattle.naga_ir.specs.declared.statement.Statement.{Statement}
 use Rattle.naga_scope.specs.Changes.{block_changes, statement_changes}
-use Rattle.naga_scope.specs.Continues.{any_continue, before_continue, count_before, from_continue, holds_continue, some_case_continues}
+use Rattle.naga_scope.specs.Continues.{any_continue, before_continue, count_before, from_continue}
+use Rattle.naga_scope.specs.Continues.{holds_continue, some_case_continues}
 use Rattle.naga_scope.specs.ScopeChecks.{check_all, check_statement, onward}
 use Rattle.naga_scope.specs.Walks.{after_each}
 use Rattle.naga_scope.specs.declared.scope_faults.ScopeFault.{ScopeFault}
 use Rattle.shader_runs.specs.Program as shapes
 use Rattle.shader_runs.specs.Program.{Statements, binds, expression_of, from, operands_of}
 use Rattle.shader_runs.specs.Program.{is_pure}
-use Rattle.shader_runs.specs.Scope.{Absent, Availability, Barred, Bound, Everywhere, Handles, Inline, Names, Naming, after, after_all, after_emit, after_one, after_result}
-use Rattle.shader_runs.specs.Scope.{availability_without_name, bound_name, forgotten_handles, forgotten_if, forgotten_one, is_new, named_after, named_by, named_by_all}
+use Rattle.shader_runs.specs.Scope.{Absent, Availability, Barred, Bound, Everywhere, Handles}
+use Rattle.shader_runs.specs.Scope.{Inline, Names, Naming, after, after_all, after_emit, after_one}
+use Rattle.shader_runs.specs.Scope.{after_result}
+use Rattle.shader_runs.specs.Scope.{availability_without_name, bound_name, forgotten_handles}
+use Rattle.shader_runs.specs.Scope.{forgotten_if, forgotten_one, is_new, named_after, named_by}
+use Rattle.shader_runs.specs.Scope.{named_by_all}
 use Rattle.shader_runs.specs.Scope.{usable_all, with_emitted_handle}
 use Rattle.shader_runs.specs.World.{update}
 
@@ -281,10 +290,10 @@ module _ (n : Naming) (a : ExpressionContext) where
       front ≡ before_continue b → back ≡ from_continue b → Ok middle ≡ check_all n k j (lines front) s →
       k1 ≡ named_by_all n.function (lines front) k → s1 ≡ after_each n k (lines front) s →
       next ≡ check_all n k1 middle (lines back) s1 → next ≡ check_all n k j (lines b) s
-  body_checks b front back k k1 j middle s s1 next f g first given behind is =
+  body_checks b front back k k1 j middle s s1 next f g first given following is =
       let k2 = named_by_all n.function (lines (before_continue b)) k in
       let s2 = after_each n k (lines (before_continue b)) s in
-      is ∙ (λ i. check_all n (given i) middle (lines (g i)) (behind i))
+      is ∙ (λ i. check_all n (given i) middle (lines (g i)) (following i))
       ∙ (λ i. check_all n (named_by_all n.function (lines (f i)) k) middle (lines (from_continue b)) (after_each n k (lines (f i)) s))
       ∙ ap (onward (λ j. check_all n k2 j (lines (from_continue b)) s2)) (first ∙ ap (λ x. check_all n k j (lines x) s) f)
       ∙ sym (check_split b k j s)

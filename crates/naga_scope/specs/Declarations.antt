@@ -32,36 +32,36 @@ use Rattle.naga_ir.specs.declared.types.StructMember.{StructMember}
 use Rattle.naga_ir.specs.declared.types.Type_.{Type_}
 use Rattle.naga_layout.specs.Types.{arrays_are_kept, placed_members}
 use Rattle.naga_names.specs.Reset.{members_of}
-use Rattle.naga_scope.specs.declared.declarations.DeclarationPlace.{DeclarationPlace}
-use Rattle.naga_scope.specs.declared.declarations.DeclarationPlace.TheVariants as place
-use Rattle.naga_scope.specs.declared.declarations.FormlessDeclaration.{FormlessDeclaration}
-use Rattle.naga_scope.specs.declared.declarations.FormlessDeclaration.TheVariants as declaration
-use Rattle.naga_scope.specs.declared.declarations.FormlessHead.{FormlessHead}
-use Rattle.naga_scope.specs.declared.declarations.FormlessHead.TheVariants as head
+use Rattle.naga_scope.specs.declared.declarations.DeclarationPosition.{DeclarationPosition}
+use Rattle.naga_scope.specs.declared.declarations.DeclarationPosition.TheVariants as position
+use Rattle.naga_scope.specs.declared.declarations.UnsupportedDeclaration.{UnsupportedDeclaration}
+use Rattle.naga_scope.specs.declared.declarations.UnsupportedDeclaration.TheVariants as declaration
+use Rattle.naga_scope.specs.declared.declarations.UnsupportedHead.{UnsupportedHead}
+use Rattle.naga_scope.specs.declared.declarations.UnsupportedHead.TheVariants as head
 use Rattle.wgsl_layout.specs.Faults.{StandsAmong, own_fault}
 use Rattle.wgsl_layout.specs.declared.layouts.Placed.{Placed}
 use Rattle.wgsl_layout.specs.declared.members.Misplaced.{Misplaced}
 
 -- ---- what is found
 -- it has no form among what the function with this number takes and gives and its stage
-abbrev pub IsFormlessHead : Module → (number : ℕ) → FormlessHead → Type 0
-IsFormlessHead m number (head.BuiltIn v) =
+abbrev pub IsUnsupportedHead : Module → (number : ℕ) → UnsupportedHead → Type 0
+IsUnsupportedHead m number (head.BuiltIn v) =
     (f : Function) × (slice_get (all_functions m) number ≡ Some f)
     × IsPassed f (binding.BuiltIn v) × IsFalse (binding_has_form (binding.BuiltIn v))
-IsFormlessHead m number head.Stage =
+IsUnsupportedHead m number head.Stage =
     (p : EntryPoint) × (entry_point_numbered m number ≡ Some p) × IsFalse (stage_has_form p p.stage)
 
 -- it has no form among the module's declarations
-abbrev pub IsFormlessDeclaration : Module → FormlessDeclaration → Type 0
-IsFormlessDeclaration m (declaration.Type_ ty) =
+abbrev pub IsUnsupportedDeclaration : Module → UnsupportedDeclaration → Type 0
+IsUnsupportedDeclaration m (declaration.Type_ ty) =
     IsDeclaredType m ty × IsFalse (is_spellable m (Handle ty))
-IsFormlessDeclaration m (declaration.Initialiser h) =
+IsUnsupportedDeclaration m (declaration.Initialiser h) =
     IsInitialiser m h × IsFalse (global_is_written m h)
-IsFormlessDeclaration m (declaration.BuiltIn v) =
+IsUnsupportedDeclaration m (declaration.BuiltIn v) =
     IsMemberBinding m (binding.BuiltIn v) × IsFalse (binding_has_form (binding.BuiltIn v))
-IsFormlessDeclaration m (declaration.Head it) = (number : ℕ) × IsFormlessHead m number it
-IsFormlessDeclaration m (declaration.Misplaced fault) = (ty : ℕ) × IsMisplaced m ty fault
-IsFormlessDeclaration m (declaration.Stride found) = (ty : ℕ) × HasOtherStride m ty found
+IsUnsupportedDeclaration m (declaration.Head it) = (number : ℕ) × IsUnsupportedHead m number it
+IsUnsupportedDeclaration m (declaration.Misplaced fault) = (ty : ℕ) × IsMisplaced m ty fault
+IsUnsupportedDeclaration m (declaration.Stride found) = (ty : ℕ) × HasOtherStride m ty found
 
 -- ---- searches
 -- each item of a list has a form
@@ -74,18 +74,19 @@ EachBefore {X} xs n HasForm = (i : ℕ) (x : X) → i < n → slice_get xs i ≡
 
 -- Each item of a list has a form, or the first that has none is told so, by its place.
 abbrev pub Finds : {X F : Type 0} → List X → (HasForm : (i : ℕ) → X → Type 0) →
-    (IsFormless : (i : ℕ) → X → F → Type 0) → Option F → Type 0
-Finds xs HasForm IsFormless None = Each xs HasForm
-Finds {X} xs HasForm IsFormless (Some it) =
-    (i : ℕ) × (x : X) × (slice_get xs i ≡ Some x) × EachBefore xs i HasForm × IsFormless i x it
+    (IsUnsupportedItem : (i : ℕ) → X → F → Type 0) → Option F → Type 0
+Finds xs HasForm IsUnsupportedItem None = Each xs HasForm
+Finds {X} xs HasForm IsUnsupportedItem (Some it) =
+    (i : ℕ) × (x : X) × (slice_get xs i ≡ Some x) × EachBefore xs i HasForm
+    × IsUnsupportedItem i x it
 
 -- Each item of a list has a form, or this one is the first that has none, at which it is told so.
 abbrev pub FindsFirst : {X P F : Type 0} → List X → (HasForm : (i : ℕ) → X → Type 0) →
-    (at : ℕ → P) → (IsFormless : (i : ℕ) → X → F → Type 0) → Option (P × F) → Type 0
-FindsFirst xs HasForm at IsFormless None = Each xs HasForm
-FindsFirst {X} xs HasForm at IsFormless (Some found) =
+    (at : ℕ → P) → (IsUnsupportedItem : (i : ℕ) → X → F → Type 0) → Option (P × F) → Type 0
+FindsFirst xs HasForm at IsUnsupportedItem None = Each xs HasForm
+FindsFirst {X} xs HasForm at IsUnsupportedItem (Some found) =
     (i : ℕ) × (x : X) × (slice_get xs i ≡ Some x) × (found.0 ≡ at i) × EachBefore xs i HasForm
-    × IsFormless i x found.1
+    × IsUnsupportedItem i x found.1
 
 -- ---- types and initialisers
 -- the type that is told, and the initialiser if there is one, have forms
@@ -94,19 +95,20 @@ pub record ValueHasForm (m : Module) (ty : ℕ) (init : Option ℕ) : Type 0 whe
   pub initialiser : (h : ℕ) → init ≡ Some h → IsTrue (global_is_written m h)
 
 -- the type has none, or the initialiser of one that has a form
-abbrev pub IsFormlessValue : Module → (ty : ℕ) → (init : Option ℕ) → FormlessDeclaration → Type 0
-IsFormlessValue m ty init (declaration.Type_ found) =
+abbrev pub IsUnsupportedValue : Module → (ty : ℕ) → (init : Option ℕ) → UnsupportedDeclaration →
+    Type 0
+IsUnsupportedValue m ty init (declaration.Type_ found) =
     (found ≡ ty) × IsFalse (is_spellable m (Handle found))
-IsFormlessValue m ty init (declaration.Initialiser h) =
+IsUnsupportedValue m ty init (declaration.Initialiser h) =
     IsTrue (is_spellable m (Handle ty)) × (init ≡ Some h) × IsFalse (global_is_written m h)
-IsFormlessValue m ty init _ = ⊥
+IsUnsupportedValue m ty init _ = ⊥
 
 -- so it is with a constant that has a name: its declaration tells both
 abbrev pub ConstantHasForm : Module → Constant → Type 0
 ConstantHasForm m c = IsTrue (is_some c.name) → ValueHasForm m c.ty (Some c.init)
 
-abbrev pub IsFormlessConstant : Module → Constant → FormlessDeclaration → Type 0
-IsFormlessConstant m c it = IsTrue (is_some c.name) × IsFormlessValue m c.ty (Some c.init) it
+abbrev pub IsUnsupportedConstant : Module → Constant → UnsupportedDeclaration → Type 0
+IsUnsupportedConstant m c it = IsTrue (is_some c.name) × IsUnsupportedValue m c.ty (Some c.init) it
 
 -- ---- bindings
 -- the binding, if there is one, has a form
@@ -114,8 +116,8 @@ abbrev pub BindingHasForm : Option Binding → Type 0
 BindingHasForm bound = (b : Binding) → bound ≡ Some b → IsTrue (binding_has_form b)
 
 -- it is to this built-in value, which has none
-abbrev pub IsFormlessBinding : Option Binding → BuiltIn → Type 0
-IsFormlessBinding bound v =
+abbrev pub IsUnsupportedBinding : Option Binding → BuiltIn → Type 0
+IsUnsupportedBinding bound v =
     (bound ≡ Some (binding.BuiltIn v)) × IsFalse (binding_has_form (binding.BuiltIn v))
 
 -- ---- structs
@@ -125,17 +127,17 @@ pub record MemberHasForm (m : Module) (s : StructMember) : Type 0 where
   pub binding : BindingHasForm s.binding
 
 -- the type has none, or the binding where the type has one
-abbrev pub IsFormlessMember : Module → StructMember → FormlessDeclaration → Type 0
-IsFormlessMember m s (declaration.Type_ ty) =
+abbrev pub IsUnsupportedMember : Module → StructMember → UnsupportedDeclaration → Type 0
+IsUnsupportedMember m s (declaration.Type_ ty) =
     (ty ≡ s.ty) × IsFalse (is_spellable m (Handle ty))
-IsFormlessMember m s (declaration.BuiltIn v) =
-    IsTrue (is_spellable m (Handle s.ty)) × IsFormlessBinding s.binding v
-IsFormlessMember m s _ = ⊥
+IsUnsupportedMember m s (declaration.BuiltIn v) =
+    IsTrue (is_spellable m (Handle s.ty)) × IsUnsupportedBinding s.binding v
+IsUnsupportedMember m s _ = ⊥
 
 -- these members have forms, or the first that has none is told
-abbrev pub FindsMember : Module → List StructMember → Option FormlessDeclaration → Type 0
+abbrev pub FindsMember : Module → List StructMember → Option UnsupportedDeclaration → Type 0
 FindsMember m members =
-    Finds members (λ i s. MemberHasForm m s) (λ i s it. IsFormlessMember m s it)
+    Finds members (λ i s. MemberHasForm m s) (λ i s it. IsUnsupportedMember m s it)
 
 -- the type of a member is an array of another stride than WGSL gives it, or has such an array in
 -- it, through arrays alone
@@ -177,25 +179,25 @@ pub record StructHasForm (m : Module) (members : List StructMember) : Type 0 whe
 
 -- A member has no form; or all have one, and a member can't stay where it is; or all can, and one
 -- has an array of another stride. Of each the first is told.
-abbrev pub IsFormlessStruct : Module → List StructMember → FormlessDeclaration → Type 0
-IsFormlessStruct m members (declaration.Misplaced fault) =
+abbrev pub IsUnsupportedStruct : Module → List StructMember → UnsupportedDeclaration → Type 0
+IsUnsupportedStruct m members (declaration.Misplaced fault) =
     FindsMember m members None
     × ((ks : List Placed) × (concerned_among m members ≡ Some ks) × StandsAmong fault ks
     × FindsMisplaced ks (Some fault))
-IsFormlessStruct m members (declaration.Stride ty) =
+IsUnsupportedStruct m members (declaration.Stride ty) =
     FindsMember m members None
     × ((ks : List Placed) × (concerned_among m members ≡ Some ks)
     × ((fault : Misplaced) → StandsAmong fault ks → ⊥) × FindsStride m members (Some ty))
-IsFormlessStruct m members it = FindsMember m members (Some it)
+IsUnsupportedStruct m members it = FindsMember m members (Some it)
 
 -- so it is with a struct that a text declares
 abbrev pub TypeHasForm : Module → (ty : ℕ) → Type_ → Type 0
 TypeHasForm m ty t =
     IsTrue (is_declared m.special_types ty t.inner) → StructHasForm m (members_of t.inner)
 
-abbrev pub IsFormlessType : Module → (ty : ℕ) → Type_ → FormlessDeclaration → Type 0
-IsFormlessType m ty t it =
-    IsTrue (is_declared m.special_types ty t.inner) × IsFormlessStruct m (members_of t.inner) it
+abbrev pub IsUnsupportedType : Module → (ty : ℕ) → Type_ → UnsupportedDeclaration → Type 0
+IsUnsupportedType m ty t it =
+    IsTrue (is_declared m.special_types ty t.inner) × IsUnsupportedStruct m (members_of t.inner) it
 
 -- ---- functions
 -- what a function takes and gives has a form
@@ -205,15 +207,16 @@ PassedHasForm f = (b : Binding) → IsPassed f b → IsTrue (binding_has_form b)
 -- each argument has a form, or the first that has none is bound to this value
 abbrev pub FindsArgument : Function → Option BuiltIn → Type 0
 FindsArgument f =
-    Finds f.arguments.items (λ i a. BindingHasForm a.binding) (λ i a. IsFormlessBinding a.binding)
+    Finds f.arguments.items (λ i a. BindingHasForm a.binding)
+    (λ i a. IsUnsupportedBinding a.binding)
 
 -- an argument is bound to this built-in value, which has none, and is the first that has none; or all
 -- have one, and the result is bound to it
-abbrev pub IsFormlessPassed : Function → BuiltIn → Type 0
-IsFormlessPassed f v =
+abbrev pub IsUnsupportedPassed : Function → BuiltIn → Type 0
+IsUnsupportedPassed f v =
     FindsArgument f (Some v)
     ⊎ (FindsArgument f None
-    × ((r : FunctionResult) × (f.result ≡ Some r) × IsFormlessBinding r.binding v))
+    × ((r : FunctionResult) × (f.result ≡ Some r) × IsUnsupportedBinding r.binding v))
 
 -- so it is with an entry point and its stage
 pub record EntryPointHasForm (p : EntryPoint) : Type 0 where
@@ -221,35 +224,35 @@ pub record EntryPointHasForm (p : EntryPoint) : Type 0 where
   pub stage : IsTrue (stage_has_form p p.stage)
 
 -- what it takes or gives has none, or its stage where all that has one
-abbrev pub IsFormlessEntryPoint : EntryPoint → FormlessHead → Type 0
-IsFormlessEntryPoint p (head.BuiltIn v) = IsFormlessPassed p.function v
-IsFormlessEntryPoint p head.Stage =
+abbrev pub IsUnsupportedEntryPoint : EntryPoint → UnsupportedHead → Type 0
+IsUnsupportedEntryPoint p (head.BuiltIn v) = IsUnsupportedPassed p.function v
+IsUnsupportedEntryPoint p head.Stage =
     PassedHasForm p.function × IsFalse (stage_has_form p p.stage)
 
 -- ---- where it stands
-abbrev pub IsFormlessFunction : Function → FormlessDeclaration → Type 0
-IsFormlessFunction f (declaration.Head (head.BuiltIn v)) = IsFormlessPassed f v
-IsFormlessFunction f it = ⊥
+abbrev pub IsUnsupportedFunction : Function → UnsupportedDeclaration → Type 0
+IsUnsupportedFunction f (declaration.Head (head.BuiltIn v)) = IsUnsupportedPassed f v
+IsUnsupportedFunction f it = ⊥
 
-abbrev pub IsFormlessHeadOf : EntryPoint → FormlessDeclaration → Type 0
-IsFormlessHeadOf p (declaration.Head it) = IsFormlessEntryPoint p it
-IsFormlessHeadOf p it = ⊥
+abbrev pub IsUnsupportedHeadOf : EntryPoint → UnsupportedDeclaration → Type 0
+IsUnsupportedHeadOf p (declaration.Head it) = IsUnsupportedEntryPoint p it
+IsUnsupportedHeadOf p it = ⊥
 
 -- it has no form in this declaration of the module
-abbrev pub IsFormlessIn : Module → DeclarationPlace → FormlessDeclaration → Type 0
-IsFormlessIn m (place.Struct h) it =
-    (t : Type_) × (slice_get m.types h ≡ Some t) × IsFormlessType m h t it
-IsFormlessIn m (place.Constant h) it =
-    (c : Constant) × (slice_get m.constants h ≡ Some c) × IsFormlessConstant m c it
-IsFormlessIn m (place.Override h) it =
-    (o : Override) × (slice_get m.overrides h ≡ Some o) × IsFormlessValue m o.ty o.init it
-IsFormlessIn m (place.GlobalVariable h) it =
+abbrev pub IsUnsupportedIn : Module → DeclarationPosition → UnsupportedDeclaration → Type 0
+IsUnsupportedIn m (position.Struct h) it =
+    (t : Type_) × (slice_get m.types h ≡ Some t) × IsUnsupportedType m h t it
+IsUnsupportedIn m (position.Constant h) it =
+    (c : Constant) × (slice_get m.constants h ≡ Some c) × IsUnsupportedConstant m c it
+IsUnsupportedIn m (position.Override h) it =
+    (o : Override) × (slice_get m.overrides h ≡ Some o) × IsUnsupportedValue m o.ty o.init it
+IsUnsupportedIn m (position.GlobalVariable h) it =
     (g : GlobalVariable) × (slice_get m.global_variables h ≡ Some g)
-    × IsFormlessValue m g.ty g.init it
-IsFormlessIn m (place.Function h) it =
-    (f : Function) × (slice_get m.functions h ≡ Some f) × IsFormlessFunction f it
-IsFormlessIn m (place.EntryPoint i) it =
-    (p : EntryPoint) × (slice_get m.entry_points.items i ≡ Some p) × IsFormlessHeadOf p it
+    × IsUnsupportedValue m g.ty g.init it
+IsUnsupportedIn m (position.Function h) it =
+    (f : Function) × (slice_get m.functions h ≡ Some f) × IsUnsupportedFunction f it
+IsUnsupportedIn m (position.EntryPoint i) it =
+    (p : EntryPoint) × (slice_get m.entry_points.items i ≡ Some p) × IsUnsupportedHeadOf p it
 
 -- ---- which is the first
 -- all declarations of one kind have forms
@@ -270,19 +273,19 @@ FunctionsHaveForms m = Each m.functions (λ i. PassedHasForm)
 
 -- In the order of a text, which has structs, constants, overrides, variables, functions and entry
 -- points, each declaration in front of this one has a form.
-abbrev pub HaveFormsBefore : Module → DeclarationPlace → Type 0
-HaveFormsBefore m (place.Struct h) = EachBefore m.types h (TypeHasForm m)
-HaveFormsBefore m (place.Constant h) =
+abbrev pub HaveFormsBefore : Module → DeclarationPosition → Type 0
+HaveFormsBefore m (position.Struct h) = EachBefore m.types h (TypeHasForm m)
+HaveFormsBefore m (position.Constant h) =
     TypesHaveForms m × EachBefore m.constants h (λ i. ConstantHasForm m)
-HaveFormsBefore m (place.Override h) =
+HaveFormsBefore m (position.Override h) =
     TypesHaveForms m × ConstantsHaveForms m
     × EachBefore m.overrides h (λ i o. ValueHasForm m o.ty o.init)
-HaveFormsBefore m (place.GlobalVariable h) =
+HaveFormsBefore m (position.GlobalVariable h) =
     TypesHaveForms m × ConstantsHaveForms m × OverridesHaveForms m
     × EachBefore m.global_variables h (λ i g. ValueHasForm m g.ty g.init)
-HaveFormsBefore m (place.Function h) =
+HaveFormsBefore m (position.Function h) =
     TypesHaveForms m × ConstantsHaveForms m × OverridesHaveForms m × VariablesHaveForms m
     × EachBefore m.functions h (λ i. PassedHasForm)
-HaveFormsBefore m (place.EntryPoint i) =
+HaveFormsBefore m (position.EntryPoint i) =
     TypesHaveForms m × ConstantsHaveForms m × OverridesHaveForms m × VariablesHaveForms m
     × FunctionsHaveForms m × EachBefore m.entry_points.items i (λ i. EntryPointHasForm)

@@ -6,10 +6,10 @@ use Rattle.naga_names.specs.declared.error.NamerError.{NamerError}
 use Rattle.naga_names.specs.declared.error.NamerError.TheVariants.{Full, KeyFull, Memory}
 
 -- the names of labels, each after the earlier ones and those in front of it
-abbrev pub names_behind : Names → (earlier labels : List (List ℕ)) → List (List ℕ)
-names_behind start earlier [] = []
-names_behind start earlier (label ∷ labels) =
-    name_after start earlier label ∷ names_behind start (earlier ++ label ∷ []) labels
+abbrev pub names_following : Names → (earlier labels : List (List ℕ)) → List (List ℕ)
+names_following start earlier [] = []
+names_following start earlier (label ∷ labels) =
+    name_after start earlier label ∷ names_following start (earlier ++ label ∷ []) labels
 
 -- a namer with other uses alone
 abbrev pub HasOtherUses : (old new : Names) → Type 0
@@ -24,7 +24,7 @@ pub record NamesLabels (old : Names) (held labels : List (List ℕ)) (new : Name
   pub labels_named : (earlier : List (List ℕ)) → HasNamed old earlier →
       HasNamed new (earlier ++ labels)
   pub names : (earlier : List (List ℕ)) → HasNamed old earlier →
-      now ≡ held ++ names_behind old earlier labels
+      now ≡ held ++ names_following old earlier labels
 
 -- it has named some beginning of these
 pub record HasNamedSome (new : Names) (earlier labels : List (List ℕ)) : Type 0 where

@@ -3,7 +3,7 @@ pub mod Changes
 pub mod Continues
 pub mod Declarations
 pub mod ExpressionNames
-pub mod FormlessStatements
+pub mod UnsupportedStatements
 pub mod Forms
 pub mod InOrder
 pub mod KnownFunctions

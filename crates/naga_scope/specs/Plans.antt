@@ -27,11 +27,12 @@ use Rattle.naga_names.specs.Naming.{HasNamed, Names}
 use Rattle.naga_scope.specs.ExpressionNames.{IsRefusalOfLabels}
 use Rattle.naga_scope.specs.Availabilities.{TextPoint, handles_of}
 use Rattle.naga_scope.specs.Changes.{block_changes}
-use Rattle.naga_scope.specs.FormlessStatements.{FormedBefore, IsFormlessAt, formless_statement}
+use Rattle.naga_scope.specs.UnsupportedStatements.{FormedBefore, IsUnsupportedAt}
+use Rattle.naga_scope.specs.UnsupportedStatements.{unsupported_statement}
 use Rattle.naga_scope.specs.InOrder.{trees_in}
 use Rattle.naga_scope.specs.ScopeChecks.{check_function}
 use Rattle.naga_scope.specs.ScopeFaults.{IsScopeFault}
-use Rattle.naga_scope.specs.SpelledTypes.{annotated_formless, declared_formless}
+use Rattle.naga_scope.specs.SpelledTypes.{annotated_unsupported, declared_unsupported}
 use Rattle.naga_scope.specs.declared.known_function.KnownFunction.{KnownFunction}
 use Rattle.naga_scope.specs.Log.{HasRoom}
 use Rattle.naga_scope.specs.declared.plan.PlanError.{PlanError}
@@ -74,7 +75,7 @@ abbrev pub IsRefusalToPlan : (explicit : Bool) → Module → ModuleInfo → ir.
 IsRefusalToPlan explicit m info f es namer (OutOfScope fault) =
     IsScopeFault (function_shape m info f es) fault
 IsRefusalToPlan explicit m info f es namer (StatementWithoutForm n it) =
-    (formless_statement f.body ≡ Some it) × IsFormlessAt f.body n it
+    (unsupported_statement f.body ≡ Some it) × IsUnsupportedAt f.body n it
 IsRefusalToPlan explicit m info f es namer (WithoutForm h) =
     IsWrittenIn m info f es h
     × IsSomeAnd (slice_get f.expressions h)
@@ -117,10 +118,10 @@ IsFirstToPlan Labelled explicit m info f es (WithoutForm h) =
     × ((x : ℕ) (e : Expression) → h < x → slice_get f.expressions x ≡ Some e →
     IsWrittenIn m info f es x → IsTrue (expression_has_form m es f.expressions e))
 IsFirstToPlan Labelled explicit m info f es (TypeWithoutForm ty) =
-    Labelled × IsFormedBefore m info f es × (declared_formless m f ≡ Some ty)
+    Labelled × IsFormedBefore m info f es × (declared_unsupported m f ≡ Some ty)
 IsFirstToPlan Labelled explicit m info f es (LetWithoutForm h) =
-    Labelled × IsFormedBefore m info f es × (declared_formless m f ≡ None)
-    × (annotated_formless explicit m es (binds (function_shape m info f es)) f ≡ Some h)
+    Labelled × IsFormedBefore m info f es × (declared_unsupported m f ≡ None)
+    × (annotated_unsupported explicit m es (binds (function_shape m info f es)) f ≡ Some h)
 IsFirstToPlan Labelled explicit m info f es (Unnamed error) = ⊤
 IsFirstToPlan Labelled explicit m info f es (Memory e) = ⊤
 

@@ -15,8 +15,8 @@ use Rattle.shader_runs.specs.Program.{Cases, no_case, case, Function, binds, exp
 use Rattle.shader_runs.specs.Program.{is_emittable, operands_of}
 use Rattle.shader_runs.specs.Scope.{before_local}
 use Rattle.shader_runs.specs.ScopeFaults.{GivesAt, IsOutOfScopeAt, UsesAt}
-use Rattle.shader_runs.specs.ScopeRules.{Emitted, IntroducedHandle, Point, WasIntroduced, behind}
-use Rattle.shader_runs.specs.ScopeRules.{behind_turn, entry_point, handle_of}
+use Rattle.shader_runs.specs.ScopeRules.{Emitted, IntroducedHandle, Point, WasIntroduced, following}
+use Rattle.shader_runs.specs.ScopeRules.{after_turn, entry_point, handle_of}
 
 -- a statement, and the point at which it stands
 pub record Standing : Type 0 where
@@ -30,13 +30,13 @@ abbrev mutual
   inside f at (Block b) = standing f at b
   inside f at (If c a b) = standing f at a ++ standing f at b
   inside f at (Switch h cs) = case_standing f at cs
-  inside f at (Loop b d e) = standing f at b ++ standing f (behind_turn f b at) d
+  inside f at (Loop b d e) = standing f at b ++ standing f (after_turn f b at) d
   inside f at st = []
 
   pub standing : Function → Point → Statements → List Standing
   standing f at end = []
   standing f at (then st ss) =
-      record { at = at; statement = st } ∷ (inside f at st ++ standing f (behind f st at) ss)
+      record { at = at; statement = st } ∷ (inside f at st ++ standing f (following f st at) ss)
 
   pub case_standing : Function → Point → Cases → List Standing
   case_standing f at no_case = []

@@ -24,23 +24,24 @@ declared_types f =
     (option_to_list (option_map (λ r. r.ty) f.result) ++ map (λ l. l.ty) f.local_variables)
 
 -- no text can spell it
-abbrev pub is_formless : Module → (ty : ℕ) → Bool
-is_formless m ty = not (is_spellable m (Handle ty))
+abbrev pub is_unsupported : Module → (ty : ℕ) → Bool
+is_unsupported m ty = not (is_spellable m (Handle ty))
 
 -- the first of them that none can
-abbrev pub declared_formless : Module → Function → Option ℕ
-declared_formless m f = find (is_formless m) (declared_types f)
+abbrev pub declared_unsupported : Module → Function → Option ℕ
+declared_unsupported m f = find (is_unsupported m) (declared_types f)
 
 -- a type is told, since it names no struct that no text declares, and has no form
-abbrev pub is_annotated_formless : Module → TypeResolution → Bool
-is_annotated_formless m r = not (names_undeclared m r) && not (is_spelled m.types r)
+abbrev pub is_annotated_unsupported : Module → TypeResolution → Bool
+is_annotated_unsupported m r = not (names_undeclared m r) && not (is_spelled m.types r)
 
 -- the type of the expression is known, told where a `let` names it, and has no form
-abbrev pub is_formless_let : Module → List ExpressionInfo → (h : ℕ) → Bool
-is_formless_let m es h = option_map_or (λ k. is_annotated_formless m k.ty) (slice_get es h) false
+abbrev pub is_unsupported_let : Module → List ExpressionInfo → (h : ℕ) → Bool
+is_unsupported_let m es h =
+    option_map_or (λ k. is_annotated_unsupported m k.ty) (slice_get es h) false
 
 -- the first such one that a `let` of a function names, where `let`s tell types
-abbrev pub annotated_formless : (explicit : Bool) → Module → List ExpressionInfo →
+abbrev pub annotated_unsupported : (explicit : Bool) → Module → List ExpressionInfo →
     (binds : ℕ → Bool) → Function → Option ℕ
-annotated_formless explicit m es binds f =
-    if explicit then find (is_formless_let m es) (block_lets binds f.body) else None
+annotated_unsupported explicit m es binds f =
+    if explicit then find (is_unsupported_let m es) (block_lets binds f.body) else None

@@ -36,7 +36,7 @@ use crate::known_function::KnownFunction;
 use crate::points::Scope;
 use crate::scope_faults::ScopeFault;
 use naga_ir::{
-    Block, Expression, Function, Handle, LocalVariable, Place, Range, Statement, SwitchCase,
+    Block, Expression, Function, Handle, ItemIndex, LocalVariable, Range, Statement, SwitchCase,
 };
 
 /// Whether the expression, if there is one, may be written at this point.
@@ -294,7 +294,7 @@ fn check_emit(
     ensures counted { Counted scope.old scope.new (range.end - range.first) }
 {
     for index in range.first..range.end {
-        check_one(scope, known, number, Place::from_index(index))?;
+        check_one(scope, known, number, ItemIndex::from_index(index))?;
     }
     Ok(())
 }

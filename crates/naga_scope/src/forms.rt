@@ -4,7 +4,7 @@ ghost use Rattle.std.specs.Prelude.{◌≡◌, List, Some};
 ghost use Rattle.std.specs.Option.{is_some, option_and_then};
 ghost use Rattle.module_meaning.specs.ExpressionForms.{converts, expression_is_written};
 ghost use Rattle.module_meaning.specs.ExpressionForms.{is_written_literal};
-ghost use Rattle.module_meaning.specs.ExpressionOperators.{scalar_behind, scalar_in};
+ghost use Rattle.module_meaning.specs.ExpressionOperators.{pointee_scalar, scalar_in};
 ghost use Rattle.module_meaning.specs.Names.{HasNamesOf, module_names, name_in};
 ghost use Rattle.module_meaning.specs.ExpressionForms.{known_passes, loads_matrix, part_is_written};
 ghost use Rattle.module_meaning.specs.Sampling.{sampling_is_written};
@@ -292,15 +292,15 @@ fn loads_matrix(
 ) -> bool
     ensures { result ≡ loads_matrix types.now columns rows role inner.now }
 {
-    match scalar_behind(types, inner) {
+    match pointee_scalar(types, inner) {
         Some(scalar) => has_word(scalar),
         None => false,
     }
 }
 
 /// The scalars that a pointer of this type points to: those of a scalar or a vector.
-pub fn scalar_behind(types: &UniqueArena<Type_>, inner: &TypeInner) -> Option<Scalar>
-    ensures { result ≡ scalar_behind types.now inner.now }
+pub fn pointee_scalar(types: &UniqueArena<Type_>, inner: &TypeInner) -> Option<Scalar>
+    ensures { result ≡ pointee_scalar types.now inner.now }
 {
     match inner {
         TypeInner::Pointer { base, .. } => {

@@ -25,12 +25,13 @@ mod written;
 pub use binding::binds;
 pub use continues::split_at_continue;
 pub use declarations::{
-    DeclarationPlace, FormlessDeclaration, FormlessHead, formless_declaration, formless_head,
+    DeclarationPosition, UnsupportedDeclaration, UnsupportedHead, unsupported_declaration,
+    unsupported_head,
 };
-pub use forms::{sampling_has_form, scalar_behind, whole_known};
+pub use forms::{pointee_scalar, sampling_has_form, whole_known};
 pub use functions::function_of;
 pub use plan::{Plan, PlanError};
 pub use points::{Availability, BoundName, Scope};
 pub use scope_faults::ScopeFault;
-pub use statements::FormlessStatement;
+pub use statements::UnsupportedStatement;
 pub use tables::ModuleTables;

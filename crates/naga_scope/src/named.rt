@@ -10,7 +10,7 @@ ghost use Rattle.naga_scope.specs.InOrder.{own_labels, trees_of};
 ghost use Rattle.shader_runs.specs.Program.{from};
 
 use crate::binding::label_of;
-use naga_ir::{Expression, Function, Handle, Place, Range, Statement};
+use naga_ir::{Expression, Function, Handle, ItemIndex, Range, Statement};
 use naga_names::NamerError;
 use naga_names::namer::Namer;
 use std::alloc::Global;
@@ -68,7 +68,7 @@ fn name_emitted(
         (labels_of_each function.now (from range.first (range.end - range.first))) namer.new) }
 {
     for index in range.first..range.end {
-        name_expression(function, Place::from_index(index), namer, names)?;
+        name_expression(function, ItemIndex::from_index(index), namer, names)?;
     }
     Ok(())
 }

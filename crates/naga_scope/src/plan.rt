@@ -26,7 +26,7 @@ use crate::named::expression_names;
 use crate::points::Scope;
 use crate::scope_faults::ScopeFault;
 use crate::spelled::{annotated_without_form, declared_without_form};
-use crate::statements::{FormlessStatement, formless_statement};
+use crate::statements::{UnsupportedStatement, unsupported_statement};
 use crate::tables::ModuleTables;
 use crate::written::written_without_form;
 use naga_back::FunctionType;
@@ -45,7 +45,7 @@ pub enum PlanError {
     OutOfScope(ScopeFault),
     /// The statement with this number is the first without a form, where those in blocks are
     /// counted too, each after the one that holds the block, from 0. A case is told by its `switch`.
-    StatementWithoutForm(usize, FormlessStatement),
+    StatementWithoutForm(usize, UnsupportedStatement),
     /// The expression with this handle is written, and has no form.
     WithoutForm(Handle<Expression>),
     /// An argument, the result or a local is of this type, which has no form.
@@ -187,8 +187,8 @@ impl Plan {
         };
         let mut scope = Scope::start(alloc, known.function, changes)?;
         check_function(&mut scope, known)?;
-        if let Some((number, formless)) = formless_statement(statements) {
-            return Err(PlanError::StatementWithoutForm(number, formless));
+        if let Some((number, unsupported)) = unsupported_statement(statements) {
+            return Err(PlanError::StatementWithoutForm(number, unsupported));
         }
         if let Some(handle) = written_without_form(alloc, known, statements, names)? {
             return Err(PlanError::WithoutForm(handle));

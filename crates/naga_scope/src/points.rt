@@ -33,7 +33,7 @@ use crate::binding::{
 };
 use crate::known_function::KnownFunction;
 use naga_info::FunctionInfo;
-use naga_ir::{Expression, Function, Handle, Place, Type_, UniqueArena};
+use naga_ir::{Expression, Function, Handle, ItemIndex, Type_, UniqueArena};
 use std::alloc::{AllocError, Global};
 use std::marker::Model;
 
@@ -313,7 +313,7 @@ impl Scope {
         ensures room { self.new.room ≡ self.old.room }
     {
         for index in 0..function.expressions.len() {
-            let expression = &function.expressions[Place::from_index(index)];
+            let expression = &function.expressions[ItemIndex::from_index(index)];
             let availability = first_availability(&self.availabilities, function, expression);
             self.availabilities[index] = availability;
         }
@@ -437,12 +437,12 @@ impl Scope {
         ensures counted { Counted self.old self.new 1 }
     {
         let availability = self.emitted(types, function, info, handle);
-        self.named = self.named_behind(function, handle);
+        self.named = self.named_following(function, handle);
         self.stand(handle, availability);
     }
 
     /// How many names are given after an `Emit` of the expression with this handle.
-    fn named_behind(&self, function: &Function, handle: Handle<Expression>) -> usize
+    fn named_following(&self, function: &Function, handle: Handle<Expression>) -> usize
         requires { self.now.named + 1 < 2 ^ 64 }
         ensures { result ≡ self.now.named + length (option_to_list (label_of function.now handle)) }
     {

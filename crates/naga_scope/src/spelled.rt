@@ -7,7 +7,8 @@ ghost use Rattle.naga_ir.specs.Operands.{own_result};
 ghost use Rattle.naga_ir.specs.StatementViews.{tree_of};
 ghost use Rattle.naga_scope.specs.InOrder.{own_lets, trees_of};
 ghost use Rattle.naga_scope.specs.KnownFunctions.{bound_in};
-ghost use Rattle.naga_scope.specs.SpelledTypes.{declared_formless, is_formless, is_formless_let};
+ghost use Rattle.naga_scope.specs.SpelledTypes.{declared_unsupported, is_unsupported};
+ghost use Rattle.naga_scope.specs.SpelledTypes.{is_unsupported_let};
 ghost use Rattle.naga_scope.specs.Tables.{AreTablesOf};
 ghost use Rattle.shader_runs.specs.Program.{from};
 
@@ -15,7 +16,7 @@ use crate::known_function::KnownFunction;
 use crate::tables::ModuleTables;
 use naga_info::FunctionInfo;
 use naga_ir::{
-    Expression, Function, FunctionArgument, FunctionResult, Handle, Module, Place, Range,
+    Expression, Function, FunctionArgument, FunctionResult, Handle, ItemIndex, Module, Range,
     Statement, Type_,
 };
 
@@ -25,7 +26,7 @@ fn argument_without_form(
     arguments: &[FunctionArgument],
 ) -> Option<Handle<Type_>>
     requires tables { AreTablesOf «module».now tables.now }
-    ensures { result ≡ find (is_formless «module».now) (map (λ a. a.ty) arguments.now) }
+    ensures { result ≡ find (is_unsupported «module».now) (map (λ a. a.ty) arguments.now) }
 {
     for argument in arguments {
         if !tables.is_spellable(module, argument.ty) {
@@ -42,7 +43,7 @@ fn answer_without_form(
 ) -> Option<Handle<Type_>>
     requires tables { AreTablesOf «module».now tables.now }
     ensures { result
-        ≡ find (is_formless «module».now) (option_to_list (option_map (λ r. r.ty) answer.now)) }
+        ≡ find (is_unsupported «module».now) (option_to_list (option_map (λ r. r.ty) answer.now)) }
 {
     match answer {
         Some(answer) => {
@@ -63,7 +64,7 @@ fn local_without_form(
 ) -> Option<Handle<Type_>>
     requires tables { AreTablesOf «module».now tables.now }
     ensures { result
-        ≡ find (is_formless «module».now) (map (λ l. l.ty) function.now.local_variables) }
+        ≡ find (is_unsupported «module».now) (map (λ l. l.ty) function.now.local_variables) }
 {
     for (_, local) in function.local_variables.iter() {
         if !tables.is_spellable(module, local.ty) {
@@ -81,7 +82,7 @@ pub(crate) fn declared_without_form(
     function: &Function,
 ) -> Option<Handle<Type_>>
     requires tables { AreTablesOf «module».now tables.now }
-    ensures { result ≡ declared_formless «module».now function.now }
+    ensures { result ≡ declared_unsupported «module».now function.now }
 {
     if let Some(ty) = argument_without_form(module, tables, &function.arguments) {
         return Some(ty);
@@ -94,14 +95,14 @@ pub(crate) fn declared_without_form(
 
 /// Whether the type of the expression with this handle is known, names no struct that no text
 /// declares, and has no form.
-fn is_known_formless(
+fn is_known_unsupported(
     module: &Module,
     tables: &ModuleTables,
     info: &FunctionInfo,
     handle: Handle<Expression>,
 ) -> bool
     requires tables { AreTablesOf «module».now tables.now }
-    ensures { result ≡ is_formless_let «module».now info.now handle }
+    ensures { result ≡ is_unsupported_let «module».now info.now handle }
 {
     match info.expressions.get(handle.index()) {
         Some(known) => {
@@ -111,32 +112,32 @@ fn is_known_formless(
     }
 }
 
-fn is_formless_let(known: &KnownFunction<'_>, handle: Handle<Expression>) -> bool
+fn is_unsupported_let(known: &KnownFunction<'_>, handle: Handle<Expression>) -> bool
     requires tables { AreTablesOf known.now.shader.now known.now.tables.now }
-    ensures { result ≡ is_formless_let known.now.shader.now known.now.info.now handle }
+    ensures { result ≡ is_unsupported_let known.now.shader.now known.now.info.now handle }
 {
-    is_known_formless(known.shader, known.tables, known.info, handle)
+    is_known_unsupported(known.shader, known.tables, known.info, handle)
 }
 
 /// Whether a `let` binds the expression with this handle where it is emitted, and its type has no
 /// form.
-fn is_bound_formless(known: &KnownFunction<'_>, handle: Handle<Expression>) -> bool
+fn is_bound_unsupported(known: &KnownFunction<'_>, handle: Handle<Expression>) -> bool
     requires tables { AreTablesOf known.now.shader.now known.now.tables.now }
     ensures { result ≡ (bound_in known.now handle
-        && is_formless_let known.now.shader.now known.now.info.now handle) }
+        && is_unsupported_let known.now.shader.now known.now.info.now handle) }
 {
-    known.binds(handle) && is_formless_let(known, handle)
+    known.binds(handle) && is_unsupported_let(known, handle)
 }
 
 /// The first of these expressions that a `let` binds and whose type has no form.
 fn emitted_without_form(known: &KnownFunction<'_>, range: Range) -> Option<Handle<Expression>>
     requires tables { AreTablesOf known.now.shader.now known.now.tables.now }
-    ensures { result ≡ find (is_formless_let known.now.shader.now known.now.info.now)
+    ensures { result ≡ find (is_unsupported_let known.now.shader.now known.now.info.now)
         (filter (bound_in known.now) (from range.first (range.end - range.first))) }
 {
     for index in range.first..range.end {
-        let handle = Place::from_index(index);
-        if is_bound_formless(known, handle) {
+        let handle = ItemIndex::from_index(index);
+        if is_bound_unsupported(known, handle) {
             return Some(handle);
         }
     }
@@ -149,12 +150,12 @@ fn result_without_form(
     statement: &Statement,
 ) -> Option<Handle<Expression>>
     requires tables { AreTablesOf known.now.shader.now known.now.tables.now }
-    ensures { result ≡ find (is_formless_let known.now.shader.now known.now.info.now)
+    ensures { result ≡ find (is_unsupported_let known.now.shader.now known.now.info.now)
         (option_to_list (own_result (tree_of statement.now))) }
 {
     match statement.result() {
         Some(handle) => {
-            if is_formless_let(known, handle) {
+            if is_unsupported_let(known, handle) {
                 Some(handle)
             } else {
                 None
@@ -168,7 +169,7 @@ fn result_without_form(
 /// has no form.
 fn let_in_statement(known: &KnownFunction<'_>, statement: &Statement) -> Option<Handle<Expression>>
     requires tables { AreTablesOf known.now.shader.now known.now.tables.now }
-    ensures { result ≡ find (is_formless_let known.now.shader.now known.now.info.now)
+    ensures { result ≡ find (is_unsupported_let known.now.shader.now known.now.info.now)
         (own_lets (bound_in known.now) (tree_of statement.now)) }
 {
     match statement {
@@ -183,7 +184,7 @@ fn let_without_form(
     statements: &[&Statement],
 ) -> Option<Handle<Expression>>
     requires tables { AreTablesOf known.now.shader.now known.now.tables.now }
-    ensures { result ≡ find (is_formless_let known.now.shader.now known.now.info.now)
+    ensures { result ≡ find (is_unsupported_let known.now.shader.now known.now.info.now)
         (flat_map (own_lets (bound_in known.now)) (trees_of statements.now)) }
 {
     for statement in statements {
@@ -202,7 +203,7 @@ pub(crate) fn annotated_without_form(
 ) -> Option<Handle<Expression>>
     requires tables { AreTablesOf known.now.shader.now known.now.tables.now }
     ensures { result
-        ≡ if explicit then find (is_formless_let known.now.shader.now known.now.info.now)
+        ≡ if explicit then find (is_unsupported_let known.now.shader.now known.now.info.now)
         (flat_map (own_lets (bound_in known.now)) (trees_of statements.now)) else None }
 {
     if explicit {

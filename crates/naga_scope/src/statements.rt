@@ -5,16 +5,17 @@ ghost use Rattle.std.specs.Option.{is_some};
 ghost use Rattle.module_meaning.specs.OperatorTable.{collective_word, texel_change_word};
 ghost use Rattle.module_meaning.specs.StatementShapes.{change_of};
 ghost use Rattle.naga_ir.specs.StatementViews.{cases_of, tree_of};
-ghost use Rattle.naga_scope.specs.FormlessStatements.{FindsFormless, formless_case, own_formless};
-ghost use Rattle.naga_scope.specs.FormlessStatements.{unless};
+ghost use Rattle.naga_scope.specs.UnsupportedStatements.{FindsUnsupported, unsupported_case};
+ghost use Rattle.naga_scope.specs.UnsupportedStatements.{own_unsupported};
+ghost use Rattle.naga_scope.specs.UnsupportedStatements.{unless};
 ghost use Rattle.naga_scope.specs.InOrder.{trees_of};
-ghost use Rattle.naga_scope.specs.declared.statements.FormlessStatement.TheVariants as formless;
+ghost use Rattle.naga_scope.specs.declared.statements.UnsupportedStatement.TheVariants as unsupported;
 
 use naga_ir::{AtomicFunction, CollectiveOperation, Statement, SubgroupOperation, SwitchCase};
 
 /// What of a function's statements no text has a form for.
 #[derive(Clone, Copy, Debug, PartialEq, Eq)]
-pub enum FormlessStatement {
+pub enum UnsupportedStatement {
     /// A step of a ray query.
     RayQuery,
     /// A scan over a subgroup that WGSL has no word for.
@@ -26,13 +27,15 @@ pub enum FormlessStatement {
 }
 
 /// The first of these statements that has no form by itself, and how many stand in front of it.
-pub(crate) fn formless_statement(statements: &[&Statement]) -> Option<(usize, FormlessStatement)>
-    ensures { FindsFormless (trees_of statements.now) result }
+pub(crate) fn unsupported_statement(
+    statements: &[&Statement],
+) -> Option<(usize, UnsupportedStatement)>
+    ensures { FindsUnsupported (trees_of statements.now) result }
 {
     let mut number = 0;
     for statement in statements {
-        if let Some(formless) = own_formless(statement) {
-            return Some((number, formless));
+        if let Some(unsupported) = own_unsupported(statement) {
+            return Some((number, unsupported));
         }
         number += 1;
     }
@@ -40,42 +43,42 @@ pub(crate) fn formless_statement(statements: &[&Statement]) -> Option<(usize, Fo
 }
 
 /// What of a statement has no form, those in its blocks left out.
-fn own_formless(statement: &Statement) -> Option<FormlessStatement>
-    ensures { result ≡ own_formless (tree_of statement.now) }
+fn own_unsupported(statement: &Statement) -> Option<UnsupportedStatement>
+    ensures { result ≡ own_unsupported (tree_of statement.now) }
 {
     match statement {
-        Statement::Switch { cases, .. } => formless_case(cases),
-        Statement::RayQuery { .. } => Some(FormlessStatement::RayQuery),
-        Statement::ImageAtomic { fun, .. } => formless_change(*fun),
+        Statement::Switch { cases, .. } => unsupported_case(cases),
+        Statement::RayQuery { .. } => Some(UnsupportedStatement::RayQuery),
+        Statement::ImageAtomic { fun, .. } => unsupported_change(*fun),
         Statement::SubgroupCollectiveOperation {
             op,
             collective_op,
             ..
-        } => formless_collective(*op, *collective_op),
+        } => unsupported_collective(*op, *collective_op),
         _ => None,
     }
 }
 
 /// A case with statements that falls through.
-fn formless_case(cases: &[SwitchCase]) -> Option<FormlessStatement>
-    ensures { result ≡ formless_case (cases_of cases.now) }
+fn unsupported_case(cases: &[SwitchCase]) -> Option<UnsupportedStatement>
+    ensures { result ≡ unsupported_case (cases_of cases.now) }
 {
     for case in cases {
         if case.fall_through && !case.body.is_empty() {
-            return Some(FormlessStatement::FallThrough);
+            return Some(UnsupportedStatement::FallThrough);
         }
     }
     None
 }
 
 /// A change of a texel that WGSL has no word for.
-fn formless_change(fun: AtomicFunction) -> Option<FormlessStatement>
+fn unsupported_change(fun: AtomicFunction) -> Option<UnsupportedStatement>
     ensures { result
-        ≡ unless (is_some (texel_change_word (change_of fun))) formless.ImageCompareExchange }
+        ≡ unless (is_some (texel_change_word (change_of fun))) unsupported.ImageCompareExchange }
 {
     match fun {
         AtomicFunction::Exchange { compare: Some(_) } => {
-            Some(FormlessStatement::ImageCompareExchange)
+            Some(UnsupportedStatement::ImageCompareExchange)
         }
         _ => None,
     }
@@ -83,18 +86,18 @@ fn formless_change(fun: AtomicFunction) -> Option<FormlessStatement>
 
 /// An operation over a subgroup that WGSL has no word for: of scans it has those of sums and
 /// products.
-fn formless_collective(
+fn unsupported_collective(
     op: SubgroupOperation,
     collective_op: CollectiveOperation,
-) -> Option<FormlessStatement>
+) -> Option<UnsupportedStatement>
     ensures { result
-        ≡ unless (is_some (collective_word op collective_op)) formless.SubgroupOperation }
+        ≡ unless (is_some (collective_word op collective_op)) unsupported.SubgroupOperation }
 {
     match collective_op {
         CollectiveOperation::Reduce => None,
         CollectiveOperation::InclusiveScan | CollectiveOperation::ExclusiveScan => match op {
             SubgroupOperation::Add | SubgroupOperation::Mul => None,
-            _ => Some(FormlessStatement::SubgroupOperation),
+            _ => Some(UnsupportedStatement::SubgroupOperation),
         },
     }
 }

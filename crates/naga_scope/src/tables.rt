@@ -5,7 +5,8 @@ ghost use Rattle.std.specs.Prelude.{length, replicate};
 ghost use Rattle.std.specs.Option.{is_some, option_and_then, option_map};
 ghost use Rattle.indexmap.specs.IndexMap.{values};
 ghost use Rattle.module_meaning.specs.AlikeTypes.{is_spelled};
-ghost use Rattle.module_meaning.specs.ExpressionForms.{constant_is_written, constant_is_written_over};
+ghost use Rattle.module_meaning.specs.ExpressionForms.{constant_is_written};
+ghost use Rattle.module_meaning.specs.ExpressionForms.{constant_is_written_over};
 ghost use Rattle.module_meaning.specs.ExpressionForms.{global_is_written, global_is_written_over};
 ghost use Rattle.module_meaning.specs.Layouts.{layout_in, module_rule};
 ghost use Rattle.module_meaning.specs.Undeclared.{handle_names_undeclared, is_spellable};
@@ -30,7 +31,7 @@ use crate::single_types::{is_spelled_alone, over};
 use crate::written::{are_marked, is_marked, mark, mark_present, no_marks};
 use naga_info::TypeResolution;
 use naga_ir::{
-    Constant, Expression, Handle, Module, Place, SpecialTypes, StructMember, Type_, TypeInner,
+    Constant, Expression, Handle, ItemIndex, Module, SpecialTypes, StructMember, Type_, TypeInner,
 };
 use naga_layout::{kept_struct, layouts_of, strides_of};
 use std::alloc::{AllocError, Global};
@@ -317,7 +318,7 @@ fn mark_naming(marks: &mut [bool], undeclared: &[bool], module: &Module)
     ensures { MarksNaming «module».now marks.new }
 {
     for index in 0..module.types.len() {
-        let handle = Place::from_index(index);
+        let handle = ItemIndex::from_index(index);
         let names = names_by(marks, undeclared, handle, &module.types[handle].inner);
         marks[index] = names;
     }
@@ -372,7 +373,7 @@ fn mark_spelled(marks: &mut [bool], module: &Module)
     ensures { MarksSpelled «module».now marks.new }
 {
     for index in 0..module.types.len() {
-        let handle: Handle<Type_> = Place::from_index(index);
+        let handle: Handle<Type_> = ItemIndex::from_index(index);
         let spelled = item_is_spelled(marks, &module.types[handle].inner);
         marks[index] = spelled;
     }
@@ -460,7 +461,7 @@ fn mark_globals(marks: &mut [bool], naming: &[bool], spelled: &[bool], module: &
     ensures { MarksGlobals «module».now marks.new }
 {
     for index in 0..module.global_expressions.len() {
-        let expression = &module.global_expressions[Place::from_index(index)];
+        let expression = &module.global_expressions[ItemIndex::from_index(index)];
         let is_written = is_written_over(marks, naming, spelled, module, expression);
         marks[index] = is_written;
     }
@@ -508,7 +509,7 @@ fn representatives_of(alloc: Global, module: &Module) -> Result<Vec<Handle<Expre
     requires ordered { ItemsStandInOrder «module».now }
     ensures { IfOk result (λ known. AreRepresentatives «module».now known.items) }
 {
-    let first: Handle<Expression> = Place::from_index(0);
+    let first: Handle<Expression> = ItemIndex::from_index(0);
     let mut known = vec![in alloc; first; module.global_expressions.len()]?;
     set_representatives(&mut known, module);
     Ok(known)
@@ -521,7 +522,7 @@ fn set_representatives(known: &mut [Handle<Expression>], module: &Module)
     ensures { AreRepresentatives «module».now known.new }
 {
     for index in 0..module.global_expressions.len() {
-        let handle = Place::from_index(index);
+        let handle = ItemIndex::from_index(index);
         let found = representative_by(known, module, handle, &module.global_expressions[handle]);
         known[index] = found;
     }

@@ -25,13 +25,13 @@ use crate::forms::is_written;
 use crate::known_function::KnownFunction;
 use crate::tables::ModuleTables;
 use naga_info::FunctionInfo;
-use naga_ir::{Expression, Function, Handle, Module, Place, Range, Statement};
+use naga_ir::{Expression, Function, Handle, ItemIndex, Module, Range, Statement};
 use naga_names::NameKey;
 use std::alloc::{AllocError, Global};
 use std::collections::HashMap;
 
 /// Marks the item with this handle, if there is one.
-pub(crate) fn mark<M>(marks: &mut [bool], handle: Place<M>)
+pub(crate) fn mark<M>(marks: &mut [bool], handle: ItemIndex<M>)
     ensures { MarksAlso marks.old (handle ∷ []) marks.new }
 {
     let index = handle.index();
@@ -49,7 +49,7 @@ fn mark_if(marks: &mut [bool], handle: Handle<Expression>, is_written: bool)
 }
 
 /// Whether the item with this handle has a mark.
-pub(crate) fn is_marked<M>(marks: &[bool], handle: Place<M>) -> bool
+pub(crate) fn is_marked<M>(marks: &[bool], handle: ItemIndex<M>) -> bool
     ensures { result ≡ is_marked marks.now handle }
 {
     match marks.get(handle.index()) {
@@ -92,7 +92,7 @@ fn mark_constants(marks: &mut [bool], function: &Function)
     ensures { MarksConstants function.now.expressions marks.new }
 {
     for index in 0..function.expressions.len() {
-        let is_constant = is_constant(marks, &function.expressions[Place::from_index(index)]);
+        let is_constant = is_constant(marks, &function.expressions[ItemIndex::from_index(index)]);
         marks[index] = is_constant;
     }
 }
@@ -136,7 +136,7 @@ fn mark_emitted(marks: &mut [bool], known: &KnownFunction<'_>, range: Range)
         (filter (bound_in known.now) (from range.first (range.end - range.first))) marks.new }
 {
     for index in range.first..range.end {
-        let handle = Place::from_index(index);
+        let handle = ItemIndex::from_index(index);
         mark_if(marks, handle, known.binds(handle));
     }
 }
@@ -173,7 +173,7 @@ fn mark_statements(marks: &mut [bool], known: &KnownFunction<'_>, statements: &[
 
 /// Marks the item with this handle, if there is one.
 #[tactic(auto, using(crate::proofs::Marking::marks_none))]
-pub(crate) fn mark_present<M>(marks: &mut [bool], handle: Option<Place<M>>)
+pub(crate) fn mark_present<M>(marks: &mut [bool], handle: Option<ItemIndex<M>>)
     ensures { MarksAlso marks.old (option_to_list handle) marks.new }
 {
     if let Some(handle) = handle {
@@ -234,7 +234,7 @@ fn sweep(
     while end > 0 {
         end -= 1;
         if marks[end] {
-            let handle = Place::from_index(end);
+            let handle = ItemIndex::from_index(end);
             let expression = &function.expressions[handle];
             if !expression_has_form(constants, module, tables, names, info, expression) {
                 return Some(handle);

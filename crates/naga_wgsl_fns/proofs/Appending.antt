@@ -3,7 +3,7 @@ use Rattle.std.proofs.Common.{◌≡◌, ℕ, List, [], ◌++◌, append_assoc, 
 use Rattle.std.proofs.Common.{◌∙◌, subst}
 use Rattle.std.proofs.lemmas.List.{append-nil}
 use Rattle.std.specs.Result.{IsErrAnd}
-use Rattle.naga_words.proofs.Writing.{behind_first, behind_then}
+use Rattle.naga_words.proofs.Writing.{after_first, after_then}
 use Rattle.naga_wgsl_fns.specs.declared.refusals.error.Error.{Error}
 use Rattle.naga_wgsl_fns.specs.Errors.{IsWant}
 use Rattle.naga_wgsl_fns.specs.Appends.{Wrote, StoppedWithin, Appends}
@@ -19,14 +19,14 @@ wrote_then {content} {text} {middle} {more} a b = record { appended = b.appended
 pub stopped_first : {content text now : List ℕ} {failed failures : ℕ} {error : Error}
     (more : List ℕ) → StoppedWithin content failed text now failures error →
     StoppedWithin content failed (text ++ more) now failures error
-stopped_first {content} {text} {now} more s = record { behind = behind_first content text now more s.behind; reason = s.reason }
+stopped_first {content} {text} {now} more s = record { following = after_first content text now more s.following; reason = s.reason }
 
 pub stopped_then : {content text middle more now : List ℕ} {failed among failures : ℕ}
     {error : Error} → Wrote content failed text middle among →
     StoppedWithin middle among more now failures error →
     StoppedWithin content failed (text ++ more) now failures error
 stopped_then {content} {text} {middle} {more} {now} {failures = failures} {error = error} w s =
-    record { behind = behind_then content text middle more now w.appended s.behind; reason = subst (λ n. IsWant n failures error) w.kept s.reason }
+    record { following = after_then content text middle more now w.appended s.following; reason = subst (λ n. IsWant n failures error) w.kept s.reason }
 
 -- the answer of a call that writes after a text that was written
 pub appends_then : (r : Result Unit Error) {content text middle : List ℕ} {failed among : ℕ} (more now : List ℕ) (failures : ℕ)

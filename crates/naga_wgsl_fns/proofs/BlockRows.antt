@@ -1,22 +1,27 @@
 -- The texts of blocks and of choices, from what is written of them in turn.
 use Rattle.std.proofs.Common.{cond}
-use Rattle.std.proofs.Common.{◌≡◌, ℕ, ◌*◌, suc, Bool, true, false, List, [], ◌∷◌, ◌++◌, codes, replicate}
+use Rattle.std.proofs.Common.{◌≡◌, ℕ, ◌*◌, suc, Bool, true, false, List, [], ◌∷◌, ◌++◌, codes}
+use Rattle.std.proofs.Common.{replicate}
 use Rattle.std.proofs.Common.{refl, sym, ap, ◌∙◌, append_assoc}
 use Rattle.std.proofs.lemmas.List.{append-nil}
 use Rattle.naga_back.specs.Indentation.{indentation}
 use Rattle.naga_form.specs.Expressions.{value_form}
 use Rattle.naga_form.specs.Statements.{lines_form, optional_form}
-use Rattle.naga_ir.specs.StatementTree.{block, branch, BlockTree, no_statements, statement, has_no_statements}
+use Rattle.naga_ir.specs.StatementTree.{block, branch, BlockTree, no_statements, statement}
+use Rattle.naga_ir.specs.StatementTree.{has_no_statements}
 use Rattle.naga_words.specs.Output.{joined_texts}
 use Rattle.shader_runs.specs.Scope.{Handles}
-use Rattle.wgsl_text.proofs.Statements.{block_text as block_row_text, else_text as else_row_text, if_text, then_text}
+use Rattle.wgsl_text.proofs.Statements.{block_text as block_row_text, else_text as else_row_text}
+use Rattle.wgsl_text.proofs.Statements.{if_text, then_text}
 use Rattle.wgsl_text.specs.Reading.{expression_layout}
-use Rattle.wgsl_text.specs.Statements.{NoStatements, Statements, else_pieces, statement_pieces, statements_pieces}
+use Rattle.wgsl_text.specs.Statements.{NoStatements, Statements, else_pieces, statement_pieces}
+use Rattle.wgsl_text.specs.Statements.{statements_pieces}
 use Rattle.wgsl_text.specs.Statements as tree
 use Rattle.wgsl_text.specs.Text.{text}
 use Rattle.naga_wgsl_fns.specs.FunctionText.{let_annotation, naming, source}
-use Rattle.naga_wgsl_fns.specs.Statements.{around_text, block_text, braces_text, else_text, line_start, line_text}
-use Rattle.naga_wgsl_fns.specs.Statements.{lines_text, named_behind, statement_text}
+use Rattle.naga_wgsl_fns.specs.Statements.{around_text, block_text, braces_text, else_text}
+use Rattle.naga_wgsl_fns.specs.Statements.{line_start, line_text}
+use Rattle.naga_wgsl_fns.specs.Statements.{lines_text, named_following, statement_text}
 use Rattle.naga_wgsl_fns.specs.declared.functions.FunctionText.{FunctionText}
 use Rattle.naga_wgsl_fns.proofs.StatementRows.{indentation_row, one_line}
 
@@ -60,7 +65,7 @@ if_lines_alone i c a = simp (append_assoc, indentation_row)
 pub if_row : (f : FunctionText) (k : ℕ) (s : Handles) (i c : ℕ) (a r : BlockTree)
     → statement_text f k s i (branch c a r) ≡ joined_texts (around_text f s i (codes "if ") c (codes " {\n"))
     (joined_texts (block_text f k s (suc i) a)
-    (joined_texts (else_text i (has_no_statements r) (block_text f (named_behind f a k) s (suc i) r)) (line_start i (codes "}\n"))))
+    (joined_texts (else_text i (has_no_statements r) (block_text f (named_following f a k) s (suc i) r)) (line_start i (codes "}\n"))))
 unfolding statement_text block_text around_text else_text joined_texts
 if_row f k s i c a r = by r
   where
@@ -68,7 +73,7 @@ if_row f k s i c a r = by r
     accepted = lines_form (naming f) (let_annotation f) (source f) k a s
 
     rejected : BlockTree → Statements
-    rejected r = lines_form (naming f) (let_annotation f) (source f) (named_behind f a k) r s
+    rejected r = lines_form (naming f) (let_annotation f) (source f) (named_following f a k) r s
 
     condition : List ℕ
     condition = expression_layout (value_form (naming f) (source f) s c)

@@ -19,13 +19,13 @@ use Rattle.naga_form.proofs.declarations.OwnExpressions.{initialiser_within}
 use Rattle.naga_info.specs.declared.info.ModuleInfo.{ModuleInfo}
 use Rattle.naga_ir.specs.declared.binding.Binding.TheVariants as binding
 use Rattle.naga_ir.specs.declared.module.Module.{Module}
-use Rattle.naga_scope.specs.Declarations.{IsFormlessDeclaration, IsFormlessHead}
-use Rattle.naga_scope.specs.declared.declarations.FormlessDeclaration.{FormlessDeclaration}
-use Rattle.naga_scope.specs.declared.declarations.FormlessDeclaration.TheVariants as declaration
-use Rattle.naga_scope.specs.declared.declarations.FormlessHead.{FormlessHead}
-use Rattle.naga_scope.specs.declared.declarations.FormlessHead.TheVariants as head
-use Rattle.naga_wgsl_fns.specs.DeclarationRefusals.{NamesDeclaration, NamesFormlessDeclaration}
-use Rattle.naga_wgsl_fns.specs.DeclarationRefusals.{NamesFormlessHead, NamesHead}
+use Rattle.naga_scope.specs.Declarations.{IsUnsupportedDeclaration, IsUnsupportedHead}
+use Rattle.naga_scope.specs.declared.declarations.UnsupportedDeclaration.{UnsupportedDeclaration}
+use Rattle.naga_scope.specs.declared.declarations.UnsupportedDeclaration.TheVariants as declaration
+use Rattle.naga_scope.specs.declared.declarations.UnsupportedHead.{UnsupportedHead}
+use Rattle.naga_scope.specs.declared.declarations.UnsupportedHead.TheVariants as head
+use Rattle.naga_wgsl_fns.specs.DeclarationRefusals.{NamesDeclaration, NamesUnsupportedDeclaration}
+use Rattle.naga_wgsl_fns.specs.DeclarationRefusals.{NamesUnsupportedHead, NamesHead}
 use Rattle.naga_wgsl_fns.specs.DeclarationRefusals.{OfBinding, OfHead, OfInitialiser, OfMember}
 use Rattle.naga_wgsl_fns.specs.DeclarationRefusals.{OfOffsets, OfStage, OfStride, OfType}
 use Rattle.naga_wgsl_fns.specs.declared.refusals.error.Error.{Error}
@@ -74,14 +74,14 @@ module _ (m : Module) (info : ModuleInfo) (accepted : IsTrue (is_accepted m info
       there own g.init h is two.0
 
 -- ---- what is told
-pub named_head : (m : Module) (number : ℕ) (it : FormlessHead) (error : Error) → IsFormlessHead m number it →
-    NamesFormlessHead it error → NamesHead m number error
+pub named_head : (m : Module) (number : ℕ) (it : UnsupportedHead) (error : Error) → IsUnsupportedHead m number it →
+    NamesUnsupportedHead it error → NamesHead m number error
 named_head m number (head.BuiltIn v) error lacks named =
     OfBinding lacks.0 (binding.BuiltIn v) lacks.1 lacks.2 lacks.3 named
 named_head m number head.Stage error lacks named = OfStage lacks.0 lacks.1 lacks.2 named
 
-pub named_declaration : (m : Module) (it : FormlessDeclaration) (error : Error) → IsFormlessDeclaration m it →
-    NamesFormlessDeclaration m it error → NamesDeclaration m error
+pub named_declaration : (m : Module) (it : UnsupportedDeclaration) (error : Error) → IsUnsupportedDeclaration m it →
+    NamesUnsupportedDeclaration m it error → NamesDeclaration m error
 named_declaration m (declaration.Type_ ty) error lacks named = OfType ty lacks.0 lacks.1 named
 named_declaration m (declaration.Initialiser h) error lacks named = OfInitialiser h lacks.0 lacks.1 named
 named_declaration m (declaration.BuiltIn v) error lacks named = OfMember (binding.BuiltIn v) lacks.0 lacks.1 named

@@ -7,13 +7,13 @@ use Rattle.naga_names.specs.Naming.{HasNamed, Names, labels_with_base, name_afte
 use Rattle.module_meaning.specs.ExpressionLabels.{name_of_label}
 use Rattle.module_meaning.specs.Names.{labels_named_in, wgsl_names}
 use Rattle.naga_scope.proofs.ExpressionNames.{counted_none_full}
-use Rattle.naga_scope.specs.ExpressionNames.{HasOtherUses, names_behind}
+use Rattle.naga_scope.specs.ExpressionNames.{HasOtherUses, names_following}
 use Rattle.naga_wgsl_fns.specs.Refusals.{ExpressionNamesAreFullIn}
 
 -- ---- names in a list
 -- the name with a number
 name_at : (start : Names) (earlier labels : List (List ℕ)) (k : ℕ) →
-    get_or (names_behind start earlier labels) k [] ≡ name_of_label start earlier labels k
+    get_or (names_following start earlier labels) k [] ≡ name_of_label start earlier labels k
 name_at start earlier [] k = refl
 name_at start earlier (label ∷ labels) zero =
     ap (λ e. name_after start e label) (sym (append-nil earlier))
@@ -39,7 +39,7 @@ few_named labels namer words has base =
 module _ (m : Module) (handle : ℕ) (earlier : List (List ℕ)) where
   -- those that a namer gave after these labels
   pub named_are : (old : Names) → HasOtherUses wgsl_names old → (names : List (List ℕ)) →
-      names ≡ names_behind old earlier (labels_named_in m handle) → (k : ℕ) →
+      names ≡ names_following old earlier (labels_named_in m handle) → (k : ℕ) →
       get_or names k [] ≡ name_of_label wgsl_names earlier (labels_named_in m handle) k
   named_are old words names is k =
       ap (λ ls. get_or ls k []) is

@@ -1,7 +1,7 @@
 -- The text of an expression by its kind and by where it stands, and from what is written of it in
 -- turn.
 use Rattle.module_meaning.specs.ExpressionForms.{expression_is_written}
-use Rattle.naga_wgsl_fns.proofs.Wanted.{IsNoOther, expression_formed}
+use Rattle.naga_wgsl_fns.proofs.Preconditions.{IsNoOther, expression_formed}
 use Rattle.std.proofs.Common.{◌≡◌, ℕ, zero, suc, ◌<◌, Bool, true, false, List, [], ◌∷◌, length}
 use Rattle.std.proofs.Common.{Option, Some}
 use Rattle.std.proofs.Common.{None, codes, refl, sym, ap, ◌∙◌, arith, get_or}
@@ -91,10 +91,10 @@ use Rattle.naga_wgsl_fns.specs.Expressions.{operands_text, own_form, own_text}
 use Rattle.naga_wgsl_fns.specs.Expressions.{pointed_text, reference_text, value_text}
 use Rattle.naga_wgsl_fns.proofs.PartForms.{part_form, referred_part, valued_part}
 use Rattle.naga_wgsl_fns.proofs.VariableRows.{handle_variable_reference, kept_reference}
-use Rattle.naga_wgsl_fns.proofs.Wanted.{ordered}
+use Rattle.naga_wgsl_fns.proofs.Preconditions.{ordered}
 use Rattle.naga_wgsl_fns.specs.Expressions.{base_of, part_reference_text, part_value_text}
 use Rattle.naga_wgsl_fns.specs.Expressions.{plain_address_text, plain_text, plain_tree}
-use Rattle.naga_form.specs.Expressions.{is_handle_variable, part_plain, points, selected_part}
+use Rattle.naga_form.specs.Expressions.{is_handle_variable, part_plain, is_pointer, selected_part}
 use Rattle.naga_form.specs.Expressions.{variable_plain}
 use Rattle.module_meaning.specs.ExpressionShapes.{part_selector}
 use Rattle.module_meaning.specs.OperatorTable.{PartAt}
@@ -135,11 +135,11 @@ module _ (n : Naming) (code : Source) (before : OperandsStandBefore code.express
       (load_operator code.declared.context p)
   own_same a b h (expression.ZeroValue ty) below same = refl
   own_same a b h (expression.Access base index) below same =
-      λ i. part_plain (points code.declared.context base)
+      λ i. part_plain (is_pointer code.declared.context base)
       (λ e. Index e (as_value (same index below.1.0 i))) (same base below.0 i)
   own_same a b h (expression.AccessIndex base index) below same =
       λ i. option_map_or
-      (λ x. part_plain (points code.declared.context base) (selected_part x) (same base below.0 i))
+      (λ x. part_plain (is_pointer code.declared.context base) (selected_part x) (same base below.0 i))
       (part_selector code.declared base index)
       (applied_same a b h same no_form no_form refl None (base ∷ []) below
       (Some (WithoutForm (PartAt index))) i)
@@ -303,7 +303,7 @@ own_row f table handle can within = by (slice_get (expressions f) handle) refl
         let p = part_form f table can handle within e at base is in
         let same = ap (own_if (naming f) (source f) operand) at in
         ap (λ q. expression_layout (as_value q)) (sym same)
-        ∙ valued_part (points (context f) base) p.part (operand base) (own_form f table handle)
+        ∙ valued_part (is_pointer (context f) base) p.part (operand base) (own_form f table handle)
         (same ∙ p.is)
 
     of_module : (variable : ℕ) (is_handle : Bool) →
@@ -408,7 +408,7 @@ reference_row f table handle can within =
         expression_layout (as_reference (own o)) ≡ part_reference_text f table handle base
     parted mine o at base here =
         let p = part_form f table can handle within o at base here in
-        let b = points (context f) base in
+        let b = is_pointer (context f) base in
         ap (λ o. expression_layout (as_reference (own o))) (sym at)
         ∙ (referred_part b p.part (operand base) (own e) (ap own at ∙ p.is)
         ∙ ap (λ w. if b then expression_layout (plain_tree (own e)) else w) (pointed mine))

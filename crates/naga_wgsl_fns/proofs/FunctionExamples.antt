@@ -20,7 +20,7 @@ use Rattle.naga_info.specs.declared.info.ModuleInfo.{ModuleInfo}
 use Rattle.naga_names.specs.Naming.{Names}
 use Rattle.naga_back.specs.declared.context.FunctionType.TheVariants as item
 use Rattle.naga_back.specs.declared.flags.WriterFlags.{WriterFlags}
-use Rattle.module_meaning.specs.Bindings.{BindsAt}
+use Rattle.module_meaning.specs.FunctionLets.{BindsAt}
 use Rattle.module_meaning.specs.DeclarationForms.{DeclarationsHaveForms, IsInitialiser}
 use Rattle.module_meaning.specs.DeclarationForms.{ItemsHaveForms}
 use Rattle.module_meaning.specs.Faithful.{RunsAt}
@@ -32,13 +32,13 @@ use Rattle.naga_form.specs.Declarations.{program_under}
 use Rattle.naga_back.specs.Flags.{annotates_types}
 use Rattle.naga_wgsl_fns.specs.Items.{AreNamesOfText, FunctionWriting, IsMeantUnder}
 use Rattle.naga_wgsl_fns.specs.Items.{IsWritableFunction}
-use Rattle.naga_wgsl_fns.specs.Items.{named_behind}
+use Rattle.naga_wgsl_fns.specs.Items.{named_following}
 
 -- One program has the texts of all functions, each of which was written by itself after labels of its
 -- own: there are names of which each text's are a part.
 names_of_all : (m : Module) (later : (number : ℕ) → List (List ℕ)) (number : ℕ) →
     AreNamesOfText m (item_labels m ++ later number) number
-    (λ k. named_behind m (item_labels m ++ later k) k)
+    (λ k. named_following m (item_labels m ++ later k) k)
 names_of_all m later number = record { are = names_of_each_are m later; own = refl }
 
 module _ (other : Module) (more : ModuleInfo) (o : Override) (first : Function)

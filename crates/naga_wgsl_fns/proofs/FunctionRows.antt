@@ -260,9 +260,9 @@ locals_step : (f : FunctionText) (handle : ℕ) (local : LocalVariable) (more : 
     (handle + 1) more
 locals_step f handle local more =
     let form = local_form f handle local in
-    let behind = locals_form (naming f) (type_names_of f) (source f) (handle + 1) more in
-    let first = text (locals_pieces behind) in
-    local_row_text form behind
+    let following = locals_form (naming f) (type_names_of f) (source f) (handle + 1) more in
+    let first = text (locals_pieces following) in
+    local_row_text form following
     ∙ (ap (λ t. codes "    var " ++ (form.name ++ (codes ": " ++ t))) (sym (append_assoc (type_layout form.type) (text (value_pieces form.value)) first))
     ∙ (ap (λ t. codes "    var " ++ (form.name ++ (codes ": " ++ (t ++ first)))) (ap (λ t. type_layout form.type ++ t) (sym (append-nil (text (value_pieces form.value)))))
     ∙ (ap (λ t. codes "    var " ++ t) (sym (append_assoc form.name (codes ": " ++ (type_layout form.type ++ (text (value_pieces form.value) ++ []))) first))
@@ -310,13 +310,13 @@ function_row f =
     let form = form_of f in
     let locals = text (locals_pieces form.locals) in
     let end = text (group_end form.locals) in
-    let behind = lines_text 1 form.body ++ codes "}\n" in
+    let following = lines_text 1 form.body ++ codes "}\n" in
     function_row_text form
-    ∙ sym (append_assoc (codes "fn ") (name_of_function f ++ (codes "(" ++ (arguments_text f ++ (result_text f ++ codes " {\n")))) ((locals ++ end) ++ behind)
-    ∙ ap (λ t. codes "fn " ++ t) (append_assoc form.name (codes "(" ++ (arguments_text f ++ (result_text f ++ codes " {\n"))) ((locals ++ end) ++ behind)
-    ∙ ap (λ t. form.name ++ (codes "(" ++ t)) (append_assoc (arguments_text f) (result_text f ++ codes " {\n") ((locals ++ end) ++ behind)
-    ∙ ap (λ t. arguments_text f ++ t) (append_assoc (result_text f) (codes " {\n") ((locals ++ end) ++ behind)
-    ∙ ap (λ t. result_text f ++ (codes " {\n" ++ t)) (append_assoc locals end behind)))))
+    ∙ sym (append_assoc (codes "fn ") (name_of_function f ++ (codes "(" ++ (arguments_text f ++ (result_text f ++ codes " {\n")))) ((locals ++ end) ++ following)
+    ∙ ap (λ t. codes "fn " ++ t) (append_assoc form.name (codes "(" ++ (arguments_text f ++ (result_text f ++ codes " {\n"))) ((locals ++ end) ++ following)
+    ∙ ap (λ t. form.name ++ (codes "(" ++ t)) (append_assoc (arguments_text f) (result_text f ++ codes " {\n") ((locals ++ end) ++ following)
+    ∙ ap (λ t. arguments_text f ++ t) (append_assoc (result_text f) (codes " {\n") ((locals ++ end) ++ following)
+    ∙ ap (λ t. result_text f ++ (codes " {\n" ++ t)) (append_assoc locals end following)))))
 
 -- ---- the stage in front
 pub item_row : (f : FunctionText) →

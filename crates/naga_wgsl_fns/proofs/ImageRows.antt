@@ -11,7 +11,8 @@ use Rattle.module_meaning.specs.ExpressionOperators.{level_of, sample_operator}
 use Rattle.module_meaning.specs.OperatorTable.{Sample, Splat, if_word, run_word}
 use Rattle.module_meaning.specs.OperatorTable.{zero_is_written}
 use Rattle.module_meaning.specs.WrittenOut.{is_written_out, written_out_over, written_out_within}
-use Rattle.naga_form.specs.ConstantForms.{constant_form_over, constant_form_within, no_constant_form}
+use Rattle.naga_form.specs.ConstantForms.{constant_form_over, constant_form_within}
+use Rattle.naga_form.specs.ConstantForms.{no_constant_form}
 use Rattle.naga_form.specs.ConstantForms.{built_form}
 use Rattle.naga_form.specs.Expressions.{as_value, constant_form, own_if, own_plain}
 use Rattle.naga_form.specs.Expressions.{value_forms, zero_is_whole}
@@ -28,7 +29,7 @@ use Rattle.std.specs.Fmt.{digits}
 use Rattle.naga_scope.specs.declared.points.Availability.{Availability}
 use Rattle.naga_words.specs.Output.{joined_texts}
 use Rattle.naga_wgsl_fns.proofs.ExpressionRows.{cell_form}
-use Rattle.naga_wgsl_fns.proofs.Wanted.{all_before}
+use Rattle.naga_wgsl_fns.proofs.Preconditions.{all_before}
 use Rattle.naga_wgsl_fns.specs.Expressions.{form_at, next_operand_text}
 use Rattle.naga_wgsl_fns.specs.Expressions.{own_text, value_text}
 use Rattle.naga_wgsl_fns.specs.FunctionText.{CanWrite, context, expressions, naming, source}
@@ -292,7 +293,7 @@ sampling_row f table handle image sampler gather coordinate array_index offset l
     let offsets = arguments_of (map (constant_form (source f)) (option_to_list offset)) in
     let whole = zero_is_whole (source f) image in
     let last = zero_then (zero_is_written (level_of l) in_word) whole offsets in
-    let behind = a ++ (d ++ (level_operands l ++ [])) in
+    let following = a ++ (d ++ (level_operands l ++ [])) in
     let word = is_some depth_ref in
     let op =
     sample_operator (depths_at f image) gather (level_of l) word clamp (is_some array_index)
@@ -306,13 +307,13 @@ sampling_row f table handle image sampler gather coordinate array_index offset l
     (append_assoc (a ++ d) (level_operands l) [] ∙ append_assoc a d (level_operands l ++ []))
     ∙ (head_then f image gather l word clamp (is_some array_index) (is_some offset)
     (as_value (form image))
-    (operands_then (value_forms form (sampler ∷ coordinate ∷ behind)) last)
+    (operands_then (value_forms form (sampler ∷ coordinate ∷ following)) last)
     ∙ ap
     (λ w. joined_texts (head_text f image gather l (is_some depth_ref) clamp)
     (joined_texts (expression_layout (as_value (form image))) w))
-    (next_then f table sampler (coordinate ∷ behind) last
+    (next_then f table sampler (coordinate ∷ following) last
     ∙ ap (joined_texts (next_operand_text f table false sampler))
-    (next_then f table coordinate behind last
+    (next_then f table coordinate following last
     ∙ ap (joined_texts (next_operand_text f table false coordinate))
     (furthers_then f table a (d ++ (level_operands l ++ [])) last
     ∙ ap (joined_texts (furthers_text f table a))

@@ -8,7 +8,7 @@ pub mod ConversionRows
 pub mod DeclarationRefusals
 pub mod ExpressionNames
 pub mod ExpressionRows
-pub mod FormlessConstants
+pub mod UnsupportedConstants
 pub mod FunctionExamples
 pub mod FunctionRows
 pub mod ImageRows
@@ -36,4 +36,4 @@ pub mod SwitchRows
 pub mod TextHandles
 pub mod TypeRows
 pub mod VariableRows
-pub mod Wanted
+pub mod Preconditions

@@ -34,7 +34,7 @@ use Rattle.naga_form.proofs.statements.AcceptedFunctions.{entry_info_among, entr
 use Rattle.naga_form.proofs.statements.AcceptedFunctions.{functions_counted}
 use Rattle.naga_names.proofs.Refusal.{element}
 use Rattle.naga_wgsl_fns.specs.Functions.{known_of}
-use Rattle.naga_form.proofs.names.ExpressionNames.{apart_there, names_behind_are}
+use Rattle.naga_form.proofs.names.ExpressionNames.{apart_there, names_after_are}
 use Rattle.naga_form.proofs.declarations.Interface.{has_interface_under}
 use Rattle.naga_form.proofs.statements.OneFunction.{binds_at, resolves_at, runs_at}
 use Rattle.naga_form.proofs.statements.WrittenFunctions.{form_at}
@@ -44,7 +44,7 @@ use Rattle.naga_back.specs.declared.flags.WriterFlags.{WriterFlags}
 use Rattle.naga_back.specs.Flags.{annotates_types}
 use Rattle.naga_wgsl_fns.specs.Items.{AnswersShowAllOfItems, AnswersShowFunctions, AnswersShowItems}
 use Rattle.naga_wgsl_fns.specs.Items.{HasNoSpecialTypes, IsMeant, IsMeantUnder, StandsIn}
-use Rattle.naga_wgsl_fns.specs.Items.{named_behind, names_behind}
+use Rattle.naga_wgsl_fns.specs.Items.{named_following, names_following}
 use Rattle.naga_wgsl_fns.specs.Refusals.{IsWritableAt}
 use Rattle.naga_wgsl_fns.proofs.SpelledTypes.{written_is_spellable}
 
@@ -149,7 +149,7 @@ pub is_meant : (flags : WriterFlags) (m : Module) (info : ModuleInfo) → IsTrue
     IsWritableAt (annotates_types flags) m info earlier (function_number m ty) →
     (content now : List ℕ) →
     ((named : LabelNames) →
-    named (function_number m ty) ≡ named_behind m earlier (function_number m ty) →
+    named (function_number m ty) ≡ named_following m earlier (function_number m ty) →
     StandsIn ty content now (program_under named m info flags)) →
     IsMeant flags m info earlier ty content now
 is_meant flags m info accepted ty earlier later is writable content now stands =
@@ -159,9 +159,9 @@ is_meant flags m info accepted ty earlier later is writable content now stands =
           meant_under named flags m info accepted agree.are ty earlier writable content
           now (stands named agree.own);
       some = record {
-        are = subst (λ e. AreLabelNames m (names_behind m e number)) (sym is)
-            (names_behind_are m number later);
-        own = apart_there m number (named_behind m earlier number);
+        are = subst (λ e. AreLabelNames m (names_following m e number)) (sym is)
+            (names_after_are m number later);
+        own = apart_there m number (named_following m earlier number);
       };
     }
 

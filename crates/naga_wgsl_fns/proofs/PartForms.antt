@@ -10,12 +10,12 @@ use Rattle.module_meaning.specs.OperatorTable.{WithoutForm, PartAt}
 use Rattle.module_meaning.specs.ExpressionForms.{expression_is_written}
 use Rattle.naga_form.proofs.operators.AllowedParts.{selected}
 use Rattle.naga_form.specs.Expressions.{PlainForm, as_value, as_reference, applied_plain, no_form}
-use Rattle.naga_form.specs.Expressions.{own_if, part_plain, points, selected_part}
+use Rattle.naga_form.specs.Expressions.{own_if, part_plain, is_pointer, selected_part}
 use Rattle.naga_scope.specs.declared.points.Availability.{Availability}
 use Rattle.naga_wgsl_fns.specs.Expressions.{base_of, form_at, index_text, is_signed, number_text}
 use Rattle.naga_wgsl_fns.specs.Expressions.{part_end, plain_tree, selector_end, selector_text}
 use Rattle.naga_wgsl_fns.specs.Expressions.{value_text, word_text}
-use Rattle.naga_wgsl_fns.proofs.Wanted.{expression_formed}
+use Rattle.naga_wgsl_fns.proofs.Preconditions.{expression_formed}
 use Rattle.naga_wgsl_fns.specs.FunctionText.{CanWrite, IsInText, context, expressions, naming}
 use Rattle.naga_wgsl_fns.specs.FunctionText.{source}
 use Rattle.naga_wgsl_fns.specs.declared.functions.FunctionText.{FunctionText}
@@ -30,7 +30,7 @@ pub record PartForm (f : FunctionText) (table : List Availability) (e : Option i
     (base : ℕ) : Type 0 where
   pub part : tree.Expression → tree.Expression
   pub is : own_if (naming f) (source f) (form_at f table) e ≡
-      part_plain (points (context f) base) part (form_at f table base)
+      part_plain (is_pointer (context f) base) part (form_at f table base)
   pub ends : (b : tree.Expression) →
       expression_layout (part b) ≡
       text (tree.base_pieces b (tree.expression_pieces b)) ++ part_end f table e
@@ -67,7 +67,7 @@ module _ (f : FunctionText) (table : List Availability) (can : CanWrite f) where
         part = selected_part x.0;
         is = ap
             (λ o. option_map_or
-            (λ x. part_plain (points (context f) base) (selected_part x) (form_at f table base)) o
+            (λ x. part_plain (is_pointer (context f) base) (selected_part x) (form_at f table base)) o
             (applied_plain no_form None (form_at f table) (base ∷ []) (Some (WithoutForm (PartAt index)))))
             x.1;
         ends = λ b. selected_ends x.0 b

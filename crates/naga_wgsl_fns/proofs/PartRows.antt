@@ -31,7 +31,7 @@ use Rattle.module_meaning.specs.ExpressionOperators.{query_operator}
 use Rattle.naga_ir.specs.Operands.{cooperative_operands, query_operands}
 use Rattle.naga_wgsl_fns.proofs.PartForms.{part_form, part_unsigned, selected_unsigned}
 use Rattle.naga_wgsl_fns.proofs.PartForms.{tree_of_part}
-use Rattle.naga_form.specs.Expressions.{is_handle_variable, no_form, part_plain, points}
+use Rattle.naga_form.specs.Expressions.{is_handle_variable, no_form, part_plain, is_pointer}
 use Rattle.naga_form.specs.Expressions.{selected_part}
 use Rattle.naga_form.specs.Expressions.{variable_plain}
 use Rattle.module_meaning.specs.ExpressionShapes.{part_selector}
@@ -153,7 +153,7 @@ unfolding plain_text part_base_text part_end_text joined_texts
 plain_row f table handle base can within is =
     let p = part_form f table can handle within (slice_get (expressions f) handle) refl base is in
     ap (λ q. expression_layout (plain_tree q)) p.is
-    ∙ (ap expression_layout (tree_of_part (points (context f) base) p.part (form_at f table base))
+    ∙ (ap expression_layout (tree_of_part (is_pointer (context f) base) p.part (form_at f table base))
     ∙ p.ends (part_base f table base))
 
 pub index_row : (f : FunctionText) (table : List Availability) (index : ℕ)
@@ -211,28 +211,28 @@ selected_end f table handle base e b index here is part =
 
 -- by whether the base points
 pub value_pointed : (f : FunctionText) (table : List Availability) (handle base : ℕ) →
-    points (context f) base ≡ true →
+    is_pointer (context f) base ≡ true →
     plain_address_text f table handle ≡ part_value_text f table handle base
 unfolding part_value_text
 value_pointed f table handle base is =
     sym (ap (λ b. if b then plain_address_text f table handle else plain_text f table handle) is)
 
 pub value_unpointed : (f : FunctionText) (table : List Availability) (handle base : ℕ) →
-    points (context f) base ≡ false →
+    is_pointer (context f) base ≡ false →
     plain_text f table handle ≡ part_value_text f table handle base
 unfolding part_value_text
 value_unpointed f table handle base is =
     sym (ap (λ b. if b then plain_address_text f table handle else plain_text f table handle) is)
 
 pub reference_pointed : (f : FunctionText) (table : List Availability) (handle base : ℕ) →
-    points (context f) base ≡ true →
+    is_pointer (context f) base ≡ true →
     plain_text f table handle ≡ part_reference_text f table handle base
 unfolding part_reference_text
 reference_pointed f table handle base is =
     sym (ap (λ b. if b then plain_text f table handle else pointed_text f table handle) is)
 
 pub reference_unpointed : (f : FunctionText) (table : List Availability) (handle base : ℕ) →
-    points (context f) base ≡ false →
+    is_pointer (context f) base ≡ false →
     pointed_text f table handle ≡ part_reference_text f table handle base
 unfolding part_reference_text
 reference_unpointed f table handle base is =
@@ -282,11 +282,11 @@ module _ (n : Naming) (code : Source) (s : Handles) where
       is_signed
       (as_reference
       (option_map_or
-      (λ x. part_plain (points code.declared.context base) (selected_part x) (operand base)) o
+      (λ x. part_plain (is_pointer code.declared.context base) (selected_part x) (operand base)) o
       (applied_plain no_form None operand (base ∷ []) (Some (WithoutForm (PartAt index)))))) ≡ false
   selected_none operand base index None = refl
   selected_none operand base index (Some x) =
-      (part_unsigned (points code.declared.context base) (selected_part x) (operand base) _
+      (part_unsigned (is_pointer code.declared.context base) (selected_part x) (operand base) _
       (selected_unsigned x) refl).1
 
   own_unsigned : (operand : ℕ → PlainForm) (o : Option ir.Expression) →
@@ -301,7 +301,7 @@ module _ (n : Naming) (code : Source) (s : Handles) where
       (variable_unsigned (code.declared.is_held v) (n.names.outer.global v)).1
   own_unsigned operand (Some (expression.LocalVariable handle)) = refl
   own_unsigned operand (Some (expression.Access base index)) =
-      (part_unsigned (points code.declared.context base)
+      (part_unsigned (is_pointer code.declared.context base)
       (λ e. tree.Index e (as_value (operand index))) (operand base) _ (λ b. refl) refl).1
   own_unsigned operand (Some (expression.AccessIndex base index)) =
       selected_none operand base index (part_selector code.declared base index)
@@ -334,7 +334,7 @@ module _ (n : Naming) (code : Source) (s : Handles) where
 
 -- the base of a part
 pub base_pointed : (f : FunctionText) (table : List Availability) (base : ℕ) →
-    points (context f) base ≡ true →
+    is_pointer (context f) base ≡ true →
     reference_text f table base ≡ part_base_text f table base
 unfolding reference_text part_base_text joined_texts
 base_pointed f table base is =
@@ -352,7 +352,7 @@ base_pointed f table base is =
     ∙ append-nil (expression_layout e))))
 
 pub base_unpointed : (f : FunctionText) (table : List Availability) (base : ℕ) →
-    points (context f) base ≡ false →
+    is_pointer (context f) base ≡ false →
     base_text f table base ≡ part_base_text f table base
 unfolding base_text part_base_text
 base_unpointed f table base is =
@@ -445,7 +445,7 @@ signed_row f table handle can within =
         is_signed (as_value (own_if (naming f) (source f) operand o)) ≡ false
     parted o at base is =
         let p = part_form f table can handle within o at base is in
-        (part_unsigned (points (context f) base) p.part (operand base) _ p.unsigned p.is).0
+        (part_unsigned (is_pointer (context f) base) p.part (operand base) _ p.unsigned p.is).0
 
     own : (o : Option ir.Expression) → slice_get (expressions f) handle ≡ o →
         is_signed (as_value (own_if (naming f) (source f) operand o)) ≡ is_prefix o

@@ -5,7 +5,7 @@ use Rattle.naga_scope.specs.Availabilities.{TextPoint}
 use Rattle.naga_scope.specs.Changes.{block_changes}
 use Rattle.naga_scope.specs.Log.{Same}
 use Rattle.naga_wgsl_fns.specs.Positions.{Passed, PassesBlock}
-use Rattle.naga_wgsl_fns.specs.Statements.{named_behind}
+use Rattle.naga_wgsl_fns.specs.Statements.{named_following}
 use Rattle.naga_wgsl_fns.specs.declared.functions.FunctionText.{FunctionText}
 use Rattle.naga_wgsl_fns.specs.declared.lines.Position.{Position}
 
@@ -22,16 +22,16 @@ nothing_passed f no_statements at none = none_passed at
 nothing_passed f (statement st b) at none = absurd cc
 
 -- one block, and another after it
-pub both_passed : (f : FunctionText) (b d : BlockTree) {before middle after : Position} → Passed before middle (named_behind f b before.scope.named) (block_changes b)
-    → Passed middle after (named_behind f d middle.scope.named) (block_changes d)
-    → Passed before after (named_behind f d (named_behind f b before.scope.named)) (block_changes b + block_changes d)
+pub both_passed : (f : FunctionText) (b d : BlockTree) {before middle after : Position} → Passed before middle (named_following f b before.scope.named) (block_changes b)
+    → Passed middle after (named_following f d middle.scope.named) (block_changes d)
+    → Passed before after (named_following f d (named_following f b before.scope.named)) (block_changes b + block_changes d)
 both_passed f b d {before} {middle} {after} one other =
     let log = one.counted.log in
     let names = one.counted.names in
     let logs = other.counted.log in
     let more = other.counted.names in
     record {
-      named = other.named ∙ ap (named_behind f d) one.named;
+      named = other.named ∙ ap (named_following f d) one.named;
       counted = record { log = omega (arith, log, logs); names = omega (arith, names, more) };
       indent = other.indent ∙ one.indent;
     }

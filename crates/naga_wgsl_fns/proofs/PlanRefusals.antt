@@ -1,9 +1,9 @@
 -- What a plan of a function says, and what is told of one that has none.
 use Rattle.naga_scope.specs.declared.plan.PlanError.TheVariants.{StatementWithoutForm}
 use Rattle.naga_wgsl_fns.specs.Refusals.{NamesStatement}
-use Rattle.naga_scope.specs.declared.statements.FormlessStatement.TheVariants as formless_statement
-use Rattle.naga_scope.specs.declared.statements.FormlessStatement.{FormlessStatement}
-use Rattle.naga_scope.proofs.FormedStatements.{some_formless}
+use Rattle.naga_scope.specs.declared.statements.UnsupportedStatement.TheVariants as unsupported_statement
+use Rattle.naga_scope.specs.declared.statements.UnsupportedStatement.{UnsupportedStatement}
+use Rattle.naga_scope.proofs.FormedStatements.{some_unsupported}
 use Rattle.naga_form.proofs.statements.AcceptedFunctions.{accepted_at, function_there}
 use Rattle.naga_form.proofs.statements.AcceptedFunctions.{names_are_in_range}
 use Rattle.module_meaning.specs.acceptance.Ranges.{names_in_range}
@@ -72,12 +72,12 @@ use Rattle.naga_wgsl_fns.specs.Errors.{IsCustom}
 use Rattle.naga_wgsl_fns.specs.Refusals.{ExpressionNamesAreFullIn, IsErrorOfNames, IsFault}
 use Rattle.naga_wgsl_fns.specs.Refusals.{IsWritableAt}
 use Rattle.naga_wgsl_fns.specs.Refusals.{IsOfPlan, IsPlanRefusal}
-use Rattle.naga_wgsl_fns.specs.Refusals.{HasFormlessIn, NamesConversion, NamesExpression}
-use Rattle.naga_wgsl_fns.specs.Refusals.{NamesFormlessType, NamesPart, NamesType}
+use Rattle.naga_wgsl_fns.specs.Refusals.{HasUnsupportedIn, NamesConversion, NamesExpression}
+use Rattle.naga_wgsl_fns.specs.Refusals.{NamesUnsupportedType, NamesPart, NamesType}
 use Rattle.naga_wgsl_fns.specs.Refusals.{NamesUnspelled}
 use Rattle.module_meaning.specs.ExpressionOperators.{has_parts}
 use Rattle.module_meaning.specs.ExpressionForms.{known_passes}
-use Rattle.naga_wgsl_fns.specs.Refusals.{NamesFormless, NamesLiteral, NamesMatrix, converted}
+use Rattle.naga_wgsl_fns.specs.Refusals.{NamesUnsupported, NamesLiteral, NamesMatrix, converted}
 use Rattle.naga_wgsl_fns.specs.Refusals.{NamesItemsOf, NamesGlobal, OfConstant, OfLiteral}
 use Rattle.naga_wgsl_fns.specs.Refusals.{OfOperand, OfOperation, OfType, pointed_scalar}
 use Rattle.naga_ir.specs.declared.expression.Expression.TheVariants.{Constant, GlobalVariable}
@@ -118,7 +118,7 @@ planned_holds explicit m info earlier i planned plan nameable = record {
 -- ---- functions without one
 -- what is named stands in the function, and has no form
 module _ (m : Module) (info : ModuleInfo) (i : ℕ) (error : Error)
-    (n : NamesFormless m info i error) where
+    (n : NamesUnsupported m info i error) where
   pub named : (x : Expression) × (slice_get n.function.expressions n.expression ≡ Some x)
       × IsFalse (expression_has_form m n.known n.function.expressions x)
       × NamesExpression m n.known n.function.expressions x error
@@ -138,21 +138,21 @@ module _ (m : Module) (info : ModuleInfo) (i : ℕ) (error : Error)
       IsWritableAt explicit m info earlier i → ⊥
   expression_fails explicit earlier w =
       let formed = (w.formed n.function n.known n.stands n.is_known).expressions n.expression named.0 named.1 n.written in
-      let formless = named.2 in
+      let unsupported = named.2 in
       absurd cc
 
 -- so does a type that is spelled
 module _ (explicit : Bool) (m : Module) (info : ModuleInfo) (i : ℕ) (error : Error) where
-  pub formless_fails : HasFormlessIn explicit m info i error → (earlier : List (List ℕ)) →
+  pub unsupported_fails : HasUnsupportedIn explicit m info i error → (earlier : List (List ℕ)) →
       IsWritableAt explicit m info earlier i → ⊥
-  formless_fails (inl n) earlier w = expression_fails m info i error n explicit earlier w
-  formless_fails (inr (inl n)) earlier w =
+  unsupported_fails (inl n) earlier w = expression_fails m info i error n explicit earlier w
+  unsupported_fails (inr (inl n)) earlier w =
       let formed = (w.formed n.function n.known n.stands n.is_known).types n.type n.spelled in
-      let formless = n.formless in
+      let unsupported = n.unsupported in
       absurd cc
-  formless_fails (inr (inr n)) earlier w =
+  unsupported_fails (inr (inr n)) earlier w =
       let formed = (w.formed n.function n.known n.stands n.is_known).statements in
-      let formless = some_formless n.function.body n.statement n.formless in
+      let unsupported = some_unsupported n.function.body n.statement n.unsupported in
       absurd cc
 
 -- a function that breaks a rule of scope
@@ -166,8 +166,8 @@ pub fault_fails : (explicit : Bool) (m : Module) (info : ModuleInfo) (earlier : 
     IsWritableAt explicit m info earlier i → ⊥
 fault_fails explicit m info earlier i error (inl scope) w =
     scope_fails (function_shape_at m info i) scope.1 w.in_scope
-fault_fails explicit m info earlier i error (inr (inl formless)) w =
-    formless_fails explicit m info i error formless earlier w
+fault_fails explicit m info earlier i error (inr (inl unsupported)) w =
+    unsupported_fails explicit m info i error unsupported earlier w
 fault_fails explicit m info earlier i error (inr (inr full)) w = w.nameable full.1
 
 -- ---- what is told of a plan's error
@@ -182,11 +182,11 @@ no_type_sink m r reason is = by (names_undeclared m r) (lacking_scalar m.types r
     by false None is = is
 
 -- nor one that names a statement
-no_statement_sink : (statement : FormlessStatement) (reason : SinkError) → NamesStatement statement (FmtError reason) → ⊥
-no_statement_sink formless_statement.RayQuery reason is = is
-no_statement_sink formless_statement.SubgroupOperation reason is = is
-no_statement_sink formless_statement.FallThrough reason is = is
-no_statement_sink formless_statement.ImageCompareExchange reason is = is
+no_statement_sink : (statement : UnsupportedStatement) (reason : SinkError) → NamesStatement statement (FmtError reason) → ⊥
+no_statement_sink unsupported_statement.RayQuery reason is = is
+no_statement_sink unsupported_statement.SubgroupOperation reason is = is
+no_statement_sink unsupported_statement.FallThrough reason is = is
+no_statement_sink unsupported_statement.ImageCompareExchange reason is = is
 
 -- nor one that names a literal, or one of the module's own expressions
 no_literal_sink : (value : LiteralValue) (reason : SinkError) → NamesLiteral value (FmtError reason) → ⊥
@@ -201,8 +201,8 @@ no_literal_sink (literal.AbstractFloat bits) reason named = named
 no_literal_sink _ reason named = named
 
 pub no_global_sink : (m : Module) (reason : SinkError) (h : ℕ) → NamesGlobal m (FmtError reason) h → ⊥
-no_global_sink m reason h (OfLiteral _ value at formless named) = no_literal_sink value reason named
-no_global_sink m reason h (OfType _ ty e at is all formless named) =
+no_global_sink m reason h (OfLiteral _ value at unsupported named) = no_literal_sink value reason named
+no_global_sink m reason h (OfType _ ty e at is all unsupported named) =
     no_type_sink m (Handle ty) reason named
 no_global_sink m reason h (OfOperation _ e at is named) = named
 no_global_sink m reason h (OfOperand _ x e at made first inside) = no_global_sink m reason x inside
@@ -211,15 +211,15 @@ no_global_sink m reason h (OfConstant _ c k at there unnamed inside) = no_global
 -- nor is one of those of what a function takes and gives, and of its stage,
 pub head_is_no_sink : (m : Module) (number : ℕ) (reason : SinkError) →
     NamesHead m number (FmtError reason) → ⊥
-head_is_no_sink m number reason (OfBinding f b at is formless named) = named
-head_is_no_sink m number reason (OfStage p at formless named) = named
+head_is_no_sink m number reason (OfBinding f b at is unsupported named) = named
+head_is_no_sink m number reason (OfStage p at unsupported named) = named
 
 -- and of those of a declaration
 pub declaration_is_no_sink : (m : Module) (reason : SinkError) → NamesDeclaration m (FmtError reason) → ⊥
-declaration_is_no_sink m reason (OfDeclaredType ty is formless named) =
+declaration_is_no_sink m reason (OfDeclaredType ty is unsupported named) =
     no_type_sink m (Handle ty) reason named
-declaration_is_no_sink m reason (OfInitialiser h is formless named) = no_global_sink m reason h named
-declaration_is_no_sink m reason (OfMember b is formless named) = named
+declaration_is_no_sink m reason (OfInitialiser h is unsupported named) = no_global_sink m reason h named
+declaration_is_no_sink m reason (OfMember b is unsupported named) = named
 declaration_is_no_sink m reason (OfHead number named) = head_is_no_sink m number reason named
 declaration_is_no_sink m reason (OfOffsets h OffAlignment is named) = named
 declaration_is_no_sink m reason (OfOffsets h Overlapping is named) = named
@@ -321,7 +321,7 @@ module _ (explicit : Bool) (m : Module) (info : ModuleInfo) (accepted : IsTrue (
     for_scope (Memory e) is fault = tt
     for_scope _ is fault = absurd is
 
-    for_form : (reported : Error) → HasFormlessIn explicit m info i reported → IsPlanRefusal explicit m info earlier i reported
+    for_form : (reported : Error) → HasUnsupportedIn explicit m info i reported → IsPlanRefusal explicit m info earlier i reported
     for_form (FmtError reason) (inl n) =
         let at = named m info i (FmtError reason) n in
         absurd (names_no_sink m n.known n.function.expressions at.0 reason at.3)
@@ -376,15 +376,15 @@ module _ (explicit : Bool) (m : Module) (info : ModuleInfo) (accepted : IsTrue (
     type_named : (es : List ExpressionInfo) → slice_get (all_infos info) i ≡ Some es →
         (reported : Error) (r : TypeResolution) → IsSpelledIn explicit m info f es r →
         IsFalse (is_spellable m r) → NamesType m r reported →
-        NamesFormlessType explicit m info i reported
-    type_named es at reported r spelled formless is = record {
+        NamesUnsupportedType explicit m info i reported
+    type_named es at reported r spelled unsupported is = record {
       function = f;
       known = es;
       stands = stands;
       is_known = at;
       type = r;
       spelled = spelled;
-      formless = formless;
+      unsupported = unsupported;
       named = is;
     }
 
@@ -404,7 +404,7 @@ module _ (explicit : Bool) (m : Module) (info : ModuleInfo) (accepted : IsTrue (
           stands = stands;
           is_known = at;
           statement = statement;
-          formless = (refusal f es stands at).0;
+          unsupported = (refusal f es stands at).0;
           named = is;
         })))
     plan_refusal es at namer words has (WithoutForm h) reported refusal is =

@@ -8,7 +8,7 @@ use Rattle.module_meaning.specs.DeclarationForms.{binding_has_form}
 use Rattle.module_meaning.specs.StageBindings.{binding_meant}
 use Rattle.naga_form.proofs.declarations.Attributes.{passing_read}
 use Rattle.naga_form.specs.Attributes.{binding_attributes}
-use Rattle.naga_words.specs.Sink.{IsBehind}
+use Rattle.naga_words.specs.Sink.{IsAfter}
 use Rattle.naga_wgsl_fns.specs.Attributes.{binding_text}
 use Rattle.naga_wgsl_fns.specs.Bindings.{BindingWriting}
 use Rattle.naga_wgsl_fns.specs.DeclarationRefusals.{NamesBuiltin}
@@ -26,7 +26,7 @@ binding_means (Location location i s source per_primitive) formed =
 module _ (b : Binding) (content : List ℕ) (before : ℕ) where
   pub binding_writes : (now : List ℕ) (after : ℕ) (r : Result Unit Error) →
       IsTrue (binding_has_form b) → OnOk r (now ≡ content ++ binding_text b) →
-      OnErr r (IsBehind content (binding_text b) now) → OnOk r (after ≡ before) →
+      OnErr r (IsAfter content (binding_text b) now) → OnOk r (after ≡ before) →
       IfErr r (IsWant before after) → BindingWriting b r content now before after
   binding_writes now after (Ok _) formed text_ok text_err kept reason = record {
     formed = formed;
@@ -47,14 +47,14 @@ module _ (b : Binding) (content : List ℕ) (before : ℕ) where
 
   pub binding_refused : (e : Error) → IsFalse (binding_has_form b) → NamesBuiltin e →
       BindingWriting b (Err e) content content before before
-  binding_refused e formless named = record {
+  binding_refused e unsupported named = record {
     formed = tt;
     text_ok = tt;
     meaning = tt;
     failures_ok = tt;
     text_err = ([], binding_text b, refl, sym (append-nil content));
     reason = inr (record {
-      formless = formless;
+      unsupported = unsupported;
       named = named;
       untouched = refl;
       kept = refl;

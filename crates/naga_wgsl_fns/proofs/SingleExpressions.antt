@@ -12,7 +12,7 @@ use Rattle.naga_form.proofs.declarations.GlobalValues.{has_value_of}
 use Rattle.naga_form.specs.ConstantForms.{global_form}
 use Rattle.naga_form.specs.Declarations.{program_under}
 use Rattle.naga_form.specs.GlobalValues.{HasValueOf}
-use Rattle.naga_words.specs.Sink.{IsBehind}
+use Rattle.naga_words.specs.Sink.{IsAfter}
 use Rattle.wgsl_text.specs.Reading.{HasOneReading, ReadsExpression}
 use Rattle.wgsl_text.specs.Text.{tokens}
 use Rattle.wgsl_text.proofs.Reading.{expression_has_one_reading}
@@ -44,9 +44,9 @@ module _ (m : Module) (handle : ℕ) where
 
     pub global_for_form : (error : Error) → IsFalse (global_is_written m handle) →
         NamesGlobal m error handle → IsGlobalRefusal m handle before before error
-    global_for_form (FmtError e) formless named = absurd (no_global_sink m e handle named)
-    global_for_form (Memory e) formless named = tt
-    global_for_form _ formless named = (formless, named)
+    global_for_form (FmtError e) unsupported named = absurd (no_global_sink m e handle named)
+    global_for_form (Memory e) unsupported named = tt
+    global_for_form _ unsupported named = (unsupported, named)
 
   global_for_want : (before after : ℕ) (error : Error) → IsWant before after error →
       IsGlobalRefusal m handle before after error
@@ -66,9 +66,9 @@ module _ (m : Module) (handle : ℕ) where
     -- and that has the value
     has_the_value : (content now : List ℕ) → now ≡ content ++ global_text m handle →
         AppendsTheValue m handle content now
-    has_the_value content now appended known is flags named text behind expression reads =
+    has_the_value content now appended known is flags named text following expression reads =
         let same =
-        append_cancel_left content text (global_text m handle) (sym behind ∙ appended) in
+        append_cancel_left content text (global_text m handle) (sym following ∙ appended) in
         let only =
         one_expression.only expression
         (subst (λ t. ReadsExpression (tokens t) expression) same reads) in
@@ -77,7 +77,7 @@ module _ (m : Module) (handle : ℕ) where
 
     pub global_writes : (r : Result Unit Error) (content now : List ℕ) (before after : ℕ) →
         OnOk r (now ≡ content ++ global_text m handle) →
-        OnErr r (IsBehind content (global_text m handle) now) →
+        OnErr r (IsAfter content (global_text m handle) now) →
         OnOk r (after ≡ before) → IfErr r (IsWant before after) →
         GlobalWriting m handle r content now before after
     global_writes (Ok _) content now before after text_ok text_err kept reason = record {

@@ -35,7 +35,7 @@ use Rattle.naga_back.specs.declared.context.FunctionType.{FunctionType}
 use Rattle.naga_back.specs.declared.context.FunctionType.TheVariants as item
 use Rattle.naga_scope.specs.ExpressionNames.{HasNamedSome, HasOtherUses, NamesLabels}
 use Rattle.naga_scope.specs.Plans.{IsPlanOf, Planned}
-use Rattle.naga_words.specs.Sink.{IsBehind}
+use Rattle.naga_words.specs.Sink.{IsAfter}
 use Rattle.wgsl_text.specs.Attributes.{attributes_pieces}
 use Rattle.wgsl_text.specs.Functions.{EntryPoint, Function, IsFunction, function_pieces}
 use Rattle.wgsl_text.specs.Reading.{HasOneReading, ReadsEntryPoint, ReadsFunction}
@@ -51,7 +51,7 @@ use Rattle.naga_wgsl_fns.specs.Errors.{IsWant}
 use Rattle.naga_back.specs.Flags.{annotates_types}
 use Rattle.naga_wgsl_fns.specs.Functions.{known_of, names_of, stage_before, text_of, text_under}
 use Rattle.naga_wgsl_fns.specs.Items.{AppendsOne, FunctionWriting, IsFunctionRefusal}
-use Rattle.naga_wgsl_fns.specs.Items.{HasNamedItemsOf, StandsIn, named_behind, text_behind}
+use Rattle.naga_wgsl_fns.specs.Items.{HasNamedItemsOf, StandsIn, named_following, text_after}
 use Rattle.naga_wgsl_fns.specs.Refusals.{IsPlanRefusal, IsWritableAt, TellsOfModule}
 use Rattle.naga_wgsl_fns.specs.Stages.{stage_text}
 use Rattle.naga_wgsl_fns.specs.declared.refusals.error.Error.{Error}
@@ -107,30 +107,30 @@ point_layout m p form =
     ∙ sym (append_assoc (text attributes) (codes "\n") (function_layout form))
 
 -- what stands after the same text is the same
-pub same_behind : (content a b : List ℕ) → content ++ a ≡ content ++ b → a ≡ b
-same_behind [] a b e = e
-same_behind (x ∷ content) a b e = same_behind content a b (ap (drop 1) e)
+pub same_following : (content a b : List ℕ) → content ++ a ≡ content ++ b → a ≡ b
+same_following [] a b e = e
+same_following (x ∷ content) a b e = same_following content a b (ap (drop 1) e)
 
 -- ---- what is read of its text
 module _ (m : Module) (info : ModuleInfo) (flags : WriterFlags) (earlier : List (List ℕ))
     (accepted : IsTrue (is_accepted m info)) where
   abbrev form_at : (number : ℕ) → ir_function.Function → Function
   form_at number f =
-      function_form flags (module_names m) (named_behind m earlier number) m info number f
+      function_form flags (module_names m) (named_following m earlier number) m info number f
       (known_of info number)
 
   text_at : (number : ℕ) (f : ir_function.Function) → slice_get (all_functions m) number ≡ Some f →
-      text_behind m info flags earlier number ≡
+      text_after m info flags earlier number ≡
       stage_before m number ++ function_layout (form_at number f)
   text_at number f stands =
       ap
       (λ o. option_map_or
-      (λ f. text_of m info flags (named_behind m earlier number) number f (known_of info number)) o [])
+      (λ f. text_of m info flags (named_following m earlier number) number f (known_of info number)) o [])
       stands
 
   function_text_is : (h : ℕ) (f : ir_function.Function) → h < length m.functions →
       slice_get (all_functions m) h ≡ Some f →
-      text_behind m info flags earlier h ≡ function_layout (form_at h f)
+      text_after m info flags earlier h ≡ function_layout (form_at h f)
   function_text_is h f lt stands =
       text_at h f stands
       ∙ ap (λ o. option_map_or (stage_text m) o [] ++ function_layout (form_at h f)) (no_entry_point m h lt)
@@ -143,7 +143,7 @@ module _ (m : Module) (info : ModuleInfo) (flags : WriterFlags) (earlier : List 
 
   point_text_is : (j : ℕ) (p : ir_entry_point.EntryPoint) →
       slice_get m.entry_points.items j ≡ Some p →
-      text_behind m info flags earlier (length m.functions + j) ≡ entry_point_layout (point_at j p)
+      text_after m info flags earlier (length m.functions + j) ≡ entry_point_layout (point_at j p)
   point_text_is j p at =
       let form = form_at (length m.functions + j) p.function in
       text_at (length m.functions + j) p.function (entry_point_among m j p at)
@@ -159,7 +159,7 @@ module _ (m : Module) (info : ModuleInfo) (flags : WriterFlags) (earlier : List 
 
   function_reading : (h : ℕ) → IsWellFormed (item.Function h) → (f : ir_function.Function) →
       h < length m.functions → slice_get (all_functions m) h ≡ Some f →
-      HasOneReading ReadsFunction (text_behind m info flags earlier h) (form_at h f)
+      HasOneReading ReadsFunction (text_after m info flags earlier h) (form_at h f)
   function_reading h is f lt stands =
       subst (λ t. HasOneReading ReadsFunction t (form_at h f)) (sym (function_text_is h f lt stands))
       (function_has_one_reading (form_at h f) (is f stands))
@@ -167,7 +167,7 @@ module _ (m : Module) (info : ModuleInfo) (flags : WriterFlags) (earlier : List 
   point_reading : (j : ℕ) → IsWellFormed (item.EntryPoint j) →
       HeadHasForm m (length m.functions + j) → (p : ir_entry_point.EntryPoint) →
       slice_get m.entry_points.items j ≡ Some p →
-      HasOneReading ReadsEntryPoint (text_behind m info flags earlier (length m.functions + j))
+      HasOneReading ReadsEntryPoint (text_after m info flags earlier (length m.functions + j))
       (point_at j p)
   point_reading j is head p at =
       let stage =
@@ -182,12 +182,12 @@ module _ (m : Module) (info : ModuleInfo) (flags : WriterFlags) (earlier : List 
   -- one reading, as what it is
   reads_one : (ty : FunctionType) → IsFunctionOf ty m → HeadHasForm m (function_number m ty) →
       IsWellFormed ty → (content now : List ℕ) →
-      now ≡ content ++ text_behind m info flags earlier (function_number m ty) →
+      now ≡ content ++ text_after m info flags earlier (function_number m ty) →
       AppendsOne ty content now
   reads_one (item.Function h) lt head is content now appended =
       let f = element m.functions h lt in
       record {
-        text = text_behind m info flags earlier h;
+        text = text_after m info flags earlier h;
         appended = appended;
         function = form_at h f.0;
         reading = function_reading h is f.0 lt (function_among m h f.0 f.1);
@@ -195,7 +195,7 @@ module _ (m : Module) (info : ModuleInfo) (flags : WriterFlags) (earlier : List 
   reads_one (item.EntryPoint j) lt head is content now appended =
       let p = element m.entry_points.items j (point_within m j lt) in
       record {
-        text = text_behind m info flags earlier (length m.functions + j);
+        text = text_after m info flags earlier (length m.functions + j);
         appended = appended;
         entry_point = point_at j p.0;
         reading = point_reading j is head p.0 p.1;
@@ -204,14 +204,14 @@ module _ (m : Module) (info : ModuleInfo) (flags : WriterFlags) (earlier : List 
   -- and it is that of the program, where its labels have these names there
   stands_in : (ty : FunctionType) → IsFunctionOf ty m → HeadHasForm m (function_number m ty) →
       IsWellFormed ty → (content now : List ℕ) →
-      now ≡ content ++ text_behind m info flags earlier (function_number m ty) →
+      now ≡ content ++ text_after m info flags earlier (function_number m ty) →
       (named : LabelNames) →
-      named (function_number m ty) ≡ named_behind m earlier (function_number m ty) →
+      named (function_number m ty) ≡ named_following m earlier (function_number m ty) →
       StandsIn ty content now (program_under named m info flags)
-  stands_in (item.Function h) lt head is content now appended named agree = λ text behind function reads.
+  stands_in (item.Function h) lt head is content now appended named agree = λ text following function reads.
       let f = element m.functions h lt in
       let stands = function_among m h f.0 f.1 in
-      let same = same_behind content text (text_behind m info flags earlier h) (sym behind ∙ appended) in
+      let same = same_following content text (text_after m info flags earlier h) (sym following ∙ appended) in
       let only =
       (function_reading h is f.0 lt stands).only function
       (subst (λ t. ReadsFunction (tokens t) function) same reads) in
@@ -219,10 +219,10 @@ module _ (m : Module) (info : ModuleInfo) (flags : WriterFlags) (earlier : List 
       ∙ ap (λ own. Some (function_form flags (module_names m) own m info h f.0 (known_of info h)))
       agree
       ∙ ap Some (sym only)
-  stands_in (item.EntryPoint j) lt head is content now appended named agree = λ text behind point reads.
+  stands_in (item.EntryPoint j) lt head is content now appended named agree = λ text following point reads.
       let p = element m.entry_points.items j (point_within m j lt) in
       let number = length m.functions + j in
-      let same = same_behind content text (text_behind m info flags earlier number) (sym behind ∙ appended) in
+      let same = same_following content text (text_after m info flags earlier number) (sym following ∙ appended) in
       let only =
       (point_reading j is head p.0 p.1).only point
       (subst (λ t. ReadsEntryPoint (tokens t) point) same reads) in
@@ -247,7 +247,7 @@ module _ (m : Module) (info : ModuleInfo) (flags : WriterFlags) (earlier : List 
   labels = labels_named_in m g
 
   abbrev whole : List ℕ
-  whole = text_behind m info flags earlier g
+  whole = text_after m info flags earlier g
 
   -- ---- in front of the text
   -- no label was named
@@ -302,7 +302,7 @@ module _ (m : Module) (info : ModuleInfo) (flags : WriterFlags) (earlier : List 
   for_want before after _ is = absurd is
 
   identifiers : (f : ir_function.Function) → slice_get (all_functions m) g ≡ Some f → (k : ℕ) →
-      k < length (expression_labels f) → IsIdentifier (named_behind m earlier g k)
+      k < length (expression_labels f) → IsIdentifier (named_following m earlier g k)
   identifiers f stands k lt =
       let label = element (expression_labels f) k lt in
       let same = ap (λ o. name_of_label wgsl_names earlier (option_map_or expression_labels o []) k) stands in
@@ -327,10 +327,10 @@ module _ (m : Module) (info : ModuleInfo) (flags : WriterFlags) (earlier : List 
         let here = plan f known.0 stands known.1 in
         let same : known_of info g ≡ known.0 = ap (λ o. unwrap_or o []) known.1 in
         subst
-        (λ es. IsFunction (function_form flags (module_names m) (named_behind m earlier g) m info
+        (λ es. IsFunction (function_form flags (module_names m) (named_following m earlier g) m info
         g f es))
         (sym same)
-        (one_is flags m info accepted (named_behind m earlier g) g f stands known.0
+        (one_is flags m info accepted (named_following m earlier g) g f stands known.0
         known.1 (identifiers f stands) here.formed (leb-true (length f.expressions) (2 ^ 64) here.counted))
 
     -- the names of the plan are those after the earlier labels
@@ -351,7 +351,7 @@ module _ (m : Module) (info : ModuleInfo) (flags : WriterFlags) (earlier : List 
 
     pub writes : (r : Result Unit Error) (content now : List ℕ) (before after : ℕ) →
         OnOk r (now ≡ content ++ text_under m info flags (names_of planned) g) →
-        OnErr r (IsBehind content (text_under m info flags (names_of planned) g) now) →
+        OnErr r (IsAfter content (text_under m info flags (names_of planned) g) now) →
         OnOk r (after ≡ before) → IfErr r (IsWant before after) →
         FunctionWriting m info flags earlier ty r new content now before after
     writes (Ok _) content now before after text_ok text_err kept reason =
@@ -375,7 +375,7 @@ module _ (m : Module) (info : ModuleInfo) (flags : WriterFlags) (earlier : List 
       reading = tt;
       meaning = tt;
       failures_ok = tt;
-      text_err = subst (λ t. IsBehind content t now) text_same text_err;
+      text_err = subst (λ t. IsAfter content t now) text_same text_err;
       untouched = λ tells. absurd (want_tells_nothing before after e reason tells);
       named_ok = tt;
       named_err = all_named new new_named;

@@ -13,7 +13,7 @@ use Rattle.shader_runs.proofs.Update.{and_both}
 use Rattle.std.specs.Prelude.{◌&&◌, ◌||◌, nat_lt, not}
 use Rattle.std.specs.Option.{option_to_list}
 use Rattle.std.proofs.lemmas.Bool.{and_parts}
-use Rattle.module_meaning.specs.acceptance.Numbers.{label_fits_32_bits}
+use Rattle.module_meaning.specs.acceptance.Numbers.{case_value_fits_32_bits}
 use Rattle.module_meaning.specs.acceptance.Ranges.{block_in_range, cases_in_range, is_below}
 use Rattle.module_meaning.specs.acceptance.Ranges.{statement_in_range}
 use Rattle.module_meaning.specs.StatementForms.{block_has_forms, cases_have_forms}
@@ -133,7 +133,7 @@ module _ (f : FunctionText) (v : SwitchValue) (b : BlockTree) (falls : Bool) (cs
   ranges : IsTrue (block_in_range (callees f) (count f) b) × IsTrue (cases_in_range (callees f) (count f) cs)
   ranges =
       and_parts (block_in_range (callees f) (count f) b) (cases_in_range (callees f) (count f) cs)
-      (and_parts (label_fits_32_bits v) (block_in_range (callees f) (count f) b && cases_in_range (callees f) (count f) cs) w.in_range).1
+      (and_parts (case_value_fits_32_bits v) (block_in_range (callees f) (count f) b && cases_in_range (callees f) (count f) cs) w.in_range).1
 
   forms : IsTrue (not falls || has_no_statements b) × IsTrue (block_has_forms b && cases_have_forms cs)
   forms = and_parts (not falls || has_no_statements b) (block_has_forms b && cases_have_forms cs) w.formed
@@ -196,9 +196,9 @@ before f (statement st b) w = by (holds_continue st) (before f b (rest_inside f 
     by true more = nothing_inside f
     by false more = together f st (before_continue b) (first_inside f st b w) more
 
-behind : (f : FunctionText) (b : BlockTree) → CanWriteBlock f b → CanWriteBlock f (from_continue b)
-behind f no_statements w = w
-behind f (statement st b) w = by (holds_continue st) (behind f b (rest_inside f st b w))
+following : (f : FunctionText) (b : BlockTree) → CanWriteBlock f b → CanWriteBlock f (from_continue b)
+following f no_statements w = w
+following f (statement st b) w = by (holds_continue st) (following f b (rest_inside f st b w))
   where
     by : (holds : Bool) → CanWriteBlock f (from_continue b) → CanWriteBlock f (cond holds (statement st b) (from_continue b))
     by true more = w
@@ -208,7 +208,7 @@ pub front_inside : (f : FunctionText) (b front : BlockTree) → front ≡ before
 front_inside f b front is w = subst (CanWriteBlock f) (sym is) (before f b w)
 
 pub back_inside : (f : FunctionText) (b back : BlockTree) → back ≡ from_continue b → CanWriteBlock f b → CanWriteBlock f back
-back_inside f b back is w = subst (CanWriteBlock f) (sym is) (behind f b w)
+back_inside f b back is w = subst (CanWriteBlock f) (sym is) (following f b w)
 
 pub ruleset turns = (body_inside, continuing_inside, break_if_inside)
 

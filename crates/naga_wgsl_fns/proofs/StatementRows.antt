@@ -57,8 +57,8 @@ use Rattle.naga_wgsl_fns.specs.Statements.{after_statement, around_text, assignm
 use Rattle.naga_wgsl_fns.specs.Statements.{block_text}
 use Rattle.naga_wgsl_fns.specs.Statements.{emitted_text, let_line, let_text, lets_text}
 use Rattle.naga_wgsl_fns.specs.Statements.{left_to_continuing}
-use Rattle.naga_wgsl_fns.specs.Statements.{line_start, line_text, lines_text, named_behind}
-use Rattle.naga_wgsl_fns.specs.Statements.{named_behind_statement}
+use Rattle.naga_wgsl_fns.specs.Statements.{line_start, line_text, lines_text, named_following}
+use Rattle.naga_wgsl_fns.specs.Statements.{named_after_statement}
 use Rattle.naga_wgsl_fns.specs.Statements.{act_text, act_word, is_act, statement_text, word_in}
 use Rattle.naga_wgsl_fns.specs.Types.{let_annotation_text, annotation_if}
 
@@ -220,7 +220,7 @@ shape_named : (f : FunctionText) (k : ℕ) (shape : shapes.Statement) → IsTrue
 shape_named f k (shapes.Act action xs outcome) act = refl
 shape_named f k _ act = absurd cc
 
-pub act_named : (f : FunctionText) (k : ℕ) (st : StatementTree) → IsTrue (is_act st) → named_behind_statement f st k ≡ k
+pub act_named : (f : FunctionText) (k : ℕ) (st : StatementTree) → IsTrue (is_act st) → named_after_statement f st k ≡ k
 act_named f k st act = shape_named f k (statement_shape (context f) st) (asks (context f) st act).acts
 
 pub act_changes : (st : StatementTree) → IsTrue (is_act st) → statement_changes st ≡ length (option_to_list (own_result st))
@@ -260,19 +260,19 @@ module _ (f : FunctionText) where
   lets_then k [] s rest i = refl
   lets_then k (h ∷ hs) s rest i = by (binds (naming f).function h) (lets_then (named_after (naming f).function h k) hs (after_one (naming f) k h s) rest i)
     where
-      behind : Statements → Statements
-      behind rest = lets_at (named_after (naming f).function h k) hs (after_one (naming f) k h s) rest
+      following : Statements → Statements
+      following rest = lets_at (named_after (naming f).function h k) hs (after_one (naming f) k h s) rest
 
       line : tree.Statement
       line = let_line f k s h
 
-      by : (b : Bool) → lines_text i (behind rest) ≡ lines_text i (behind NoStatements) ++ lines_text i rest
-          → lines_text i (then_if b line (behind rest)) ≡ lines_text i (then_if b line (behind NoStatements)) ++ lines_text i rest
+      by : (b : Bool) → lines_text i (following rest) ≡ lines_text i (following NoStatements) ++ lines_text i rest
+          → lines_text i (then_if b line (following rest)) ≡ lines_text i (then_if b line (following NoStatements)) ++ lines_text i rest
       by true more =
-          then_text line (behind rest) i
+          then_text line (following rest) i
           ∙ (ap (λ t. line_text i line ++ t) more
-          ∙ (sym (append_assoc (line_text i line) (lines_text i (behind NoStatements)) (lines_text i rest))
-          ∙ ap (λ t. t ++ lines_text i rest) (sym (then_text line (behind NoStatements) i))))
+          ∙ (sym (append_assoc (line_text i line) (lines_text i (following NoStatements)) (lines_text i rest))
+          ∙ ap (λ t. t ++ lines_text i rest) (sym (then_text line (following NoStatements) i))))
       by false more = more
 
   pub emit_row : (k : ℕ) (s : Handles) (i first last : ℕ) → lets_text f k s i (from first (last - first)) ≡ statement_text f k s i (simple (emit first last))
@@ -284,9 +284,9 @@ module _ (f : FunctionText) where
       → k1 ≡ named_after (naming f).function handle k → s1 ≡ after_one (naming f) k handle s
       → lets_text f k s i (from index (last - index)) ≡ joined_texts (emitted_text f k s i handle) (lets_text f k1 s1 i (from (index + 1) (last - (index + 1))))
   unfolding lets_text emitted_text let_text joined_texts
-  lets_more k k1 s s1 i index last handle lt here given behind =
+  lets_more k k1 s s1 i index last handle lt here given following =
       ap (λ hs. lets k hs s) (range_more index last lt ∙ ap (λ (h : ℕ). h ∷ rest) (sym here))
-      ∙ (by (binds (naming f).function handle) ∙ (λ j. emitted_text f k s i handle ++ lets (sym given j) rest (sym behind j)))
+      ∙ (by (binds (naming f).function handle) ∙ (λ j. emitted_text f k s i handle ++ lets (sym given j) rest (sym following j)))
     where
       rest : List ℕ
       rest = from (index + 1) (last - (index + 1))
@@ -309,10 +309,10 @@ module _ (f : FunctionText) where
   pub emitted_after : (k k1 : ℕ) (s s1 : Handles) (index last handle : ℕ) → index < last → handle ≡ index
       → k1 ≡ named_after (naming f).function handle k → s1 ≡ after_one (naming f) k handle s
       → after_emit (naming f) k (from index (last - index)) s ≡ after_emit (naming f) k1 (from (index + 1) (last - (index + 1))) s1
-  emitted_after k k1 s s1 index last handle lt here given behind =
+  emitted_after k k1 s s1 index last handle lt here given following =
       let rest = from (index + 1) (last - (index + 1)) in
       ap (λ (hs : List ℕ). after_emit (naming f) k hs s) (range_more index last lt ∙ ap (λ (h : ℕ). h ∷ rest) (sym here))
-      ∙ (λ j. after_emit (naming f) (sym given j) rest (sym behind j))
+      ∙ (λ j. after_emit (naming f) (sym given j) rest (sym following j))
 
   pub emitted_named : (k k1 index last handle : ℕ) → index < last → handle ≡ index → k1 ≡ named_after (naming f).function handle k
       → named_after_all (naming f).function (from index (last - index)) k ≡ named_after_all (naming f).function (from (index + 1) (last - (index + 1))) k1
@@ -356,20 +356,20 @@ module _ (f : FunctionText) where
   line_then k (simple st) s rest i = shape_then k (simple_shape (context f) st) s rest i
   line_then k (block b) s rest i = one_then (tree.Block (lines_at k b s)) rest i
   line_then k (branch condition accept reject) s rest i =
-      one_then (tree.If (operand_at s condition) (lines_at k accept s) (optional_form reject (lines_at (named_behind f accept k) reject s))) rest i
+      one_then (tree.If (operand_at s condition) (lines_at k accept s) (optional_form reject (lines_at (named_following f accept k) reject s))) rest i
   line_then k (switch selector cases) s rest i = one_then (tree.Switch (operand_at s selector) (cases_form (naming f) (let_annotation f) (source f) k [] cases s)) rest i
   line_then k (loop body continuing break_if) s rest i =
-      let behind = named_behind f body k in
+      let following = named_following f body k in
       let inside = left_to_continuing f k body s in
-      let last = left_to_continuing f behind continuing inside in
-      one_then (loop_form (lines_at k body s) continuing (lines_at behind continuing inside) (option_map (operand_at last) break_if)) rest i
+      let last = left_to_continuing f following continuing inside in
+      one_then (loop_form (lines_at k body s) continuing (lines_at following continuing inside) (option_map (operand_at last) break_if)) rest i
 
-  pub block_row : (k k1 : ℕ) (s s1 : Handles) (i : ℕ) (st : StatementTree) (rest : BlockTree) → k1 ≡ named_behind_statement f st k → s1 ≡ after_statement f k st s
+  pub block_row : (k k1 : ℕ) (s s1 : Handles) (i : ℕ) (st : StatementTree) (rest : BlockTree) → k1 ≡ named_after_statement f st k → s1 ≡ after_statement f k st s
       → block_text f k s i (statement st rest) ≡ joined_texts (statement_text f k s i st) (block_text f k1 s1 i rest)
   unfolding block_text statement_text joined_texts
-  block_row k k1 s s1 i st rest given behind =
-      line_then k st s (lines_at (named_behind_statement f st k) rest (after_statement f k st s)) i
-      ∙ (λ j. lines_text i (line_at k st s NoStatements) ++ lines_text i (lines_at (sym given j) rest (sym behind j)))
+  block_row k k1 s s1 i st rest given following =
+      line_then k st s (lines_at (named_after_statement f st k) rest (after_statement f k st s)) i
+      ∙ (λ j. lines_text i (line_at k st s NoStatements) ++ lines_text i (lines_at (sym given j) rest (sym following j)))
 
   pub no_lines : (k : ℕ) (s : Handles) (i : ℕ) → block_text f k s i no_statements ≡ []
   unfolding block_text
@@ -378,10 +378,10 @@ module _ (f : FunctionText) where
 -- ---- a loop over statements
 -- one more, and none
 pub lines_more : (f : FunctionText) (k k1 : ℕ) (s s1 : Handles) (i : ℕ) (items : List Statement) (n : ℕ) (item : Statement) → n < length items → item ≡ slice_index_or items n item
-    → k1 ≡ named_behind_statement f (tree_of item) k → s1 ≡ after_statement f k (tree_of item) s
+    → k1 ≡ named_after_statement f (tree_of item) k → s1 ≡ after_statement f k (tree_of item) s
     → block_text f k s i (block_of (drop n items)) ≡ joined_texts (statement_text f k s i (tree_of item)) (block_text f k1 s1 i (block_of (drop (n + 1) items)))
-lines_more f k k1 s s1 i items n item lt here given behind =
-    ap (block_text f k s i) (first_of items n item lt here) ∙ block_row f k k1 s s1 i (tree_of item) (block_of (drop (n + 1) items)) given behind
+lines_more f k k1 s s1 i items n item lt here given following =
+    ap (block_text f k s i) (first_of items n item lt here) ∙ block_row f k k1 s s1 i (tree_of item) (block_of (drop (n + 1) items)) given following
 
 pub lines_none : (f : FunctionText) (k : ℕ) (s : Handles) (i : ℕ) (items : List Statement) (n : ℕ) → length items ≤ n → block_text f k s i (block_of (drop n items)) ≡ []
 lines_none f k s i items n past = ap (λ (ss : List Statement). block_text f k s i (block_of ss)) (drop_all n items past) ∙ no_lines f k s i

@@ -9,7 +9,7 @@ use Rattle.naga_ir.specs.Operands.{own_result}
 use Rattle.std.proofs.Common.{ap, sym, ◌∙◌}
 use Rattle.std.specs.Prelude.{◌&&◌, nat_lt}
 use Rattle.std.proofs.lemmas.Bool.{and_parts, ltb-true}
-use Rattle.module_meaning.specs.acceptance.Numbers.{label_fits_32_bits}
+use Rattle.module_meaning.specs.acceptance.Numbers.{case_value_fits_32_bits}
 use Rattle.module_meaning.specs.acceptance.Ranges.{all_below, block_in_range, cases_in_range}
 use Rattle.module_meaning.specs.acceptance.Ranges.{is_below, statement_in_range}
 use Rattle.module_meaning.specs.Written.{IsWrittenIn, block_roots, cases_roots, simple_roots}
@@ -30,7 +30,7 @@ use Rattle.naga_form.proofs.statements.AcceptedFunctions.{ranges_are}
 use Rattle.naga_form.proofs.statements.WrittenHandles.{written_are_closed}
 use Rattle.naga_ir.specs.declared.module.LocalVariable.{LocalVariable}
 use Rattle.shader_runs.specs.Program.{from}
-use Rattle.naga_wgsl_fns.proofs.Wanted.{first_within}
+use Rattle.naga_wgsl_fns.proofs.Preconditions.{first_within}
 use Rattle.naga_wgsl_fns.specs.FunctionText.{AreInText, CanWrite, bound, callees}
 use Rattle.naga_wgsl_fns.specs.declared.functions.FunctionText.{FunctionText}
 use Rattle.module_meaning.proofs.StatementRanges.{operands_below, result_below}
@@ -127,7 +127,7 @@ module _ (binds : ℕ → Bool) (callees count : ℕ) where
     cases_within : (cs : CaseTrees) → IsTrue (cases_in_range callees count cs) → AllWithin count (cases_roots binds cs)
     cases_within no_cases range = tt
     cases_within (case v b falls cs) range =
-        let one = and_parts (label_fits_32_bits v) (block_in_range callees count b && cases_in_range callees count cs) range in
+        let one = and_parts (case_value_fits_32_bits v) (block_in_range callees count b && cases_in_range callees count cs) range in
         let two = and_parts (block_in_range callees count b) (cases_in_range callees count cs) one.1 in
         both_within count (block_roots binds b) (cases_roots binds cs) (block_within b two.0) (cases_within cs two.1)
 

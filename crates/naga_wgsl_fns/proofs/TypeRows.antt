@@ -19,7 +19,7 @@ use Rattle.naga_words.proofs.SegmentWriting.{reason_as}
 use Rattle.naga_words.specs.Contexts.{names_of, names_context}
 use Rattle.naga_words.specs.Spelling.{FitsResolution, IsInOrder}
 use Rattle.naga_words.specs.Spelling.{knows_override, type_segments, resolution_segments}
-use Rattle.naga_words.specs.Sink.{IsBehind}
+use Rattle.naga_words.specs.Sink.{IsAfter}
 use Rattle.naga_form.specs.TypeTrees.{resolution_tree}
 use Rattle.naga_words.specs.declared.error.TypeTextError.{TypeTextError}
 use Rattle.wgsl_text.specs.Reading.{type_layout}
@@ -67,11 +67,11 @@ module _ (ps : List Segment) (t : List ℕ) (known : known_text ps ≡ Some t) w
         → Lies before.content before.failures t after.content after.failures want
     known_lies None lies =
         let only = only_text ps lies.0.text t lies.0.is_text known in
-        (lies.0.behind ∙ ap (λ u. before.content ++ u) only, lies.1)
+        (lies.0.following ∙ ap (λ u. before.content ++ u) only, lies.1)
     known_lies (Some want) lies =
         let whole = subst (λ qs. IsText qs lies.0.whole) (known_whole ps t known) lies.0.is_text in
         let only = only_text ps lies.0.whole t whole known in (
-          subst (λ u. IsBehind before.content u after.content) only lies.0.behind,
+          subst (λ u. IsAfter before.content u after.content) only lies.0.following,
           reason_as (λ refused. lacks_nothing refused.1) before.failures after.failures want lies.1,
         )
 

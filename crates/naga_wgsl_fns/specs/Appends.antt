@@ -1,7 +1,7 @@
 -- What a call that writes a text to a sink does, by what the sink held, how often it had failed,
 -- and both afterwards.
 use Rattle.std.specs.Prelude.{◌≡◌, ℕ, List, ◌++◌, Result, Ok, Err}
-use Rattle.naga_words.specs.Sink.{IsBehind}
+use Rattle.naga_words.specs.Sink.{IsAfter}
 use Rattle.naga_wgsl_fns.specs.declared.refusals.error.Error.{Error}
 use Rattle.naga_wgsl_fns.specs.Errors.{IsWant}
 
@@ -13,7 +13,7 @@ pub record Wrote (content : List ℕ) (failed : ℕ) (text now : List ℕ) (fail
 -- a beginning of the text stands there, for want of memory or because the sink failed
 pub record StoppedWithin (content : List ℕ) (failed : ℕ) (text now : List ℕ) (failures : ℕ)
     (error : Error) : Type 0 where
-  pub behind : IsBehind content text now
+  pub following : IsAfter content text now
   pub reason : IsWant failed failures error
 
 -- one or the other, as the answer says

@@ -9,7 +9,7 @@ use Rattle.text_meaning.specs.Attributes.{stage_binding_read}
 use Rattle.module_meaning.specs.DeclarationForms.{binding_has_form}
 use Rattle.module_meaning.specs.StageBindings.{binding_meant}
 use Rattle.naga_form.specs.Attributes.{binding_attributes}
-use Rattle.naga_words.specs.Sink.{IsBehind}
+use Rattle.naga_words.specs.Sink.{IsAfter}
 use Rattle.naga_wgsl_fns.specs.Attributes.{binding_text}
 use Rattle.naga_wgsl_fns.specs.DeclarationRefusals.{NamesBuiltin}
 use Rattle.naga_wgsl_fns.specs.Errors.{IsWant}
@@ -22,7 +22,7 @@ passing_has_form b = option_map_or binding_has_form b true
 -- It is refused by name, and the sink is as it was.
 pub record RefusesBinding (b : Binding) (content now : List ℕ) (before after : ℕ) (error : Error) :
     Type 0 where
-  pub formless : IsFalse (binding_has_form b)
+  pub unsupported : IsFalse (binding_has_form b)
   pub named : NamesBuiltin error
   pub untouched : now ≡ content
   pub kept : after ≡ before
@@ -38,6 +38,6 @@ pub record BindingWriting (b : Binding) (answer : Result Unit Error) (content no
   pub failures_ok : OnOk answer (after ≡ before)
   -- A call that gives up leaves a beginning of them. It gives up for want of memory, because the
   -- sink failed, or where the binding has no form.
-  pub text_err : OnErr answer (IsBehind content (binding_text b) now)
+  pub text_err : OnErr answer (IsAfter content (binding_text b) now)
   pub reason : IfErr answer
       (λ e. IsWant before after e ⊎ RefusesBinding b content now before after e)

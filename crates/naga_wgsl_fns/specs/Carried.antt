@@ -23,10 +23,10 @@ use Rattle.naga_ir.specs.declared.types.TypeInner.{TypeInner}
 use Rattle.naga_ir.specs.declared.types.TypeInner.TheVariants as inner
 use Rattle.module_meaning.specs.ExpressionForms.{global_is_written}
 use Rattle.module_meaning.specs.LackingScalars.{lacking_scalar}
-use Rattle.naga_scope.specs.declared.declarations.FormlessDeclaration.{FormlessDeclaration}
-use Rattle.naga_scope.specs.declared.declarations.FormlessDeclaration.TheVariants as declaration
-use Rattle.naga_scope.specs.declared.declarations.FormlessHead.{FormlessHead}
-use Rattle.naga_scope.specs.declared.declarations.FormlessHead.TheVariants as head
+use Rattle.naga_scope.specs.declared.declarations.UnsupportedDeclaration.{UnsupportedDeclaration}
+use Rattle.naga_scope.specs.declared.declarations.UnsupportedDeclaration.TheVariants as declaration
+use Rattle.naga_scope.specs.declared.declarations.UnsupportedHead.{UnsupportedHead}
+use Rattle.naga_scope.specs.declared.declarations.UnsupportedHead.TheVariants as head
 use Rattle.naga_scope.specs.declared.plan.PlanError.{PlanError}
 use Rattle.naga_scope.specs.declared.plan.PlanError.TheVariants as plan_error
 use Rattle.naga_wgsl_fns.specs.Refusals.{converted, is_operation, made_type, pointed_scalar}
@@ -103,12 +103,12 @@ CarriesOfPlan m f info _ it = ⊤
 
 -- ---- declarations
 -- that of what a function takes or gives
-abbrev pub CarriesOfHead : FormlessHead → Construct → Type 0
+abbrev pub CarriesOfHead : UnsupportedHead → Construct → Type 0
 CarriesOfHead (head.BuiltIn v) it = it ≡ construct.BuiltIn v
 CarriesOfHead head.Stage it = ⊤
 
 -- that of a declaration
-abbrev pub CarriesOfDeclaration : Module → FormlessDeclaration → Construct → Type 0
+abbrev pub CarriesOfDeclaration : Module → UnsupportedDeclaration → Construct → Type 0
 CarriesOfDeclaration m (declaration.Type_ ty) it = CarriesOfType m (Handle ty) it
 CarriesOfDeclaration m (declaration.Initialiser h) it = CarriesOfGlobal m h it
 CarriesOfDeclaration m (declaration.BuiltIn v) it = it ≡ construct.BuiltIn v

@@ -16,10 +16,10 @@ use Rattle.naga_ir.specs.declared.binding.Binding.{Binding}
 use Rattle.naga_ir.specs.declared.module.EntryPoint.{EntryPoint}
 use Rattle.naga_ir.specs.declared.module.Function.{Function}
 use Rattle.naga_ir.specs.declared.module.Module.{Module}
-use Rattle.naga_scope.specs.declared.declarations.FormlessDeclaration.{FormlessDeclaration}
-use Rattle.naga_scope.specs.declared.declarations.FormlessDeclaration.TheVariants as declaration
-use Rattle.naga_scope.specs.declared.declarations.FormlessHead.{FormlessHead}
-use Rattle.naga_scope.specs.declared.declarations.FormlessHead.TheVariants as head
+use Rattle.naga_scope.specs.declared.declarations.UnsupportedDeclaration.{UnsupportedDeclaration}
+use Rattle.naga_scope.specs.declared.declarations.UnsupportedDeclaration.TheVariants as declaration
+use Rattle.naga_scope.specs.declared.declarations.UnsupportedHead.{UnsupportedHead}
+use Rattle.naga_scope.specs.declared.declarations.UnsupportedHead.TheVariants as head
 use Rattle.naga_wgsl_fns.specs.Errors.{IsCustom, IsUnsupported}
 use Rattle.naga_wgsl_fns.specs.Refusals.{NamesGlobal, NamesType}
 use Rattle.naga_wgsl_fns.specs.Carried.{CarriesOfDeclaration}
@@ -47,24 +47,24 @@ abbrev pub NamesStride : Error → Type 0
 NamesStride error = IsCustom (codes "array stride") error
 
 -- what has no form of what a function takes or gives, or its stage
-abbrev pub NamesFormlessHead : FormlessHead → Error → Type 0
-NamesFormlessHead (head.BuiltIn v) error = NamesBuiltin error
-NamesFormlessHead head.Stage error = NamesStage error
+abbrev pub NamesUnsupportedHead : UnsupportedHead → Error → Type 0
+NamesUnsupportedHead (head.BuiltIn v) error = NamesBuiltin error
+NamesUnsupportedHead head.Stage error = NamesStage error
 
 -- what has no form of a declaration of the module, or why a struct can't keep the offsets of its
 -- members
-abbrev pub NamesFormlessDeclaration : Module → FormlessDeclaration → Error → Type 0
-NamesFormlessDeclaration m (declaration.Type_ ty) error = NamesType m (Handle ty) error
-NamesFormlessDeclaration m (declaration.Initialiser h) error = NamesGlobal m error h
-NamesFormlessDeclaration m (declaration.BuiltIn v) error = NamesBuiltin error
-NamesFormlessDeclaration m (declaration.Head it) error = NamesFormlessHead it error
-NamesFormlessDeclaration m (declaration.Misplaced fault) error = NamesMisplaced fault error
-NamesFormlessDeclaration m (declaration.Stride ty) error = NamesStride error
+abbrev pub NamesUnsupportedDeclaration : Module → UnsupportedDeclaration → Error → Type 0
+NamesUnsupportedDeclaration m (declaration.Type_ ty) error = NamesType m (Handle ty) error
+NamesUnsupportedDeclaration m (declaration.Initialiser h) error = NamesGlobal m error h
+NamesUnsupportedDeclaration m (declaration.BuiltIn v) error = NamesBuiltin error
+NamesUnsupportedDeclaration m (declaration.Head it) error = NamesUnsupportedHead it error
+NamesUnsupportedDeclaration m (declaration.Misplaced fault) error = NamesMisplaced fault error
+NamesUnsupportedDeclaration m (declaration.Stride ty) error = NamesStride error
 
 -- an error names it as a construct
-abbrev pub IsToldOfDeclaration : Module → FormlessDeclaration → Error → Type 0
+abbrev pub IsToldOfDeclaration : Module → UnsupportedDeclaration → Error → Type 0
 IsToldOfDeclaration m lack error =
-    (it : Construct) × Tells it (NamesFormlessDeclaration m lack)
+    (it : Construct) × Tells it (NamesUnsupportedDeclaration m lack)
     × CarriesOfDeclaration m lack it × IsToldAs it error
 
 -- What a function takes or gives, or its stage, has no form, and is named.

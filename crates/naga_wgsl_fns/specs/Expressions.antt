@@ -3,7 +3,7 @@ use Rattle.std.specs.Prelude.{ℕ, Bool, true, false, List, [], ◌∷◌, ◌++
 use Rattle.std.specs.Prelude.{if◌then◌else◌, nat_lt, decimal, Option, Some, None, unwrap_or}
 use Rattle.naga_ir.specs.declared.expression.Expression as ir
 use Rattle.naga_ir.specs.declared.expression.Expression.TheVariants as expression
-use Rattle.naga_form.specs.Expressions.{ValueForm, ReferenceForm, is_handle_variable, points}
+use Rattle.naga_form.specs.Expressions.{ValueForm, ReferenceForm, is_handle_variable, is_pointer}
 use Rattle.module_meaning.specs.ExpressionOperators.{is_atomic_pointer, type_known}
 use Rattle.module_meaning.specs.ExpressionOperators.{type_with}
 use Rattle.module_meaning.specs.OperatorTable.{AtomicLoad, run_word}
@@ -133,7 +133,7 @@ made_text f table type handle =
 abbrev pub made_type : FunctionText → (ty : ℕ) → TypeSpecifier
 made_type f ty = type_form (type_names_of f) ty
 
--- what is behind a pointer: an atomic by its word, and anything else as the pointer's reference
+-- what a pointer points to: an atomic by its word, and anything else as the pointer's reference
 unfoldable pub load_text : FunctionText → (table : List Availability) → (pointer : ℕ) → List ℕ
 load_text f table pointer =
     if is_atomic_pointer (context f) pointer then
@@ -201,7 +201,7 @@ base_text f table handle =
 -- What a part is taken of: a reference where it points, so that the part is one too, else a value.
 abbrev pub part_base : FunctionText → (table : List Availability) → (base : ℕ) → Expression
 part_base f table base =
-    if points (context f) base then as_reference (form_at f table base)
+    if is_pointer (context f) base then as_reference (form_at f table base)
     else as_value (form_at f table base)
 
 -- the same where a part follows
@@ -293,14 +293,14 @@ plain_address_text f table handle =
 unfoldable pub part_value_text : FunctionText → (table : List Availability) →
     (handle base : ℕ) → List ℕ
 part_value_text f table handle base =
-    if points (context f) base then plain_address_text f table handle
+    if is_pointer (context f) base then plain_address_text f table handle
     else plain_text f table handle
 
 unfoldable pub part_reference_text : FunctionText → (table : List Availability) →
     (handle base : ℕ) →
     List ℕ
 part_reference_text f table handle base =
-    if points (context f) base then plain_text f table handle else pointed_text f table handle
+    if is_pointer (context f) base then plain_text f table handle else pointed_text f table handle
 
 -- what an expression takes a part of, if it is a part at an index
 abbrev pub base_of : Option ir.Expression → Option ℕ

@@ -13,7 +13,7 @@ use Rattle.naga_form.specs.GlobalValues.{HasValueOf}
 use Rattle.wgsl_text.specs.Expressions.{Expression}
 use Rattle.wgsl_text.specs.Reading.{HasOneReading, ReadsExpression}
 use Rattle.wgsl_text.specs.Text.{tokens}
-use Rattle.naga_words.specs.Sink.{IsBehind}
+use Rattle.naga_words.specs.Sink.{IsAfter}
 use Rattle.naga_wgsl_fns.specs.Constants.{global_at, global_text}
 use Rattle.naga_wgsl_fns.specs.Errors.{IsSinkWant}
 use Rattle.naga_wgsl_fns.specs.Refusals.{NamesGlobal, TellsOfModule}
@@ -63,5 +63,5 @@ pub record GlobalWriting (m : Module) (handle : ℕ) (answer : Result Unit Error
   pub value : OnOk answer (AppendsTheValue m handle content now)
   pub failures_ok : OnOk answer (after ≡ before)
   -- A call that gives up leaves a beginning of it, and nothing where it tells of the module.
-  pub text_err : OnErr answer (IsBehind content (global_text m handle) now)
+  pub text_err : OnErr answer (IsAfter content (global_text m handle) now)
   pub untouched : IfErr answer (λ e. TellsOfModule e → (now ≡ content) × (after ≡ before))

@@ -14,7 +14,7 @@ use Rattle.naga_info.specs.declared.info.ModuleInfo.{ModuleInfo}
 use Rattle.naga_info.specs.declared.info.TypeResolution.TheVariants.{Handle}
 use Rattle.naga_names.specs.Keys.{NameMap}
 use Rattle.naga_names.specs.Naming.{HasNamed, Names}
-use Rattle.module_meaning.specs.Bindings.{BindsAt}
+use Rattle.module_meaning.specs.FunctionLets.{BindsAt}
 use Rattle.module_meaning.specs.DeclarationForms.{DeclarationsHaveForms, HeadHasForm}
 use Rattle.module_meaning.specs.DeclarationForms.{ItemsHaveForms}
 use Rattle.module_meaning.specs.ExpressionLabels.{name_of_label}
@@ -37,7 +37,7 @@ use Rattle.naga_back.specs.declared.flags.WriterFlags.{WriterFlags}
 use Rattle.naga_scope.specs.ExpressionNames.{HasNamedSome}
 use Rattle.naga_words.specs.Contexts.{names_context}
 use Rattle.naga_words.specs.Segments.{HasWritten}
-use Rattle.naga_words.specs.Sink.{IsBehind}
+use Rattle.naga_words.specs.Sink.{IsAfter}
 use Rattle.naga_words.specs.Spelling.{type_segments}
 use Rattle.naga_wgsl_fns.specs.Errors.{IsSinkWant}
 use Rattle.naga_back.specs.Flags.{annotates_types}
@@ -55,14 +55,14 @@ pub record HasNamedItemsOf (m : Module) (namer : Names) : Type 0 where
   pub named : HasNamedLabels (item_labels m ++ later) namer
 
 -- the names that front ends gave in the function, where these labels were named before
-abbrev pub named_behind : Module → (earlier : List (List ℕ)) → (number label : ℕ) → List ℕ
-named_behind m earlier number = name_of_label wgsl_names earlier (labels_named_in m number)
+abbrev pub named_following : Module → (earlier : List (List ℕ)) → (number label : ℕ) → List ℕ
+named_following m earlier number = name_of_label wgsl_names earlier (labels_named_in m number)
 
 -- the text of the function under these names
-abbrev pub text_behind :
+abbrev pub text_after :
     Module → ModuleInfo → WriterFlags → (earlier : List (List ℕ)) → (number : ℕ) → List ℕ
-text_behind m info flags earlier number =
-    text_under m info flags (named_behind m earlier number) number
+text_after m info flags earlier number =
+    text_under m info flags (named_following m earlier number) number
 
 -- Why the function is refused, where the sink had failed so often before and has failed so often
 -- now: the sink failed, memory ran out, what it takes or gives or its stage has no form, or it has
@@ -108,8 +108,8 @@ AppendsOne (item.EntryPoint index) content now = AppendsOneEntryPoint content no
 
 -- ---- what the function means
 -- the names of labels where those of this function are named after the earlier ones
-abbrev pub names_behind : Module → (earlier : List (List ℕ)) → (number : ℕ) → LabelNames
-names_behind m earlier number = named_apart m number (named_behind m earlier number)
+abbrev pub names_following : Module → (earlier : List (List ℕ)) → (number : ℕ) → LabelNames
+names_following m earlier number = named_apart m number (named_following m earlier number)
 
 -- Names of all labels that are such as they may have, among them those that this function's text
 -- has. So one program has the texts of several functions, each of which was written by itself:
@@ -117,7 +117,7 @@ names_behind m earlier number = named_apart m number (named_behind m earlier num
 pub record AreNamesOfText (m : Module) (earlier : List (List ℕ)) (number : ℕ) (named : LabelNames) :
     Type 0 where
   pub are : AreLabelNames m named
-  pub own : named number ≡ named_behind m earlier number
+  pub own : named number ≡ named_following m earlier number
 
 -- What was appended is read as just this function, or this entry point, of the program.
 abbrev pub StandsIn : FunctionType → (content now : List ℕ) → Program → Type 0
@@ -163,7 +163,7 @@ pub record IsMeant (flags : WriterFlags) (m : Module) (info : ModuleInfo) (earli
   pub under : (named : LabelNames) → AreNamesOfText m earlier (function_number m ty) named →
       IsMeantUnder named flags m info ty content now
   pub some : AreNamesOfText m earlier (function_number m ty)
-      (names_behind m earlier (function_number m ty))
+      (names_following m earlier (function_number m ty))
 
 -- What the meaning of a function's runs asks of those that it may call is what an answer without an
 -- error shows of each: so it holds where they were written by themselves, under whatever names, and
@@ -226,7 +226,7 @@ pub record FunctionWriting (m : Module) (info : ModuleInfo) (flags : WriterFlags
       (function_number m ty) before after
   -- Otherwise it appends the function's text, which has exactly one reading.
   pub text_ok : OnOk answer
-      (now ≡ content ++ text_behind m info flags earlier (function_number m ty))
+      (now ≡ content ++ text_after m info flags earlier (function_number m ty))
   pub reading : OnOk answer (AppendsOne ty content now)
   -- Where the earlier labels begin with those of the module's items, the text is meant so: its
   -- `let`s, what its identifiers and words stand for, and its runs are the module's, whatever
@@ -237,7 +237,7 @@ pub record FunctionWriting (m : Module) (info : ModuleInfo) (flags : WriterFlags
   pub failures_ok : OnOk answer (after ≡ before)
   -- A call that gives up leaves a beginning of it, and nothing where it tells of the module.
   pub text_err : OnErr answer
-      (IsBehind content (text_behind m info flags earlier (function_number m ty)) now)
+      (IsAfter content (text_after m info flags earlier (function_number m ty)) now)
   pub untouched : IfErr answer (λ e. TellsOfModule e → (now ≡ content) × (after ≡ before))
   -- The namer has named the labels that front ends gave in the function; where the call gives up,
   -- some first ones of them.

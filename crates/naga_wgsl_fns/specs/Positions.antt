@@ -9,8 +9,8 @@ use Rattle.naga_scope.specs.Changes.{block_changes, cases_changes, statement_cha
 use Rattle.naga_scope.specs.Log.{Counted, HasRoom}
 use Rattle.shader_runs.specs.Scope.{Handles}
 use Rattle.naga_wgsl_fns.specs.FunctionText.{handles_in}
-use Rattle.naga_wgsl_fns.specs.Statements.{named_behind, named_behind_cases}
-use Rattle.naga_wgsl_fns.specs.Statements.{named_behind_statement}
+use Rattle.naga_wgsl_fns.specs.Statements.{named_following, named_after_cases}
+use Rattle.naga_wgsl_fns.specs.Statements.{named_after_statement}
 use Rattle.naga_wgsl_fns.specs.declared.functions.FunctionText.{FunctionText}
 use Rattle.naga_wgsl_fns.specs.declared.lines.Position.{Position}
 
@@ -35,12 +35,12 @@ pub record Passed (before after : Position) (names changes : ℕ) : Type 0 where
 -- as it is after a statement, a block, and the cases of a switch
 abbrev pub PassesStatement : FunctionText → (before after : Position) → StatementTree → Type 0
 PassesStatement f before after st =
-    Passed before after (named_behind_statement f st before.scope.named) (statement_changes st)
+    Passed before after (named_after_statement f st before.scope.named) (statement_changes st)
 
 abbrev pub PassesBlock : FunctionText → (before after : Position) → BlockTree → Type 0
 PassesBlock f before after b =
-    Passed before after (named_behind f b before.scope.named) (block_changes b)
+    Passed before after (named_following f b before.scope.named) (block_changes b)
 
 abbrev pub PassesCases : FunctionText → (before after : Position) → CaseTrees → Type 0
 PassesCases f before after cases =
-    Passed before after (named_behind_cases f cases before.scope.named) (cases_changes cases)
+    Passed before after (named_after_cases f cases before.scope.named) (cases_changes cases)

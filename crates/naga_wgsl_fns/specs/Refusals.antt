@@ -39,7 +39,7 @@ use Rattle.module_meaning.specs.Written.{IsSpelledIn, IsWrittenIn, WrittenHaveFo
 use Rattle.module_meaning.specs.ExpressionOperators.{has_parts}
 use Rattle.module_meaning.specs.Undeclared.{is_spellable, names_undeclared}
 use Rattle.module_meaning.specs.Conversions.{conversion_target}
-use Rattle.module_meaning.specs.ExpressionOperators.{scalar_behind}
+use Rattle.module_meaning.specs.ExpressionOperators.{pointee_scalar}
 use Rattle.naga_info.specs.declared.info.ExpressionInfo.{ExpressionInfo}
 use Rattle.naga_info.specs.declared.info.ModuleInfo.{ModuleInfo}
 use Rattle.naga_names.specs.declared.error.NamerError.{NamerError}
@@ -54,9 +54,9 @@ use Rattle.naga_scope.specs.declared.plan.PlanError.{PlanError}
 use Rattle.naga_scope.specs.declared.plan.PlanError.TheVariants.{LetWithoutForm, OutOfScope}
 use Rattle.naga_scope.specs.declared.plan.PlanError.TheVariants.{TypeWithoutForm, Unnamed}
 use Rattle.naga_scope.specs.declared.plan.PlanError.TheVariants.{StatementWithoutForm, WithoutForm}
-use Rattle.naga_scope.specs.declared.statements.FormlessStatement.{FormlessStatement}
-use Rattle.naga_scope.specs.declared.statements.FormlessStatement.TheVariants as formless_statement
-use Rattle.naga_scope.specs.FormlessStatements.{formless_statement as formless_statement_of}
+use Rattle.naga_scope.specs.declared.statements.UnsupportedStatement.{UnsupportedStatement}
+use Rattle.naga_scope.specs.declared.statements.UnsupportedStatement.TheVariants as unsupported_statement
+use Rattle.naga_scope.specs.UnsupportedStatements.{unsupported_statement as unsupported_statement_of}
 use Rattle.naga_scope.specs.declared.plan.PlanError.TheVariants as plan_error
 use Rattle.naga_wgsl_fns.specs.Errors.{IsCustom, IsUnimplemented, IsUnsupported}
 use Rattle.naga_wgsl_fns.specs.declared.refusals.error.Error.{Error}
@@ -151,7 +151,7 @@ NamesMatrix (Some s) error = NamesScalar error
 -- the scalars that a pointer points to, by the types that are known
 abbrev pub pointed_scalar : List Type_ → List ExpressionInfo → (pointer : ℕ) → Option Scalar
 pointed_scalar types es pointer =
-    option_and_then (λ k. option_and_then (scalar_behind types) (inner_of k.ty types))
+    option_and_then (λ k. option_and_then (pointee_scalar types) (inner_of k.ty types))
     (slice_get es pointer)
 
 -- what a ray query found
@@ -245,28 +245,28 @@ NamesExpression m known es (RayQueryVertexPositions query committed) error =
 NamesExpression m known es _ error = ⊥
 
 -- a statement without a form
-abbrev pub NamesStatement : FormlessStatement → Error → Type 0
-NamesStatement formless_statement.RayQuery error = NamesRayQuery error
-NamesStatement formless_statement.SubgroupOperation error =
+abbrev pub NamesStatement : UnsupportedStatement → Error → Type 0
+NamesStatement unsupported_statement.RayQuery error = NamesRayQuery error
+NamesStatement unsupported_statement.SubgroupOperation error =
     IsUnimplemented (codes "subgroup operation") error
-NamesStatement formless_statement.FallThrough error =
+NamesStatement unsupported_statement.FallThrough error =
     IsUnimplemented (codes "fall-through switch case block") error
-NamesStatement formless_statement.ImageCompareExchange error =
+NamesStatement unsupported_statement.ImageCompareExchange error =
     IsUnimplemented (codes "image compare exchange") error
 
 -- a statement without a form stands in the function with this number, and is named
-pub record NamesFormlessStatement (m : Module) (info : ModuleInfo) (number : ℕ) (error : Error) :
+pub record NamesUnsupportedStatement (m : Module) (info : ModuleInfo) (number : ℕ) (error : Error) :
     Type 0 where
   pub function : Function
   pub known : List ExpressionInfo
   pub stands : slice_get (all_functions m) number ≡ Some function
   pub is_known : slice_get (all_infos info) number ≡ Some known
-  pub statement : FormlessStatement
-  pub formless : formless_statement_of function.body ≡ Some statement
+  pub statement : UnsupportedStatement
+  pub unsupported : unsupported_statement_of function.body ≡ Some statement
   pub named : NamesStatement statement error
 
 -- an expression is written in the function with this number that has no form, and is named
-pub record NamesFormless (m : Module) (info : ModuleInfo) (number : ℕ) (error : Error) :
+pub record NamesUnsupported (m : Module) (info : ModuleInfo) (number : ℕ) (error : Error) :
     Type 0 where
   pub function : Function
   pub known : List ExpressionInfo
@@ -279,7 +279,7 @@ pub record NamesFormless (m : Module) (info : ModuleInfo) (number : ℕ) (error 
       × NamesExpression m known function.expressions e error)
 
 -- or a type without a form is spelled beside its expressions, and is named
-pub record NamesFormlessType (explicit : Bool) (m : Module) (info : ModuleInfo) (number : ℕ)
+pub record NamesUnsupportedType (explicit : Bool) (m : Module) (info : ModuleInfo) (number : ℕ)
     (error : Error) : Type 0 where
   pub function : Function
   pub known : List ExpressionInfo
@@ -287,13 +287,15 @@ pub record NamesFormlessType (explicit : Bool) (m : Module) (info : ModuleInfo) 
   pub is_known : slice_get (all_infos info) number ≡ Some known
   pub type : TypeResolution
   pub spelled : IsSpelledIn explicit m info function known type
-  pub formless : IsFalse (is_spellable m type)
+  pub unsupported : IsFalse (is_spellable m type)
   pub named : NamesType m type error
 
-abbrev pub HasFormlessIn : (explicit : Bool) → Module → ModuleInfo → (number : ℕ) → Error → Type 0
-HasFormlessIn explicit m info number error =
-    NamesFormless m info number error
-    ⊎ (NamesFormlessType explicit m info number error ⊎ NamesFormlessStatement m info number error)
+abbrev pub HasUnsupportedIn : (explicit : Bool) → Module → ModuleInfo → (number : ℕ) → Error →
+    Type 0
+HasUnsupportedIn explicit m info number error =
+    NamesUnsupported m info number error
+    ⊎ (NamesUnsupportedType explicit m info number error
+    ⊎ NamesUnsupportedStatement m info number error)
 
 -- ---- refusals
 -- the error tells of the module, and not of memory or of the sink
@@ -356,7 +358,7 @@ abbrev pub IsFault : (explicit : Bool) → Module → ModuleInfo → (earlier : 
     (number : ℕ) → Error → Type 0
 IsFault explicit m info earlier number error =
     (TellsOfScope error × HasScopeFaultIn m info number)
-    ⊎ (HasFormlessIn explicit m info number error
+    ⊎ (HasUnsupportedIn explicit m info number error
     ⊎ (TellsOfFullNamer error × ExpressionNamesAreFullIn m earlier number))
 
 abbrev pub IsPlanRefusal : (explicit : Bool) → Module → ModuleInfo → (earlier : List (List ℕ)) →

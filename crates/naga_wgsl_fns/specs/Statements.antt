@@ -1,12 +1,12 @@
 -- The texts of statements. Throughout, f is the function that is written, k is how many names that
 -- front ends gave stand in front of a line, s are the handles in scope there, i is the level of the
 -- line, and h is a handle.
-use Rattle.wgsl_text.specs.Statements.{DefaultLabel}
+use Rattle.wgsl_text.specs.Statements.{DefaultCase}
 use Rattle.shader_runs.specs.ProgramRun.{barrier_words}
 use Rattle.std.specs.Option.{is_some}
 use Rattle.module_meaning.specs.StatementShapes.{act_operator, barrier_bits}
 use Rattle.module_meaning.specs.FunctionShapes.{cases_shape}
-use Rattle.naga_form.specs.Statements.{labels_form, label_form, barrier_lines}
+use Rattle.naga_form.specs.Statements.{case_values_form, case_value_form, barrier_lines}
 use Rattle.std.specs.Prelude.{◌∷◌, suc, map}
 use Rattle.naga_ir.specs.declared.statement.SwitchCase.{SwitchCase}
 use Rattle.naga_ir.specs.StatementTree.{has_no_statements}
@@ -32,9 +32,10 @@ use Rattle.naga_form.specs.Statements.{act_line, cases_form, let_form, lets_form
 use Rattle.naga_form.specs.Statements.{lines_form, return_line}
 use Rattle.wgsl_text.specs.Expressions.{NoArguments, operands}
 use Rattle.wgsl_text.specs.Reading.{expression_layout}
-use Rattle.wgsl_text.specs.Statements.{Assign, CallStatement, Cases, Label, Labels, NoStatements}
+use Rattle.wgsl_text.specs.Statements.{Assign, CallStatement, Cases, CaseValue, CaseValues}
+use Rattle.wgsl_text.specs.Statements.{NoStatements}
 use Rattle.wgsl_text.specs.Statements.{ReturnValue, Statement, Statements, case_pieces}
-use Rattle.wgsl_text.specs.Statements.{cases_pieces, label_pieces, statement_pieces}
+use Rattle.wgsl_text.specs.Statements.{cases_pieces, case_value_pieces, statement_pieces}
 use Rattle.wgsl_text.specs.Statements.{statements_pieces}
 use Rattle.wgsl_text.specs.Text.{text}
 use Rattle.wgsl_text.specs.Types.{Named}
@@ -64,14 +65,14 @@ block_text f k s i b = lines_text i (lines_form (naming f) (let_annotation f) (s
 -- ---- where what follows stands
 -- how many names are given after a statement and after a block, and which handles are in scope
 -- there
-abbrev pub named_behind_statement : FunctionText → StatementTree → ℕ → ℕ
-named_behind_statement f st k = named_by (naming f).function (statement_shape (context f) st) k
+abbrev pub named_after_statement : FunctionText → StatementTree → ℕ → ℕ
+named_after_statement f st k = named_by (naming f).function (statement_shape (context f) st) k
 
-abbrev pub named_behind : FunctionText → BlockTree → ℕ → ℕ
-named_behind f b k = named_by_all (naming f).function (statements_shape (context f) b) k
+abbrev pub named_following : FunctionText → BlockTree → ℕ → ℕ
+named_following f b k = named_by_all (naming f).function (statements_shape (context f) b) k
 
-abbrev pub named_behind_cases : FunctionText → CaseTrees → ℕ → ℕ
-named_behind_cases f cases k = named_by_cases (naming f).function (cases_shape (context f) cases) k
+abbrev pub named_after_cases : FunctionText → CaseTrees → ℕ → ℕ
+named_after_cases f cases k = named_by_cases (naming f).function (cases_shape (context f) cases) k
 
 abbrev pub after_statement : FunctionText → ℕ → StatementTree → Handles → Handles
 after_statement f k st s = after (naming f) k (statement_shape (context f) st) s
@@ -182,45 +183,46 @@ unfoldable pub turn_text : FunctionText → ℕ → Handles → (i : ℕ) → (b
     (break_if : Option ℕ) → List ℕ
 turn_text f k s i body continuing break_if =
     block_text f k s i body
-    ++ continuing_text f (named_behind f body k) (left_to_continuing f k body s) i continuing
+    ++ continuing_text f (named_following f body k) (left_to_continuing f k body s) i continuing
     break_if
 
 -- ---- switches
--- cases, in front of which these labels wait for one
-unfoldable pub cases_text : FunctionText → ℕ → Handles → (i : ℕ) → List Label → CaseTrees → List ℕ
+-- cases, in front of which these values wait for one
+unfoldable pub cases_text : FunctionText → ℕ → Handles → (i : ℕ) → List CaseValue → CaseTrees →
+    List ℕ
 cases_text f k s i labels cases =
     text
     (cases_pieces (cases_form (naming f) (let_annotation f) (source f) k labels cases s) i)
 
--- the labels of these cases
-abbrev pub labels_of : List SwitchCase → List Label
-labels_of cases = map (λ c. label_form c.value) cases
+-- the values of these cases
+abbrev pub labels_of : List SwitchCase → List CaseValue
+labels_of cases = map (λ c. case_value_form c.value) cases
 
--- a label, labels each of which has another one after it, and those of a group up to the colon
-unfoldable pub label_text : Label → List ℕ
-label_text label = text (label_pieces label)
+-- a case value, values each of which has another one after it, and those of a group up to the colon
+unfoldable pub case_value_text : CaseValue → List ℕ
+case_value_text label = text (case_value_pieces label)
 
-unfoldable pub waiting_text : List Label → List ℕ
+unfoldable pub waiting_text : List CaseValue → List ℕ
 waiting_text [] = []
-waiting_text (label ∷ labels) = label_text label ++ (codes ", " ++ waiting_text labels)
+waiting_text (label ∷ labels) = case_value_text label ++ (codes ", " ++ waiting_text labels)
 
--- a default that no other label stands with
-abbrev pub stands_alone : (labels : List Label) → (own : Label) → Bool
-stands_alone [] DefaultLabel = true
+-- a default that no other case value stands with
+abbrev pub stands_alone : (labels : List CaseValue) → (own : CaseValue) → Bool
+stands_alone [] DefaultCase = true
 stands_alone labels own = false
 
-unfoldable pub group_start : (labels : List Label) → (own : Label) → List ℕ
-group_start labels own = text (case_pieces (labels_form labels own))
+unfoldable pub group_start : (labels : List CaseValue) → (own : CaseValue) → List ℕ
+group_start labels own = text (case_pieces (case_values_form labels own))
 
--- labels and the block that they are for
-unfoldable pub group_text : FunctionText → ℕ → Handles → (i : ℕ) → (labels : List Label) →
-    (own : Label) → BlockTree → List ℕ
+-- case values and the block that they are for
+unfoldable pub group_text : FunctionText → ℕ → Handles → (i : ℕ) → (labels : List CaseValue) →
+    (own : CaseValue) → BlockTree → List ℕ
 group_text f k s i labels own body =
     indentation i ++
     (group_start labels own ++
     (codes " {\n" ++ (block_text f k s (suc i) body ++ line_start i (codes "}\n"))))
 
 -- one that falls through has none of its own
-unfoldable pub case_text : FunctionText → ℕ → Handles → (i : ℕ) → (labels : List Label) →
-    (own : Label) → (falls : Bool) → BlockTree → List ℕ
+unfoldable pub case_text : FunctionText → ℕ → Handles → (i : ℕ) → (labels : List CaseValue) →
+    (own : CaseValue) → (falls : Bool) → BlockTree → List ℕ
 case_text f k s i labels own falls body = if falls then [] else group_text f k s i labels own body

@@ -9,7 +9,7 @@ ghost use Rattle.naga_form.specs.Attributes.{interpolation_told, is_center, is_p
 ghost use Rattle.naga_form.specs.Attributes.{passing_attributes};
 ghost use Rattle.naga_ir.specs.declared.binding.Binding.TheVariants as binding;
 ghost use Rattle.naga_words.specs.Output.{Writes};
-ghost use Rattle.naga_words.specs.Sink.{IsBehind};
+ghost use Rattle.naga_words.specs.Sink.{IsAfter};
 ghost use Rattle.wgsl_text.specs.Attributes.{BlendSource, Numbered};
 ghost use Rattle.wgsl_words.specs.Words.{builtin_word};
 ghost use Rattle.naga_wgsl_fns.specs.Attributes.{attributes_text, binding_text};
@@ -49,7 +49,7 @@ pub fn write_binding<W: TextSink>(
 /// Refuses a binding to a value without a word.
 fn form_of_binding(alloc: Global, binding: Binding) -> Result<(), Error>
     ensures formed { OnOk result (IsTrue (binding_has_form binding)) }
-    ensures formless { OnErr result (IsFalse (binding_has_form binding)) }
+    ensures unsupported { OnErr result (IsFalse (binding_has_form binding)) }
     ensures named { IfErr result NamesBuiltin }
 {
     match binding {
@@ -67,7 +67,7 @@ fn write_formed<W: TextSink>(binding: Binding, out: &mut W) -> Result<(), Error>
     requires { IsTrue (binding_has_form binding) }
     ensures text_ok { OnOk result (W.text out.new ≡ W.text out.old ++ binding_text binding) }
     ensures text_err { OnErr result
-        (IsBehind (W.text out.old) (binding_text binding) (W.text out.new)) }
+        (IsAfter (W.text out.old) (binding_text binding) (W.text out.new)) }
     ensures failures_ok { OnOk result (W.failures out.new ≡ W.failures out.old) }
     ensures reason { IfErr result (IsWant (W.failures out.old) (W.failures out.new)) }
 {

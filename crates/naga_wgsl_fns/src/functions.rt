@@ -13,7 +13,7 @@ ghost use Rattle.naga_scope.specs.Changes.{block_changes};
 ghost use Rattle.naga_scope.specs.Plans.{IsPlanOf};
 ghost use Rattle.naga_scope.specs.Tables.{AreTablesOf};
 ghost use Rattle.naga_words.specs.Output.{Writes};
-ghost use Rattle.naga_words.specs.Sink.{IsBehind};
+ghost use Rattle.naga_words.specs.Sink.{IsAfter};
 ghost use Rattle.naga_wgsl_fns.specs.Errors.{IsWant};
 ghost use Rattle.naga_wgsl_fns.specs.FunctionText.{CanWrite};
 ghost use Rattle.naga_back.specs.Flags.{annotates_types};
@@ -37,7 +37,8 @@ use crate::refusals::error::error_of_want;
 use naga_back::{FunctionType, WriterFlags};
 use naga_info::{FunctionInfo, ModuleInfo};
 use naga_ir::{
-    Expression, Function, FunctionArgument, FunctionResult, Handle, LocalVariable, Module, Place,
+    Expression, Function, FunctionArgument, FunctionResult, Handle, ItemIndex, LocalVariable,
+    Module,
 };
 use naga_names::NameKey;
 use naga_scope::{ModuleTables, Plan, Scope, function_of};
@@ -78,7 +79,7 @@ pub fn write_planned<'a, W: TextSink>(
     ensures text_ok { OnOk result (W.text out.new ≡ W.text out.old
         ++ text_under «module».now info.now flags (names_of plan)
         (function_number «module».now ty.now)) }
-    ensures text_err { OnErr result (IsBehind (W.text out.old)
+    ensures text_err { OnErr result (IsAfter (W.text out.old)
         (text_under «module».now info.now flags (names_of plan) (function_number «module».now ty.now))
         (W.text out.new)) }
     ensures failures_ok { OnOk result (W.failures out.new ≡ W.failures out.old) }
@@ -289,7 +290,7 @@ impl FunctionText<'_> {
         ensures { Writes W.text W.failures out.old out.new (locals_text self.now) }
     {
         for index in 0..self.function.local_variables.len() {
-            self.write_local(scope, Place::from_index(index), out);
+            self.write_local(scope, ItemIndex::from_index(index), out);
         }
         write_group_end(self.function.local_variables.is_empty(), out);
     }

@@ -6,7 +6,7 @@ ghost use Rattle.module_meaning.specs.Names.{HasNamesOf};
 ghost use Rattle.module_meaning.specs.ExpressionForms.{global_is_written};
 ghost use Rattle.naga_info.specs.declared.info.ModuleInfo.{ModuleInfo};
 ghost use Rattle.naga_names.specs.Keys.{names_in};
-ghost use Rattle.naga_words.specs.Sink.{IsBehind};
+ghost use Rattle.naga_words.specs.Sink.{IsAfter};
 ghost use Rattle.naga_wgsl_fns.specs.Constants.{global_text};
 ghost use Rattle.naga_wgsl_fns.specs.Errors.{IsWant};
 ghost use Rattle.naga_wgsl_fns.specs.GlobalExpressions.{GlobalWriting};
@@ -83,7 +83,7 @@ fn write_written_global<W: TextSink>(
     ensures text_ok { OnOk result
         (W.text out.new ≡ W.text out.old ++ global_text text.entry.shader.now handle) }
     ensures text_err { OnErr result
-        (IsBehind (W.text out.old) (global_text text.entry.shader.now handle) (W.text out.new)) }
+        (IsAfter (W.text out.old) (global_text text.entry.shader.now handle) (W.text out.new)) }
     ensures failures_ok { OnOk result (W.failures out.new ≡ W.failures out.old) }
     ensures reason { IfErr result (IsWant (W.failures out.old) (W.failures out.new)) }
 {

@@ -20,7 +20,7 @@ use naga_info::ModuleInfo;
 use naga_ir::Module;
 use naga_names::NameKey;
 use naga_names::namer::Namer;
-use naga_scope::{ModuleTables, formless_head};
+use naga_scope::{ModuleTables, unsupported_head};
 use naga_words::TextSink;
 use std::alloc::Global;
 use std::collections::HashMap;
@@ -76,7 +76,7 @@ pub fn write_function<W: TextSink>(
     // So that the next function may be written.
     ensures named { HasNamedItemsOf «module».now namer.new }
 {
-    match formless_head(module, ty) {
+    match unsupported_head(module, ty) {
         Some(head) => Err(head_without_form(alloc, head)),
         None => write_by_plan(alloc, module, info, &ty, names, namer, flags, out),
     }

@@ -43,7 +43,9 @@ pub use items::write_function;
 pub use literal::write_literal;
 pub use plans::{FunctionPart, Unplanned, construct_of_names, plan_of, plan_or_refusal};
 pub use refusals::construct::Construct;
-pub use refusals::declarations::{declaration_without_form, formless_construct, head_without_form};
+pub use refusals::declarations::{
+    declaration_without_form, head_without_form, unsupported_construct,
+};
 pub use refusals::error::Error;
 pub use sinks::put;
 pub use undeclared::names_undeclared;

@@ -16,7 +16,7 @@ ghost use Rattle.naga_wgsl_fns.specs.Statements.{statement_text};
 
 use crate::functions::FunctionText;
 use crate::indent::Indent;
-use naga_ir::{Expression, Handle, Place, Range, Statement};
+use naga_ir::{Expression, Handle, ItemIndex, Range, Statement};
 use naga_scope::{Scope, binds};
 use naga_words::{Output, TextSink};
 
@@ -63,7 +63,7 @@ impl FunctionText<'_> {
         ensures kept { Extends at.old.scope at.new.scope }
     {
         for index in range.first..range.end {
-            let handle = Place::from_index(index);
+            let handle = ItemIndex::from_index(index);
             self.write_emitted(handle, at, out);
             at.scope
                 .emit(&self.shader.types, self.function, self.info, handle);

@@ -1,4 +1,4 @@
-//! Loads: of atomics, of cooperative matrices, and of what else is behind a pointer.
+//! Loads: of atomics, of cooperative matrices, and of what else a pointer points to.
 
 ghost use Rattle.std.specs.Prelude.{◌≡◌, ◌<◌, IsTrue, Some, length, slice_get};
 ghost use Rattle.std.specs.Option.{is_some};
@@ -18,12 +18,12 @@ use naga_info::TypeResolution;
 use naga_ir::{
     CooperativeData, CooperativeRole, CooperativeSize, Expression, Handle, Scalar, Type_, TypeInner,
 };
-use naga_scope::{Scope, scalar_behind};
+use naga_scope::{Scope, pointee_scalar};
 use naga_words::{Output, TextSink};
 
 impl FunctionText<'_> {
-    /// What is behind a pointer: an atomic by `atomicLoad`, and anything else as the reference that the
-    /// pointer is.
+    /// What a pointer points to: an atomic by `atomicLoad`, and anything else as the reference that
+    /// the pointer is.
     #[cycle(expression)]
     pub(crate) fn write_load<W: TextSink>(
         &self,
@@ -122,7 +122,7 @@ impl FunctionText<'_> {
         requires scalar { IsTrue (is_some (scalar_pointed (context self.now) pointer)) }
         ensures { scalar_pointed (context self.now) pointer ≡ Some result }
     {
-        match scalar_behind(&self.shader.types, self.type_of(pointer)) {
+        match pointee_scalar(&self.shader.types, self.type_of(pointer)) {
             Some(scalar) => scalar,
             None => unreachable!(),
         }

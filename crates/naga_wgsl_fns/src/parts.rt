@@ -4,7 +4,7 @@ ghost use Rattle.std.specs.Prelude.{◌≡◌, ◌<◌, IsTrue, None, Some, leng
 ghost use Rattle.std.specs.Option.{option_map};
 ghost use Rattle.module_meaning.specs.ExpressionShapes.{component_letters, letter, part_selector};
 ghost use Rattle.module_meaning.specs.ExpressionShapes.{swizzle_letters};
-ghost use Rattle.naga_form.specs.Expressions.{as_value, points};
+ghost use Rattle.naga_form.specs.Expressions.{as_value, is_pointer};
 ghost use Rattle.naga_words.specs.Output.{Writes};
 ghost use Rattle.naga_wgsl_fns.specs.Expressions.{base_of, base_text, form_at, index_text};
 ghost use Rattle.naga_wgsl_fns.specs.Expressions.{is_signed, letter_at, member_text, number_text};
@@ -44,7 +44,7 @@ impl FunctionText<'_> {
         ensures { Writes W.text W.failures out.old out.new
             (part_value_text self.now scope.now.table handle base) }
     {
-        if self.points(base) {
+        if self.is_pointer(base) {
             self.write_part_address(scope, handle, base, out);
         } else {
             self.write_part(scope, handle, base, out);
@@ -66,7 +66,7 @@ impl FunctionText<'_> {
         ensures { Writes W.text W.failures out.old out.new
             (part_reference_text self.now scope.now.table handle base) }
     {
-        if self.points(base) {
+        if self.is_pointer(base) {
             self.write_part(scope, handle, base, out);
         } else {
             self.write_dereference(scope, handle, out);
@@ -127,7 +127,7 @@ impl FunctionText<'_> {
         ensures { Writes W.text W.failures out.old out.new
             (part_base_text self.now scope.now.table base) }
     {
-        if self.points(base) {
+        if self.is_pointer(base) {
             self.write_reference(scope, base, out);
         } else {
             self.write_base(scope, base, out);
@@ -275,10 +275,10 @@ impl FunctionText<'_> {
     }
 
     /// Whether the type of an expression is that of a pointer.
-    fn points(&self, handle: Handle<Expression>) -> bool
+    fn is_pointer(&self, handle: Handle<Expression>) -> bool
         requires can { CanWrite self.now }
         requires handle { handle < length self.now.info.now }
-        ensures { result ≡ points (context self.now) handle }
+        ensures { result ≡ is_pointer (context self.now) handle }
     {
         matches!(
             self.type_of(handle),

@@ -192,7 +192,7 @@ fn construct_of_plan(
     requires tables { AreTablesOf «module».now tables.now }
     requires named { (h : ℕ) (e : Expression) → slice_get function.now.expressions h ≡ Some e →
         NamesItemsOf «module».now e }
-    requires formless { IsOfPlan «module».now function.now info.now error }
+    requires unsupported { IsOfPlan «module».now function.now info.now error }
     ensures ok { IfOk result (λ it.
         Tells it (TellsPlanError «module».now function.now info.now error)) }
     ensures carries { IfOk result (CarriesOfPlan «module».now function.now info.now error) }

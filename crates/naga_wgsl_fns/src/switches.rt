@@ -1,7 +1,7 @@
 //! Switches.
 
 ghost use Rattle.std.specs.Prelude.{◌≡◌, ◌<◌, ◌+◌, [], IsTrue, if◌then◌else◌, suc};
-ghost use Rattle.naga_form.specs.Statements.{label_form};
+ghost use Rattle.naga_form.specs.Statements.{case_value_form};
 ghost use Rattle.naga_ir.specs.StatementTree.{no_statements, switch};
 ghost use Rattle.naga_ir.specs.StatementViews.{cases_of};
 ghost use Rattle.naga_scope.specs.Changes.{block_changes, cases_changes, statement_changes};
@@ -12,7 +12,7 @@ ghost use Rattle.naga_wgsl_fns.specs.FunctionText.{CanWriteStatement};
 ghost use Rattle.naga_wgsl_fns.specs.Positions.{HasScope, PassesBlock, PassesCases};
 ghost use Rattle.naga_wgsl_fns.specs.Positions.{PassesStatement, text_at};
 ghost use Rattle.naga_wgsl_fns.specs.Statements.{case_text, cases_text, group_start, group_text};
-ghost use Rattle.naga_wgsl_fns.specs.Statements.{label_text, labels_of, stands_alone};
+ghost use Rattle.naga_wgsl_fns.specs.Statements.{case_value_text, labels_of, stands_alone};
 ghost use Rattle.naga_wgsl_fns.specs.Statements.{statement_text, waiting_text};
 
 use crate::functions::FunctionText;
@@ -50,7 +50,7 @@ impl FunctionText<'_> {
         at.write_start("}\n", out);
     }
 
-    /// The cases of a switch. One that falls through has no statements, and gives its label to the
+    /// The cases of a switch. One that falls through has no statements, and gives its value to the
     /// next one.
     #[cycle(statement)]
     #[tactic(auto, using(naga_words::proofs::Writing::loop_writes))]
@@ -76,7 +76,7 @@ impl FunctionText<'_> {
         }
     }
 
-    /// A case that doesn't fall through, with the labels of those that wait for it.
+    /// A case that doesn't fall through, with the values of those that wait for it.
     #[cycle(statement)]
     #[tactic(auto, using(naga_words::proofs::Writing::writes_nothing, crate::proofs::Passing::nothing_passed), unfolding(crate::specs::Statements::case_text))]
     fn write_case<W: TextSink>(
@@ -91,7 +91,7 @@ impl FunctionText<'_> {
         requires empty { IsTrue case.now.fall_through → case.now.body ≡ no_statements }
         requires scope { HasScope self.now at.old.scope (block_changes case.now.body) }
         ensures text { Writes W.text W.failures out.old out.new (text_at self.now at.old.scope
-            case_text at.old.indent (labels_of waiting.now) (label_form case.now.value)
+            case_text at.old.indent (labels_of waiting.now) (case_value_form case.now.value)
             case.now.fall_through case.now.body) }
         ensures passed { PassesBlock self.now at.old at.new case.now.body }
         ensures same { Same at.old.scope at.new.scope }
@@ -101,7 +101,7 @@ impl FunctionText<'_> {
         }
     }
 
-    /// The labels of these cases and the last one, and the block that they are for.
+    /// The values of these cases and the last one, and the block that they are for.
     #[cycle(statement)]
     #[tactic(auto, using(naga_words::proofs::Writing::writes_then, crate::proofs::SwitchRows::group_row))]
     fn write_group<W: TextSink>(
@@ -116,7 +116,7 @@ impl FunctionText<'_> {
         requires body { CanWriteBlock self.now body.now }
         requires scope { HasScope self.now at.old.scope (block_changes body.now) }
         ensures text { Writes W.text W.failures out.old out.new (text_at self.now at.old.scope
-            group_text at.old.indent (labels_of waiting.now) (label_form value) body.now) }
+            group_text at.old.indent (labels_of waiting.now) (case_value_form value) body.now) }
         ensures passed { PassesBlock self.now at.old at.new body.now }
         ensures same { Same at.old.scope at.new.scope }
     {
@@ -128,7 +128,7 @@ impl FunctionText<'_> {
     }
 }
 
-/// From which case on labels wait after the case with this number, in front of which those from
+/// From which case on values wait after the case with this number, in front of which those from
 /// the first one on wait.
 fn first_waiting(case: &SwitchCase, first: usize, index: usize) -> usize
     requires { index < usize.MAX }
@@ -137,10 +137,10 @@ fn first_waiting(case: &SwitchCase, first: usize, index: usize) -> usize
     if case.fall_through { first } else { index + 1 }
 }
 
-/// Whether it is the default, and no other label stands with it.
+/// Whether it is the default, and no other case value stands with it.
 #[tactic(auto, using(crate::proofs::SwitchRows::alone_row, crate::proofs::SwitchRows::signed_other, crate::proofs::SwitchRows::unsigned_other))]
 fn is_default_alone(waiting: &[SwitchCase], value: SwitchValue) -> bool
-    ensures { result ≡ stands_alone (labels_of waiting.now) (label_form value) }
+    ensures { result ≡ stands_alone (labels_of waiting.now) (case_value_form value) }
 {
     match value {
         SwitchValue::Default => waiting.is_empty(),
@@ -149,14 +149,14 @@ fn is_default_alone(waiting: &[SwitchCase], value: SwitchValue) -> bool
     }
 }
 
-/// The labels of a group up to the colon. A default that stands alone has no `case`.
+/// The values of a group up to the colon. A default that stands alone has no `case`.
 fn write_group_start<W: TextSink>(
     waiting: &[SwitchCase],
     value: SwitchValue,
     out: &mut Output<'_, W>,
 )
     ensures { Writes W.text W.failures out.old out.new
-        (group_start (labels_of waiting.now) (label_form value)) }
+        (group_start (labels_of waiting.now) (case_value_form value)) }
 {
     if is_default_alone(waiting, value) {
         out.put("default:");
@@ -164,25 +164,25 @@ fn write_group_start<W: TextSink>(
     }
     out.put("case ");
     write_waiting(waiting, out);
-    write_label(value, out);
+    write_case_value(value, out);
     out.put(":");
 }
 
-/// The labels of these cases, each with what stands between it and the next one.
+/// The values of these cases, each with what stands between it and the next one.
 #[tactic(auto, using(naga_words::proofs::Writing::loop_writes, crate::proofs::SwitchRows::waiting_more, crate::proofs::SwitchRows::waiting_none))]
 fn write_waiting<W: TextSink>(waiting: &[SwitchCase], out: &mut Output<'_, W>)
     ensures { Writes W.text W.failures out.old out.new (waiting_text (labels_of waiting.now)) }
 {
     for case in waiting {
-        write_label(case.value, out);
+        write_case_value(case.value, out);
         out.put(", ");
     }
 }
 
-/// A label. A signed number has no suffix.
-#[tactic(auto, using(crate::proofs::SwitchRows::signed_row, crate::proofs::SwitchRows::unsigned_row, crate::proofs::SwitchRows::default_label_row))]
-fn write_label<W: TextSink>(value: SwitchValue, out: &mut Output<'_, W>)
-    ensures { Writes W.text W.failures out.old out.new (label_text (label_form value)) }
+/// A case value. A signed number has no suffix.
+#[tactic(auto, using(crate::proofs::SwitchRows::signed_row, crate::proofs::SwitchRows::unsigned_row, crate::proofs::SwitchRows::default_case_value_row))]
+fn write_case_value<W: TextSink>(value: SwitchValue, out: &mut Output<'_, W>)
+    ensures { Writes W.text W.failures out.old out.new (case_value_text (case_value_form value)) }
 {
     match value {
         SwitchValue::I32(number) => write_number(number, "", out),

@@ -3,7 +3,7 @@ use Rattle.std.proofs.Common.{◌≡◌, ◌∙◌, ℕ, ◌<◌, ◌≤◌, Lis
 use Rattle.std.proofs.Common.{arith, inr, length, length-append, string_bytes, subst, sym}
 use Rattle.std.specs.Prelude.{IsTrue, OnErr, OnOk}
 use Rattle.std.specs.declared.string.String.{String}
-use Rattle.naga_words.specs.Sink.{IsBehind}
+use Rattle.naga_words.specs.Sink.{IsAfter}
 use Rattle.naga_ir.specs.declared.module.Module.{Module}
 use Rattle.naga_info.specs.declared.info.ModuleInfo.{ModuleInfo}
 use Rattle.naga_back.specs.declared.flags.WriterFlags.{WriterFlags}
@@ -21,12 +21,12 @@ use Rattle.naga_wgsl_out.specs.Writing.{AppendsItsText, written_text}
 
 -- a sink that began empty and is too long now tells that the whole text is
 pub whole_is_longer : (flags : WriterFlags) (m : Module) (info : ModuleInfo) (bound : ℕ) (answer : Result Unit Error) (content now : List ℕ) → content ≡ [] →
-    AppendsItsText m info flags answer content now → OnErr answer (IsBehind content (written_text m info flags) now) →
+    AppendsItsText m info flags answer content now → OnErr answer (IsAfter content (written_text m info flags) now) →
     bound < length now → bound < length (written_text m info flags)
-whole_is_longer flags m info bound (Ok tt) content now empty appends behind past =
+whole_is_longer flags m info bound (Ok tt) content now empty appends following past =
     omega (arith, past, ap length appends, ap length empty, length-append content (written_text m info flags))
-whole_is_longer flags m info bound (Err error) content now empty appends behind past =
-    omega (arith, past, ap length behind.2, ap length behind.3, ap length empty, length-append content behind.0, length-append behind.0 behind.1)
+whole_is_longer flags m info bound (Err error) content now empty appends following past =
+    omega (arith, past, ap length following.2, ap length following.3, ap length empty, length-append content following.0, length-append following.0 following.1)
 
 -- all that is promised of a text, under other names of the same
 text_within : (m : Module) (info : ModuleInfo) (bound : ℕ) (own flags : WriterFlags) (content held text : List ℕ) → own ≡ flags → content ≡ [] → text ≡ held →
@@ -50,9 +50,9 @@ pub answers_bounded : {Y : Type 0} (flags own : WriterFlags) (m : Module) (info 
     FaithfulWriting own m info answer content held before after →
     OnOk answer (EachReading content held (MatchesModule (annotates_types own) m info)) →
     AppendsItsText m info own answer content held →
-    OnErr answer (IsBehind content (written_text m info own) held) →
+    OnErr answer (IsAfter content (written_text m info own) held) →
     TellsBounded bound answer now result → AnswersBounded flags bound m info result
-answers_bounded flags own m info bound answer content held now before after (Ok text) same empty none taken faithful matches appends behind tells =
+answers_bounded flags own m info bound answer content held now before after (Ok text) same empty none taken faithful matches appends following tells =
     let P : Result Unit Error → Type 0 = λ a. FaithfulWriting own m info a content held before after in
     let f : FaithfulWriting own m info (Ok tt) content held before after = subst P tells.0 faithful in
     let whole : FaithfulWriting own m info (Ok tt) content held 0 0 = record { refusals = f.refusals; reading = f.reading; interface = f.interface; runs = f.runs } in
@@ -61,10 +61,10 @@ answers_bounded flags own m info bound answer content held now before after (Ok 
     (subst (λ a. OnOk a (EachReading content held (MatchesModule (annotates_types own) m info))) tells.0 matches)
     (subst (λ a. AppendsItsText m info own a content held) tells.0 appends)
     (subst (λ t. length t ≤ bound) (sym tells.1) tells.2)
-answers_bounded flags own m info bound answer content held now before after (Err limited.TooLong) same empty none taken faithful matches appends behind tells =
+answers_bounded flags own m info bound answer content held now before after (Err limited.TooLong) same empty none taken faithful matches appends following tells =
     subst (λ f. bound < length (written_text m info f)) same
-    (whole_is_longer own m info bound answer content held empty appends behind (omega (arith, tells, ap length taken)))
-answers_bounded flags own m info bound answer content held now before after (Err (limited.Refused error)) same empty none taken faithful matches appends behind tells =
+    (whole_is_longer own m info bound answer content held empty appends following (omega (arith, tells, ap length taken)))
+answers_bounded flags own m info bound answer content held now before after (Err (limited.Refused error)) same empty none taken faithful matches appends following tells =
     record {
       beginning = held;
       failures = after;
@@ -75,8 +75,8 @@ answers_bounded flags own m info bound answer content held now before after (Err
           (subst (λ c. FaithfulWriting own m info (Err error) c held before after) empty
           (subst (λ a. FaithfulWriting own m info a content held before after) tells.0 faithful)));
     }
-answers_bounded flags own m info bound answer content held now before after (Err (limited.TooDeep nested)) same empty none taken faithful matches appends behind tells = absurd tells
-answers_bounded flags own m info bound answer content held now before after (Err (limited.NotAccepted fault)) same empty none taken faithful matches appends behind tells = absurd tells
+answers_bounded flags own m info bound answer content held now before after (Err (limited.TooDeep nested)) same empty none taken faithful matches appends following tells = absurd tells
+answers_bounded flags own m info bound answer content held now before after (Err (limited.NotAccepted fault)) same empty none taken faithful matches appends following tells = absurd tells
 
 -- and so it is of one that was asked for first, and counted
 pub answers_within : {Y : Type 0} (flags : WriterFlags) (limits : Limits) (m : Module) (old new : ModuleInfo) (result : Result (String Y) LimitedError) →

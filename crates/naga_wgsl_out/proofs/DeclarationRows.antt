@@ -28,25 +28,25 @@ pub layout_row : (p : Program) →
     (declarations_of p ++ (text (functions_pieces p.functions) ++ text (entry_points_pieces p.entry_points)))
 layout_row p =
     let enables = text (enables_pieces p.enables) in
-    let behind_enables = text (group_end p.enables) in
+    let after_enables = text (group_end p.enables) in
     let structs = text (structs_pieces p.structs) in
     let constants = text (constants_pieces p.constants) in
-    let behind_constants = text (group_end p.constants) in
+    let after_constants = text (group_end p.constants) in
     let overrides = text (overrides_pieces p.overrides) in
-    let behind_overrides = text (group_end p.overrides) in
+    let after_overrides = text (group_end p.overrides) in
     let globals = text (globals_pieces p.globals) in
-    let behind_globals = text (group_end p.globals) in
+    let after_globals = text (group_end p.globals) in
     let last = text (functions_pieces p.functions) ++ text (entry_points_pieces p.entry_points) in
     program_text p
     ∙ sym
-    (append_assoc enables behind_enables (declarations_of p ++ last)
-    ∙ ap (λ t. enables ++ (behind_enables ++ t))
-    (append_assoc structs ((constants ++ behind_constants) ++ ((overrides ++ behind_overrides) ++ (globals ++ behind_globals))) last
+    (append_assoc enables after_enables (declarations_of p ++ last)
+    ∙ ap (λ t. enables ++ (after_enables ++ t))
+    (append_assoc structs ((constants ++ after_constants) ++ ((overrides ++ after_overrides) ++ (globals ++ after_globals))) last
     ∙ ap (λ t. structs ++ t)
-    (append_assoc (constants ++ behind_constants) ((overrides ++ behind_overrides) ++ (globals ++ behind_globals)) last
-    ∙ (append_assoc constants behind_constants (((overrides ++ behind_overrides) ++ (globals ++ behind_globals)) ++ last)
-    ∙ ap (λ t. constants ++ (behind_constants ++ t))
-    (append_assoc (overrides ++ behind_overrides) (globals ++ behind_globals) last
-    ∙ (append_assoc overrides behind_overrides ((globals ++ behind_globals) ++ last)
-    ∙ ap (λ t. overrides ++ (behind_overrides ++ t))
-    (append_assoc globals behind_globals last)))))))
+    (append_assoc (constants ++ after_constants) ((overrides ++ after_overrides) ++ (globals ++ after_globals)) last
+    ∙ (append_assoc constants after_constants (((overrides ++ after_overrides) ++ (globals ++ after_globals)) ++ last)
+    ∙ ap (λ t. constants ++ (after_constants ++ t))
+    (append_assoc (overrides ++ after_overrides) (globals ++ after_globals) last
+    ∙ (append_assoc overrides after_overrides ((globals ++ after_globals) ++ last)
+    ∙ ap (λ t. overrides ++ (after_overrides ++ t))
+    (append_assoc globals after_globals last)))))))

@@ -11,7 +11,7 @@ use Rattle.naga_words.specs.Output.{joined_texts}
 use Rattle.module_meaning.specs.Enables.{Extension, extensions}
 use Rattle.naga_wgsl_out.specs.declared.enables.Enables.{Enables}
 use Rattle.naga_wgsl_out.specs.Enables.{enables_of, enables_text, end_text, is_any, line_text}
-use Rattle.naga_wgsl_out.specs.Enables.{is_any_behind}
+use Rattle.naga_wgsl_out.specs.Enables.{is_any_after}
 use Rattle.naga_wgsl_out.specs.Enables.{words_among, words_found}
 
 pub line_row : (word : List ℕ) → line_text true word ≡ joined_texts (codes "enable ") (joined_texts word (codes ";\n"))
@@ -19,25 +19,25 @@ unfolding joined_texts
 line_row word = refl
 
 -- the lines of these, and what stands after them
-lines_text : (rows : List (Bool × List ℕ)) → (behind : List ℕ) → List ℕ
-lines_text [] behind = behind
-lines_text (row ∷ rows) behind = joined_texts (line_text row.0 row.1) (lines_text rows behind)
+lines_text : (rows : List (Bool × List ℕ)) → (following : List ℕ) → List ℕ
+lines_text [] following = following
+lines_text (row ∷ rows) following = joined_texts (line_text row.0 row.1) (lines_text rows following)
 
-lines_are : (rows : List (Bool × List ℕ)) (behind : List ℕ) →
-    text (enables_pieces (words_among rows)) ++ behind ≡ lines_text rows behind
+lines_are : (rows : List (Bool × List ℕ)) (following : List ℕ) →
+    text (enables_pieces (words_among rows)) ++ following ≡ lines_text rows following
 unfolding lines_text joined_texts
-lines_are [] behind = refl
-lines_are (row ∷ rows) behind = by row.0 (lines_are rows behind)
+lines_are [] following = refl
+lines_are (row ∷ rows) following = by row.0 (lines_are rows following)
   where
-    by : (found : Bool) → text (enables_pieces (words_among rows)) ++ behind ≡ lines_text rows behind →
-        text (enables_pieces (if found then row.1 ∷ words_among rows else words_among rows)) ++ behind ≡
-        line_text found row.1 ++ lines_text rows behind
+    by : (found : Bool) → text (enables_pieces (words_among rows)) ++ following ≡ lines_text rows following →
+        text (enables_pieces (if found then row.1 ∷ words_among rows else words_among rows)) ++ following ≡
+        line_text found row.1 ++ lines_text rows following
     by true is =
         let more = text (enables_pieces (words_among rows)) in
         ap (λ t. codes "enable " ++ t)
-        (append_assoc row.1 (codes ";\n" ++ more) behind
+        (append_assoc row.1 (codes ";\n" ++ more) following
         ∙ (ap (λ t. row.1 ++ (codes ";\n" ++ t)) is
-        ∙ sym (append_assoc row.1 (codes ";\n") (lines_text rows behind))))
+        ∙ sym (append_assoc row.1 (codes ";\n") (lines_text rows following))))
     by false is = is
 
 end_is : (rows : List (Bool × List ℕ)) → text (group_end (words_among rows)) ≡ end_text (list_any (λ row. row.0) rows)
@@ -53,7 +53,7 @@ end_is (row ∷ rows) = by row.0 (end_is rows)
 
 -- that there is some among them, asked from the left
 any_is : (one : Bool) (rows : List (Bool × List ℕ)) →
-    is_any_behind one rows ≡ (one || list_any (λ row. row.0) rows)
+    is_any_after one rows ≡ (one || list_any (λ row. row.0) rows)
 any_is one [] = sym (or-false one)
 any_is one (row ∷ rows) = any_is (one || row.0) rows ∙ or_assoc one row.0 (list_any (λ row. row.0) rows)
 

@@ -19,7 +19,7 @@ use Rattle.naga_scope.specs.ExpressionNames.{NamesLabels}
 use Rattle.naga_scope.specs.Plans.{AreExpressionNames, IsPlanOf, Planned}
 use Rattle.naga_info.specs.declared.info.ModuleInfo.{ModuleInfo}
 use Rattle.naga_wgsl_fns.specs.Refusals.{ExpressionNamesAreFullIn}
-use Rattle.naga_wgsl_fns.proofs.ExpressionNames.{named_are, none_full as none_full_behind}
+use Rattle.naga_wgsl_fns.proofs.ExpressionNames.{named_are, none_full as none_full_after}
 use Rattle.naga_wgsl_out.specs.ModuleRefusals.{HasNamedBefore}
 use Rattle.naga_wgsl_out.specs.Writing.{IsNamedPlan}
 
@@ -70,7 +70,7 @@ module _ (m : Module) where
   pub none_full : (g : ℕ) (namer : Names) → g < length (all_functions m) → HasNamedBefore m (g + 1) namer →
       ExpressionNamesAreFullIn m (labels_before m g) g → ⊥
   none_full g namer lt before full =
-      none_full_behind m g (labels_before m g) namer before.words
+      none_full_after m g (labels_before m g) namer before.words
       (subst (HasNamed namer) (sym (next_before g lt)) before.labels) full
 
   -- nor is one of a function that is not there

@@ -21,11 +21,11 @@ use Rattle.wgsl_text.specs.Reading.{Reads, HasOneReading}
 use Rattle.wgsl_text.specs.Text.{tokens}
 use Rattle.wgsl_text.proofs.Reading.{program_has_one_reading}
 use Rattle.module_meaning.specs.Faithful.{HasInterfaceOf, RunsAs}
-use Rattle.naga_form.proofs.statements.Bindings.{binds_as}
+use Rattle.naga_form.proofs.statements.WrittenLets.{binds_as}
 use Rattle.naga_form.proofs.Runs.{runs_as}
-use Rattle.naga_words.specs.Sink.{IsBehind}
-use Rattle.naga_words.proofs.Writing.{behind_then}
-use Rattle.naga_wgsl_fns.proofs.SingleFunctions.{same_behind}
+use Rattle.naga_words.specs.Sink.{IsAfter}
+use Rattle.naga_words.proofs.Writing.{after_then}
+use Rattle.naga_wgsl_fns.proofs.SingleFunctions.{same_following}
 use Rattle.naga_wgsl_fns.proofs.Appending.{stopped_first, stopped_then, wrote_then}
 use Rattle.naga_wgsl_fns.specs.Appends.{StoppedWithin, Wrote}
 use Rattle.naga_wgsl_fns.specs.Errors.{IsWant}
@@ -37,7 +37,7 @@ use Rattle.naga_wgsl_out.specs.Writing.{HasPlan, MetNoPlan, WritesFunctions, Wro
 use Rattle.naga_wgsl_out.specs.Writing.{WroteFunctionsBefore, front_text, lines_before}
 use Rattle.naga_wgsl_out.specs.Writing.{module_lines}
 use Rattle.naga_wgsl_out.specs.Writing.{AppendsItsText, written_text}
-use Rattle.naga_wgsl_out.proofs.Functions.{lines_behind, lines_split, written_lines}
+use Rattle.naga_wgsl_out.proofs.Functions.{lines_after, lines_split, written_lines}
 use Rattle.naga_wgsl_out.proofs.ModuleScopes.{all_planned_counted, all_planned_formed}
 use Rattle.naga_wgsl_out.proofs.ModuleScopes.{all_planned_hold}
 use Rattle.naga_wgsl_out.proofs.ModuleScopes.{fault_refuses, fault_reported}
@@ -52,21 +52,21 @@ use Rattle.naga_wgsl_out.specs.Leaving.{Leaves, LeavesOnError}
 use Rattle.naga_wgsl_out.specs.Unwritable.{TellsFirst}
 
 -- where nothing was written
-behind_nothing : (content piece : List ℕ) → IsBehind content piece content
-behind_nothing content piece = ([], piece, refl, sym (append-nil content))
+after_nothing : (content piece : List ℕ) → IsAfter content piece content
+after_nothing content piece = ([], piece, refl, sym (append-nil content))
 
 -- what an error leaves: where it tells that a key is out of range it comes before any text
 on_error : (flags : WriterFlags) (m : Module) (info : ModuleInfo) (error : Error)
     (content now : List ℕ) (before after : ℕ) →
-    IsBehind content (written_text m info flags) now → (ComesBeforeText m error → now ≡ content) →
+    IsAfter content (written_text m info flags) now → (ComesBeforeText m error → now ≡ content) →
     (TellsOfFunction m error →
     WroteFunctionsBefore m info flags (content ++ front_text m info flags) now) →
     (TellsOfModule error → after ≡ before) →
     (TellsOfModule error → TellsFirst (annotates_types flags) m info error) →
     LeavesOnError flags m info error content now before after
-on_error flags m info error content now before after behind untouched written_before unfailed told =
+on_error flags m info error content now before after following untouched written_before unfailed told =
     record {
-      behind = behind;
+      following = following;
       untouched = untouched;
       keys = λ of. untouched (keys_come_first m error of);
       written_before = written_before;
@@ -83,16 +83,16 @@ pub leaves_untouched : (flags : WriterFlags) (m : Module) (info : ModuleInfo) (c
 leaves_untouched flags m info content failed (Ok x) error is none told = refl
 leaves_untouched flags m info content failed (Err e) error is none told =
     subst (λ e. LeavesOnError flags m info e content content failed failed) (sym is)
-    (on_error flags m info error content content failed failed (behind_nothing content _)
+    (on_error flags m info error content content failed failed (after_nothing content _)
     (λ first. refl) (λ of. absurd (none of)) (λ of. refl) told)
 
 -- it leaves a beginning of the text
 pub leaves_beginning : (flags : WriterFlags) (m : Module) (info : ModuleInfo)
     (r : Result Unit Error) (content now : List ℕ) (before after : ℕ) →
     Leaves flags m info r content now before after →
-    OnErr r (IsBehind content (written_text m info flags) now)
+    OnErr r (IsAfter content (written_text m info flags) now)
 leaves_beginning flags m info (Ok x) content now before after leaves = tt
-leaves_beginning flags m info (Err e) content now before after leaves = leaves.behind
+leaves_beginning flags m info (Err e) content now before after leaves = leaves.following
 
 -- a refusal
 pub refused : (flags : WriterFlags) (m : Module) (info : ModuleInfo) (error : Error)
@@ -164,7 +164,7 @@ module _ (m : Module) (info : ModuleInfo) (flags : WriterFlags)
   each : AllPlanned → (content now : List ℕ) → now ≡ content ++ written_text m info flags →
       (Q : Program → Type 0) → Q program → EachReading content now Q
   each planned content now appended Q holds text is other reads =
-      let same = same_behind content text (written_text m info flags) (sym is ∙ appended) in
+      let same = same_following content text (written_text m info flags) (sym is ∙ appended) in
       subst Q (sym ((one planned).only other
       (subst (λ t. Reads (tokens t) other) same reads))) holds
 
@@ -200,7 +200,7 @@ module _ (m : Module) (info : ModuleInfo) (flags : WriterFlags)
       leaves =
           let none : TellsOfModule e → ⊥ = want_tells_nothing e before after s.reason in
           on_error flags m info e content now before after
-          (subst (λ t. IsBehind content t now) same_text s.behind)
+          (subst (λ t. IsAfter content t now) same_text s.following)
           (λ first. absurd (none first.0))
           (λ of. absurd (none (function_tells_of_module m e of)))
           (λ of. absurd (none of)) (λ of. absurd (none of));
@@ -264,10 +264,10 @@ module _ (m : Module) (info : ModuleInfo) (flags : WriterFlags)
         text = tt;
         leaves =
             on_error flags m info e content now before after
-            (subst (λ t. IsBehind content t now) same_text
-            (behind_then content front middle (module_lines m info flags) now stands.appended (
+            (subst (λ t. IsAfter content t now) same_text
+            (after_then content front middle (module_lines m info flags) now stands.appended (
               lines_before m info flags s.before.handle,
-              lines_behind m info flags s.before.handle,
+              lines_after m info flags s.before.handle,
               sym (lines_split m info flags s.before.handle),
               s.before.written,
             )))

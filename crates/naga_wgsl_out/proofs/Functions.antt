@@ -58,7 +58,7 @@ use Rattle.naga_wgsl_out.proofs.DeclarationRows.{layout_row}
 use Rattle.naga_wgsl_out.specs.ModuleRefusals.{HasNamedBefore}
 use Rattle.naga_wgsl_out.specs.Writing.{HasNoPlan, HasPlan, IsNamedPlan, MetNoPlan}
 use Rattle.naga_wgsl_out.specs.Writing.{WritesFunctions, WritesNext, WroteFunctions, WroteNext}
-use Rattle.naga_wgsl_out.specs.Writing.{front_text, line_at, line_behind}
+use Rattle.naga_wgsl_out.specs.Writing.{front_text, line_at, line_after}
 use Rattle.naga_wgsl_out.specs.Writing.{line_of, lines_before, lines_of, module_lines, written_text}
 use Rattle.naga_wgsl_out.proofs.ExpressionNames.{named_plan, none_full}
 use Rattle.naga_wgsl_fns.proofs.PlanRefusals.{fault_fails}
@@ -81,9 +81,9 @@ module _ (m : Module) (info : ModuleInfo) (flags : WriterFlags)
   lines_are : (g : ℕ) (f : Function) (ty : FunctionType) (stage : Option EntryPoint) →
       function_type m g ≡ ty → entry_point_numbered m g ≡ stage →
       line_of m info flags (g, f) ≡
-      (option_map_or (stage_text m) stage [] ++ own_text g f (known_of info g)) ++ line_behind m ty
+      (option_map_or (stage_text m) stage [] ++ own_text g f (known_of info g)) ++ line_after m ty
   lines_are g f ty stage ty_is is =
-      λ i. (option_map_or (stage_text m) (is i) [] ++ own_text g f (known_of info g)) ++ line_behind m (ty_is i)
+      λ i. (option_map_or (stage_text m) (is i) [] ++ own_text g f (known_of info g)) ++ line_after m (ty_is i)
 
   function_line : (h : ℕ) (f : Function) → h < length m.functions →
       line_of m info flags (h, f) ≡ own_text h f (known_of info h) ++ codes "\n"
@@ -93,7 +93,7 @@ module _ (m : Module) (info : ModuleInfo) (flags : WriterFlags)
   entry_point_line : (j : ℕ) (p : EntryPoint) → slice_get m.entry_points.items j ≡ Some p →
       line_of m info flags (length m.functions + j, p.function) ≡
       (stage_text m p ++ own_text (length m.functions + j) p.function (known_of info (length m.functions + j)))
-      ++ line_behind m (item.EntryPoint j)
+      ++ line_after m (item.EntryPoint j)
   entry_point_line j p at =
       lines_are (length m.functions + j) p.function (item.EntryPoint j) (Some p)
       (type_of_entry_point m j) (entry_point_at m j ∙ at)
@@ -110,9 +110,9 @@ module _ (m : Module) (info : ModuleInfo) (flags : WriterFlags)
   functions_text g (f ∷ fs) (es ∷ ess) within size known =
       let here : g + 0 ≡ g = omega arith in
       let same : known_of info g ≡ es = ap (known_of info) (sym here) ∙ known 0 es refl in
-      let behind = functions_pieces (functions_form flags (module_names m) m info (g + 1) fs ess) in
+      let following = functions_pieces (functions_form flags (module_names m) m info (g + 1) fs ess) in
       let more = lines_of m info flags (enumerate_from (g + 1) fs) in
-      text-append (function_pieces (function_form flags (module_names m) (expression_name m g) m info g f es)) (LineEnd ∷ behind)
+      text-append (function_pieces (function_form flags (module_names m) (expression_name m g) m info g f es)) (LineEnd ∷ following)
       ∙ (ap (λ rest. own_text g f es ++ (10 ∷ rest)) (functions_text (g + 1) fs ess (omega (arith, within)) (ap pred size) (later g ess es known))
       ∙ (ap (λ ks. own_text g f ks ++ (10 ∷ more)) (sym same)
       ∙ (sym (append_assoc (own_text g f (known_of info g)) (codes "\n") more)
@@ -176,16 +176,16 @@ module _ (m : Module) (info : ModuleInfo) (flags : WriterFlags)
       let all : (j + 1) + length (q ∷ ps) ≡ length m.entry_points.items = omega (arith, counted) in
       let next : length m.functions + (j + 1) ≡ (length m.functions + j) + 1 = omega arith in
       let point = entry_point_pieces (entry_point_form flags (module_names m) m info (length m.functions + j) p es) in
-      let behind : ℕ → List Piece = λ h. entry_points_pieces (entry_points_form flags (module_names m) m info h (q ∷ ps) (ks ∷ ess)) in
-      let rest : text (behind ((length m.functions + j) + 1)) ≡ lines_of m info flags (enumerate_from ((length m.functions + j) + 1) (entry_functions (q ∷ ps))) =
+      let following : ℕ → List Piece = λ h. entry_points_pieces (entry_points_form flags (module_names m) m info h (q ∷ ps) (ks ∷ ess)) in
+      let rest : text (following ((length m.functions + j) + 1)) ≡ lines_of m info flags (enumerate_from ((length m.functions + j) + 1) (entry_functions (q ∷ ps))) =
       subst
-      (λ h. text (behind h) ≡ lines_of m info flags (enumerate_from h (entry_functions (q ∷ ps)))) next
+      (λ h. text (following h) ≡ lines_of m info flags (enumerate_from h (entry_functions (q ∷ ps)))) next
       (points_text (j + 1) (q ∷ ps) (ks ∷ ess) (ap pred size) all
       (λ i r at. let moved : j + suc i ≡ (j + 1) + i = omega arith in ap (slice_get m.entry_points.items) (sym moved) ∙ there (suc i) r at)
       (λ i rs at. let moved : length m.functions + (j + suc i) ≡ length m.functions + ((j + 1) + i) = omega arith in
       subst (λ h. known_of info h ≡ rs) moved (known (suc i) rs at))) in
-      text-append point (LineEnd ∷ behind ((length m.functions + j) + 1))
-      ∙ (sym (append_assoc (text point) (codes "\n") (text (behind ((length m.functions + j) + 1))))
+      text-append point (LineEnd ∷ following ((length m.functions + j) + 1))
+      ∙ (sym (append_assoc (text point) (codes "\n") (text (following ((length m.functions + j) + 1))))
       ∙ (λ i. point_line j p es true (there 0 p refl) (known 0 es refl)
       (lt-ltb (j + 1) (length m.entry_points.items) more) i ++ rest i))
 
@@ -299,12 +299,12 @@ up_to_none m info flags content failed namer named = record {
 }
 
 -- the functions from this one on
-abbrev pub lines_behind : Module → ModuleInfo → WriterFlags → (n : ℕ) → List ℕ
-lines_behind m info flags n = lines_of m info flags (drop n (enumerate_from 0 (all_functions m)))
+abbrev pub lines_after : Module → ModuleInfo → WriterFlags → (n : ℕ) → List ℕ
+lines_after m info flags n = lines_of m info flags (drop n (enumerate_from 0 (all_functions m)))
 
 -- all functions are those in front of one and the others
 pub lines_split : (m : Module) (info : ModuleInfo) (flags : WriterFlags) (n : ℕ) →
-    lines_before m info flags n ++ lines_behind m info flags n ≡ module_lines m info flags
+    lines_before m info flags n ++ lines_after m info flags n ≡ module_lines m info flags
 lines_split m info flags n =
     let all = enumerate_from 0 (all_functions m) in
     sym (flat_map-append (line_of m info flags) (take n all) (drop n all))
@@ -347,10 +347,10 @@ module _ (m : Module) (info : ModuleInfo) (flags : WriterFlags) {n : ℕ} {conte
     line_is =
         let found = (at_enumerated 0 (all_functions m) n here below stands).1 in
         ap (λ g. text_of m info flags (expression_name m g) g here.1 (known_of info g)
-        ++ line_behind m (function_type m g)) number_is
+        ++ line_after m (function_type m g)) number_is
         ∙ ap (λ o. option_map_or
         (λ f. text_of m info flags (expression_name m n) n f (known_of info n)) o []
-        ++ line_behind m (function_type m n)) (sym found)
+        ++ line_after m (function_type m n)) (sym found)
 
     one_more_line : lines_before m info flags n ++ line ≡ lines_before m info flags (n + 1)
     one_more_line =
@@ -361,11 +361,11 @@ module _ (m : Module) (info : ModuleInfo) (flags : WriterFlags) {n : ℕ} {conte
         (ap (λ q. take n all ++ q ∷ []) stands ∙ sym (take_more all n here below)))
 
     -- and those after it
-    line_then : line ++ lines_behind m info flags (n + 1) ≡ lines_behind m info flags n
+    line_then : line ++ lines_after m info flags (n + 1) ≡ lines_after m info flags n
     line_then =
         let split : drop n all ≡ get_or all n here ∷ drop (n + 1) all =
         rw add-one (drop-cons all n here below) in
-        ap (λ t. t ++ lines_behind m info flags (n + 1)) (sym line_is)
+        ap (λ t. t ++ lines_after m info flags (n + 1)) (sym line_is)
         ∙ sym (ap (lines_of m info flags) split
         ∙ ap (λ q. lines_of m info flags (q ∷ drop (n + 1) all)) (sym stands))
 
@@ -387,7 +387,7 @@ module _ (m : Module) (info : ModuleInfo) (flags : WriterFlags) {n : ℕ} {conte
     stopped_here {error} {now} {failures} stopped =
         let whole = ap (λ t. lines_before m info flags n ++ t) line_then ∙ lines_split m info flags n in
         subst (λ t. StoppedWithin content failed t now failures error) whole
-        (stopped_then so_far.wrote (stopped_first (lines_behind m info flags (n + 1)) stopped))
+        (stopped_then so_far.wrote (stopped_first (lines_after m info flags (n + 1)) stopped))
 
     -- it has no plan
     unplanned : {error : Error} {now : List ℕ} {failures : ℕ} →
@@ -433,7 +433,7 @@ module _ (m : Module) (info : ModuleInfo) (flags : WriterFlags) (n : ℕ) (conte
       StoppedWithin content failed (line_at m info flags n) content failed error
       ⊎ HasNoPlan m info flags n content failed content failed error
   no_plan (Memory e) refusal = inl (record {
-    behind = ([], line_at m info flags n, refl, sym (append-nil content));
+    following = ([], line_at m info flags n, refl, sym (append-nil content));
     reason = tt;
   })
   no_plan _ refusal =

@@ -1,4 +1,4 @@
-pub mod FormlessTexts
+pub mod UnsupportedTexts
 pub mod EnableRows
 pub mod FoundEnables
 pub mod ModuleScopes

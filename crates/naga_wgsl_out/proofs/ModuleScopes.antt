@@ -25,25 +25,25 @@ use Rattle.module_meaning.specs.Names.{labels_before}
 use Rattle.naga_wgsl_fns.specs.declared.refusals.error.Error.{Error}
 use Rattle.naga_wgsl_fns.specs.declared.refusals.error.Error.TheVariants.{Custom, FmtError, Memory}
 use Rattle.naga_wgsl_fns.specs.Refusals.{IsFault, IsWritableAt}
-use Rattle.naga_wgsl_fns.specs.Refusals.{HasFormlessIn}
+use Rattle.naga_wgsl_fns.specs.Refusals.{HasUnsupportedIn}
 use Rattle.naga_wgsl_fns.specs.DeclarationRefusals.{NamesDeclaration}
 use Rattle.naga_wgsl_fns.specs.DeclarationRefusals.NamesDeclaration.{OfHead, OfInitialiser}
 use Rattle.naga_wgsl_fns.specs.DeclarationRefusals.NamesDeclaration.{OfMember}
 use Rattle.naga_wgsl_fns.specs.DeclarationRefusals.NamesDeclaration.{OfOffsets, OfStride}
 use Rattle.naga_wgsl_fns.specs.DeclarationRefusals.NamesDeclaration.{OfType as OfDeclaredType}
 use Rattle.naga_wgsl_fns.specs.DeclarationRefusals.NamesHead.{OfBinding, OfStage}
-use Rattle.naga_wgsl_fns.specs.Refusals.{NamesFormless}
+use Rattle.naga_wgsl_fns.specs.Refusals.{NamesUnsupported}
 use Rattle.naga_wgsl_fns.specs.Refusals.{TellsOfModule}
 use Rattle.naga_wgsl_fns.proofs.PlanRefusals.{declaration_is_no_sink, named, planned_holds}
-use Rattle.naga_wgsl_out.proofs.FormlessTexts.{of_expression, of_statement, of_type}
+use Rattle.naga_wgsl_out.proofs.UnsupportedTexts.{of_expression, of_statement, of_type}
 use Rattle.naga_wgsl_out.specs.ModuleRefusals.{IsRefusal, ItemsAreFull, TellsOfFunction}
 use Rattle.naga_wgsl_out.specs.Writing.{HasPlan}
 
 -- ---- a list of functions and its reverse
-turned : (fs behind : List Function) → EachScopeHolds fs → EachScopeHolds behind →
-    EachScopeHolds (reverse_aux fs behind)
-turned [] behind each rest = rest
-turned (f ∷ fs) behind each rest = turned fs (f ∷ behind) each.1 (each.0, rest)
+turned : (fs following : List Function) → EachScopeHolds fs → EachScopeHolds following →
+    EachScopeHolds (reverse_aux fs following)
+turned [] following each rest = rest
+turned (f ∷ fs) following each rest = turned fs (f ∷ following) each.1 (each.0, rest)
 
 each_from : (fs : List Function) → ((i : ℕ) → i < length fs → IfSome (slice_get fs i) ScopeHolds) →
     EachScopeHolds fs
@@ -102,7 +102,7 @@ all_planned_formed explicit m info planned g f known at is =
 -- ---- functions without one
 module _ (m : Module) (declarations : DeclarationsHaveForms m) where
   expression_reported : (info : ModuleInfo) (i : ℕ) (error : Error) →
-      NamesFormless m info i error → TellsOfModule error → TellsOfFunction m error
+      NamesUnsupported m info i error → TellsOfModule error → TellsOfFunction m error
   expression_reported info i error n tells =
       let at = named m info i error n in
       record {
@@ -110,14 +110,14 @@ module _ (m : Module) (declarations : DeclarationsHaveForms m) where
         tells = inr (inl (of_expression error tells m n.known n.function.expressions at.0 at.3));
       }
 
-  formless_reported : (explicit : Bool) (info : ModuleInfo) (i : ℕ) (error : Error) →
-      HasFormlessIn explicit m info i error → TellsOfModule error → TellsOfFunction m error
-  formless_reported explicit info i error (inl n) tells = expression_reported info i error n tells
-  formless_reported explicit info i error (inr (inl n)) tells = record {
+  unsupported_reported : (explicit : Bool) (info : ModuleInfo) (i : ℕ) (error : Error) →
+      HasUnsupportedIn explicit m info i error → TellsOfModule error → TellsOfFunction m error
+  unsupported_reported explicit info i error (inl n) tells = expression_reported info i error n tells
+  unsupported_reported explicit info i error (inr (inl n)) tells = record {
     declarations = declarations;
     tells = inr (inl (of_type error tells m n.type n.named));
   }
-  formless_reported explicit info i error (inr (inr n)) tells = record {
+  unsupported_reported explicit info i error (inr (inr n)) tells = record {
     declarations = declarations;
     tells = inr (inl (of_statement error tells n.statement n.named));
   }
@@ -129,8 +129,8 @@ module _ (explicit : Bool) (m : Module) (info : ModuleInfo) (i : ℕ) where
       TellsOfFunction m error
   fault_reported declarations items error tells (inl scope) =
       record { declarations = declarations; tells = inl scope.0 }
-  fault_reported declarations items error tells (inr (inl formless)) =
-      formless_reported m declarations explicit info i error formless tells
+  fault_reported declarations items error tells (inr (inl unsupported)) =
+      unsupported_reported m declarations explicit info i error unsupported tells
   fault_reported declarations items error tells (inr (inr full)) =
       record { declarations = declarations; tells = inr (inr (full.0, items)) }
 
@@ -141,12 +141,12 @@ module _ (explicit : Bool) (m : Module) (info : ModuleInfo) (i : ℕ) where
   fault_refuses before after (Memory e) tells fault = absurd tells
   fault_refuses before after (Custom message) tells (inl scope) =
       inr (inl (scope.0, (i, scope.1)))
-  fault_refuses before after (Custom message) tells (inr (inl formless)) =
-      inr (inr (inr (i, formless)))
+  fault_refuses before after (Custom message) tells (inr (inl unsupported)) =
+      inr (inr (inr (i, unsupported)))
   fault_refuses before after (Custom message) tells (inr (inr full)) =
       inl (inl (full.0, inr (i, full.1)))
   fault_refuses before after _ tells (inl scope) = absurd scope.0
-  fault_refuses before after _ tells (inr (inl formless)) = inr (i, formless)
+  fault_refuses before after _ tells (inr (inl unsupported)) = inr (i, unsupported)
   fault_refuses before after _ tells (inr (inr full)) = absurd full.0
 
 -- ---- declarations without a form
@@ -162,16 +162,16 @@ declaration_refuses explicit m info before after _ named = inl named
 -- and tells of no function
 pub declaration_tells_of_none : (m : Module) (error : Error) → NamesDeclaration m error →
     TellsOfFunction m error → ⊥
-declaration_tells_of_none m error (OfDeclaredType ty is formless named) of =
-    false≢true (sym formless ∙ of.declarations.types ty is)
-declaration_tells_of_none m error (OfInitialiser h is formless named) of =
-    false≢true (sym formless ∙ of.declarations.initialisers h is)
-declaration_tells_of_none m error (OfMember b is formless named) of =
-    false≢true (sym formless ∙ of.declarations.members b is)
-declaration_tells_of_none m error (OfHead number (OfBinding f b at is formless named)) of =
-    false≢true (sym formless ∙ (of.declarations.heads number).bindings f at b is)
-declaration_tells_of_none m error (OfHead number (OfStage p at formless named)) of =
-    false≢true (sym formless ∙ (of.declarations.heads number).stage p at)
+declaration_tells_of_none m error (OfDeclaredType ty is unsupported named) of =
+    false≢true (sym unsupported ∙ of.declarations.types ty is)
+declaration_tells_of_none m error (OfInitialiser h is unsupported named) of =
+    false≢true (sym unsupported ∙ of.declarations.initialisers h is)
+declaration_tells_of_none m error (OfMember b is unsupported named) of =
+    false≢true (sym unsupported ∙ of.declarations.members b is)
+declaration_tells_of_none m error (OfHead number (OfBinding f b at is unsupported named)) of =
+    false≢true (sym unsupported ∙ (of.declarations.heads number).bindings f at b is)
+declaration_tells_of_none m error (OfHead number (OfStage p at unsupported named)) of =
+    false≢true (sym unsupported ∙ (of.declarations.heads number).stage p at)
 declaration_tells_of_none m error (OfOffsets h fault is named) of =
     of.declarations.offsets h fault is
 declaration_tells_of_none m error (OfStride h ty is named) of = of.declarations.strides h ty is

@@ -54,7 +54,7 @@ use Rattle.naga_wgsl_out.specs.Unwritable.{IsUnspelled, IsWritable, LabelsGetNam
 use Rattle.naga_wgsl_out.specs.Unwritable.{StandsAtPart, StandsIn, StandsInFunction, StandsInLabels}
 use Rattle.naga_wgsl_out.specs.Unwritable.{TellsFirst, TellsRefusalOf, place_at}
 use Rattle.naga_wgsl_out.specs.declared.unwritable.Refusal.{Refusal}
-use Rattle.naga_wgsl_out.specs.declared.unwritable.RefusalPlace.TheVariants as place
+use Rattle.naga_wgsl_out.specs.declared.unwritable.RefusalPosition.TheVariants as position
 use Rattle.naga_back.specs.declared.context.FunctionType.{FunctionType}
 use Rattle.naga_back.specs.declared.context.FunctionType.TheVariants as item
 use Rattle.naga_wgsl_out.specs.Writing.{HasPlan}
@@ -280,13 +280,13 @@ labels_stand m (namer_error.Memory e) it refused told other = absurd cc
 pub labels_told : (explicit : Bool) (m : Module) (info : ModuleInfo) (error : Error) → DeclarationsHaveForms m →
     IsNamesRefusal m error → TellsOfModule error → TellsFirst explicit m info error
 labels_told explicit m info (Custom message) declarations (inl is) of = record {
-  refusal = record { construct = construct.FullNamer; place = place.Labels };
+  refusal = record { construct = construct.FullNamer; place = position.Labels };
   stands = inl (is.1, λ error told. told);
   first = declarations;
   told = is.0;
 }
 labels_told explicit m info (Custom message) declarations (inr is) of = record {
-  refusal = record { construct = construct.NameKey; place = place.Labels };
+  refusal = record { construct = construct.NameKey; place = position.Labels };
   stands = inr (is.1, λ error told. told);
   first = declarations;
   told = is.0;

@@ -2,7 +2,8 @@
 --
 -- Throughout, m is a module, h the handle of a variable v of it, and access what may be done with what
 -- lives in a space.
-use Rattle.std.proofs.Common.{◌≡◌, ◌∙◌, ◌++◌, ◌==◌, ℕ, Bool, true, false, List, [], ◌∷◌, append_assoc}
+use Rattle.std.proofs.Common.{◌≡◌, ◌∙◌, ◌++◌, ◌==◌, ℕ, Bool, true, false, List, [], ◌∷◌}
+use Rattle.std.proofs.Common.{append_assoc}
 use Rattle.std.proofs.Common.{ap, codes, decimal, length, map, refl, slice_get, sym}
 use Rattle.std.specs.List.{enumerate_from}
 use Rattle.std.specs.Prelude.{IsTrue, None, Option, Some}
@@ -29,7 +30,7 @@ use Rattle.naga_words.specs.Output.{joined_texts}
 use Rattle.wgsl_text.proofs.Declarations.{globals_text as globals_row_text}
 use Rattle.wgsl_text.proofs.Text.{text-append}
 use Rattle.wgsl_text.specs.Attributes.{Attribute, Coherent, Plain, Volatile, attribute_pieces}
-use Rattle.wgsl_text.specs.Declarations.{Global, behind_attribute, global_attributes_pieces}
+use Rattle.wgsl_text.specs.Declarations.{Global, after_attribute, global_attributes_pieces}
 use Rattle.wgsl_text.specs.Declarations.{globals_pieces, space_pieces}
 use Rattle.wgsl_text.specs.Token.{Piece}
 use Rattle.wgsl_text.specs.Text.{text}
@@ -88,11 +89,11 @@ decorations_are false false = refl
 
 -- attributes in front of others
 in_front : (a : Attribute) (pieces : List Piece) →
-    text (attribute_pieces a ++ (behind_attribute a ++ pieces)) ≡
-    text (attribute_pieces a) ++ (text (behind_attribute a) ++ text pieces)
+    text (attribute_pieces a ++ (after_attribute a ++ pieces)) ≡
+    text (attribute_pieces a) ++ (text (after_attribute a) ++ text pieces)
 in_front a pieces =
-    text-append (attribute_pieces a) (behind_attribute a ++ pieces)
-    ∙ ap (λ t. text (attribute_pieces a) ++ t) (text-append (behind_attribute a) pieces)
+    text-append (attribute_pieces a) (after_attribute a ++ pieces)
+    ∙ ap (λ t. text (attribute_pieces a) ++ t) (text-append (after_attribute a) pieces)
 
 global_attributes_then : (list more : List Attribute) →
     text (global_attributes_pieces (list ++ more)) ≡
@@ -100,15 +101,15 @@ global_attributes_then : (list more : List Attribute) →
 global_attributes_then [] more = refl
 global_attributes_then (a ∷ list) more =
     let first = text (attribute_pieces a) in
-    let behind = text (behind_attribute a) in
+    let following = text (after_attribute a) in
     let left = text (global_attributes_pieces list) in
     let last = text (global_attributes_pieces more) in
     in_front a (global_attributes_pieces (list ++ more))
-    ∙ (ap (λ t. first ++ (behind ++ t)) (global_attributes_then list more)
+    ∙ (ap (λ t. first ++ (following ++ t)) (global_attributes_then list more)
     ∙ sym
     (ap (λ t. t ++ last) (in_front a (global_attributes_pieces list))
-    ∙ (append_assoc first (behind ++ left) last
-    ∙ ap (λ t. first ++ t) (append_assoc behind left last))))
+    ∙ (append_assoc first (following ++ left) last
+    ∙ ap (λ t. first ++ t) (append_assoc following left last))))
 
 attributes_are : (v : GlobalVariable) →
     text (global_attributes_pieces (global_attributes v)) ≡
@@ -128,9 +129,9 @@ unfolding variable_text var_text space_text spelled_text value_text joined_texts
 variable_row m h v =
     let form = variable_form (module_names m) (type_names m) m (h, v) in
     let name = name_in (module_names m) (key.GlobalVariable h) in
-    let behind = λ (t : List ℕ). codes "var" ++ (space_text v.space ++ (codes " " ++ t)) in
+    let following = λ (t : List ℕ). codes "var" ++ (space_text v.space ++ (codes " " ++ t)) in
     globals_row_text form []
-    ∙ (ap (λ t. text (global_attributes_pieces form.attributes) ++ behind t)
+    ∙ (ap (λ t. text (global_attributes_pieces form.attributes) ++ following t)
     (ap (λ t. name ++ (codes ": " ++ (spelled_text m v.ty ++ t))) (append-nil (value_text m v.init))
     ∙ typed_then m (key.GlobalVariable h) v.ty (value_text m v.init))
     ∙ (ap (λ t. t ++ var_text m h v) (attributes_are v)

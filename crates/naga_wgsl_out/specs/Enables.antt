@@ -79,12 +79,12 @@ line_text true word = codes "enable " ++ (word ++ codes ";\n")
 line_text false word = []
 
 -- there is some among them
-abbrev pub is_any_behind : (one : Bool) → List (Bool × List ℕ) → Bool
-is_any_behind one [] = one
-is_any_behind one (row ∷ rows) = is_any_behind (one || row.0) rows
+abbrev pub is_any_after : (one : Bool) → List (Bool × List ℕ) → Bool
+is_any_after one [] = one
+is_any_after one (row ∷ rows) = is_any_after (one || row.0) rows
 
 abbrev pub is_any : Enables → Bool
-is_any e = is_any_behind e.f16 (drop 1 (words_found e))
+is_any e = is_any_after e.f16 (drop 1 (words_found e))
 
 -- the empty line after those that were found
 abbrev pub end_text : (any : Bool) → List ℕ

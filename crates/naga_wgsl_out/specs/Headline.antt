@@ -8,7 +8,7 @@ use Rattle.naga_info.specs.declared.info.ModuleInfo.{ModuleInfo}
 use Rattle.wgsl_text.specs.Reading.{Reads, HasOneReading}
 use Rattle.wgsl_text.specs.Text.{tokens}
 use Rattle.wgsl_text.specs.Declarations.{Program}
-use Rattle.module_meaning.specs.Bindings.{BindsAs}
+use Rattle.module_meaning.specs.FunctionLets.{BindsAs}
 use Rattle.module_meaning.specs.Faithful.{HasInterfaceOf, RunsAs}
 use Rattle.module_meaning.specs.Layouts.{KeepsLayouts}
 use Rattle.module_meaning.specs.Resolution.{ResolvesAs}

@@ -9,7 +9,7 @@ use Rattle.naga_info.specs.declared.info.ModuleInfo.{ModuleInfo}
 use Rattle.naga_ir.specs.declared.module.Module.{Module}
 use Rattle.naga_wgsl_fns.specs.Refusals.{TellsOfModule}
 use Rattle.naga_wgsl_fns.specs.declared.refusals.error.Error.{Error}
-use Rattle.naga_words.specs.Sink.{IsBehind}
+use Rattle.naga_words.specs.Sink.{IsAfter}
 use Rattle.naga_wgsl_out.specs.ModuleRefusals.{ComesBeforeText, TellsOfFunction, TellsOfKeys}
 use Rattle.naga_wgsl_out.specs.Unwritable.{TellsFirst}
 use Rattle.naga_wgsl_out.specs.Writing.{WroteFunctionsBefore, front_text, written_text}
@@ -18,7 +18,7 @@ use Rattle.naga_wgsl_out.specs.Writing.{WroteFunctionsBefore, front_text, writte
 pub record LeavesOnError (flags : WriterFlags) (m : Module) (info : ModuleInfo) (error : Error)
     (content now : List ℕ) (before after : ℕ) : Type 0 where
   -- a beginning of the module's text stands after what the sink held,
-  pub behind : IsBehind content (written_text m info flags) now
+  pub following : IsAfter content (written_text m info flags) now
   -- and none of it where the error comes before any text, or tells that a key is out of range;
   pub untouched : ComesBeforeText m error → now ≡ content
   pub keys : TellsOfKeys error → now ≡ content

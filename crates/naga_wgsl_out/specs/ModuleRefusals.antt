@@ -15,7 +15,7 @@ use Rattle.naga_names.specs.Reset.{labelled_items}
 use Rattle.naga_scope.specs.Plans.{HasScopeFaultIn}
 use Rattle.naga_wgsl_fns.specs.DeclarationRefusals.{NamesDeclaration}
 use Rattle.naga_wgsl_fns.specs.Errors.{IsSinkWant}
-use Rattle.naga_wgsl_fns.specs.Refusals.{ExpressionNamesAreFullIn, HasFormlessIn, HasNamedLabels}
+use Rattle.naga_wgsl_fns.specs.Refusals.{ExpressionNamesAreFullIn, HasUnsupportedIn, HasNamedLabels}
 use Rattle.naga_wgsl_fns.specs.Refusals.{TellsOfForm, TellsOfFullNamer, TellsOfModule, TellsOfScope}
 use Rattle.naga_wgsl_fns.specs.declared.refusals.error.Error.{Error}
 use Rattle.naga_wgsl_fns.specs.declared.refusals.error.Error.TheVariants.{FmtError, Custom, Memory}
@@ -53,9 +53,9 @@ IsNamesRefusal m _ = ⊥
 
 -- a declaration without a form stands in the module, or a struct that can't keep the offsets of its
 -- members, and is named, or an expression, a type or a statement without a form in some function
-abbrev pub HasFormless : (explicit : Bool) → Module → ModuleInfo → Error → Type 0
-HasFormless explicit m info error =
-    NamesDeclaration m error ⊎ ((number : ℕ) × HasFormlessIn explicit m info number error)
+abbrev pub HasUnsupported : (explicit : Bool) → Module → ModuleInfo → Error → Type 0
+HasUnsupported explicit m info error =
+    NamesDeclaration m error ⊎ ((number : ℕ) × HasUnsupportedIn explicit m info number error)
 
 -- ---- refusals
 -- the function with some number breaks a rule of scope at some place: it uses a handle that is out
@@ -74,8 +74,8 @@ IsRefusal explicit m info before now (FmtError e) = IsSinkWant before now e
 IsRefusal explicit m info before now (Memory e) = ⊤
 IsRefusal explicit m info before now (Custom message) =
     IsReportedOf m (string_bytes message)
-    ⊎ (IsOutOfScope m info (string_bytes message) ⊎ HasFormless explicit m info (Custom message))
-IsRefusal explicit m info before now error = HasFormless explicit m info error
+    ⊎ (IsOutOfScope m info (string_bytes message) ⊎ HasUnsupported explicit m info (Custom message))
+IsRefusal explicit m info before now error = HasUnsupported explicit m info error
 
 -- The error tells of one of the functions, of which each is looked at before its text: all that the
 -- module declares has a form. That a name can't be told, it tells of a function where the items of

@@ -21,17 +21,17 @@ use Rattle.naga_info.specs.declared.info.TypeResolution.TheVariants.{Handle}
 use Rattle.naga_ir.specs.declared.module.Function.{Function}
 use Rattle.naga_ir.specs.declared.module.Module.{Module}
 use Rattle.naga_names.specs.Naming.{Names}
-use Rattle.naga_scope.specs.Declarations.{HaveFormsBefore, IsFormlessIn}
-use Rattle.naga_scope.specs.FormlessStatements.{IsFormlessAt}
+use Rattle.naga_scope.specs.Declarations.{HaveFormsBefore, IsUnsupportedIn}
+use Rattle.naga_scope.specs.UnsupportedStatements.{IsUnsupportedAt}
 use Rattle.naga_scope.specs.Plans.{IsFirstToPlan}
 use Rattle.naga_scope.specs.ScopeFaults.{IsScopeFault}
-use Rattle.naga_scope.specs.declared.declarations.DeclarationPlace.{DeclarationPlace}
-use Rattle.naga_scope.specs.declared.declarations.FormlessDeclaration.{FormlessDeclaration}
+use Rattle.naga_scope.specs.declared.declarations.DeclarationPosition.{DeclarationPosition}
+use Rattle.naga_scope.specs.declared.declarations.UnsupportedDeclaration.{UnsupportedDeclaration}
 use Rattle.naga_scope.specs.declared.plan.PlanError.{PlanError}
-use Rattle.naga_scope.specs.declared.statements.FormlessStatement.{FormlessStatement}
+use Rattle.naga_scope.specs.declared.statements.UnsupportedStatement.{UnsupportedStatement}
 use Rattle.naga_wgsl_fns.specs.Carried.{CarriesOfDeclaration, CarriesOfExpression, CarriesOfType}
 use Rattle.naga_wgsl_fns.specs.Constructs.{IsToldAs, Tells}
-use Rattle.naga_wgsl_fns.specs.DeclarationRefusals.{NamesFormlessDeclaration}
+use Rattle.naga_wgsl_fns.specs.DeclarationRefusals.{NamesUnsupportedDeclaration}
 use Rattle.naga_wgsl_fns.specs.Errors.{IsCustom}
 use Rattle.naga_wgsl_fns.specs.Refusals.{ExpressionNamesAreFullIn, NamesExpression, NamesStatement}
 use Rattle.naga_wgsl_fns.specs.Refusals.{NamesType}
@@ -45,8 +45,8 @@ use Rattle.naga_wgsl_fns.specs.declared.plans.Unplanned.TheVariants as unplanned
 use Rattle.naga_wgsl_out.specs.ModuleRefusals.{HasNamedBefore, ItemsAreFull, KeyIsOutOfRange}
 use Rattle.naga_wgsl_out.specs.Writing.{HasPlan}
 use Rattle.naga_wgsl_out.specs.declared.unwritable.Refusal.{Refusal}
-use Rattle.naga_wgsl_out.specs.declared.unwritable.RefusalPlace.{RefusalPlace}
-use Rattle.naga_wgsl_out.specs.declared.unwritable.RefusalPlace.TheVariants as place
+use Rattle.naga_wgsl_out.specs.declared.unwritable.RefusalPosition.{RefusalPosition}
+use Rattle.naga_wgsl_out.specs.declared.unwritable.RefusalPosition.TheVariants as position
 
 -- the construct is told so
 abbrev pub TellsCustom : Construct → (message : List ℕ) → Type 0
@@ -69,7 +69,7 @@ StandsAtPart explicit m info number f known (part.Scope fault) it =
     IsScopeFault (function_shape m info f known) fault
     × TellsCustom it (codes "operand out of scope")
 StandsAtPart explicit m info number f known (part.Statement n) it =
-    (statement : FormlessStatement) × IsFormlessAt f.body n statement
+    (statement : UnsupportedStatement) × IsUnsupportedAt f.body n statement
     × Tells it (NamesStatement statement)
 StandsAtPart explicit m info number f known (part.Expression h) it =
     IsWrittenIn m info f known h
@@ -103,10 +103,10 @@ pub record StandsInFunction (explicit : Bool) (m : Module) (info : ModuleInfo) (
 
 -- ---- declarations
 -- it is what has no form in this declaration
-abbrev pub StandsInDeclaration : Module → DeclarationPlace → Construct → Type 0
+abbrev pub StandsInDeclaration : Module → DeclarationPosition → Construct → Type 0
 StandsInDeclaration m at it =
-    (lack : FormlessDeclaration) × IsFormlessIn m at lack
-    × Tells it (NamesFormlessDeclaration m lack) × CarriesOfDeclaration m lack it
+    (lack : UnsupportedDeclaration) × IsUnsupportedIn m at lack
+    × Tells it (NamesUnsupportedDeclaration m lack) × CarriesOfDeclaration m lack it
 
 -- ---- labels
 -- an item gets no name, or its key is out of range
@@ -117,12 +117,12 @@ StandsInLabels m it =
 
 -- ---- modules
 -- the construct stands at its place in the module; the entry points are numbered after the functions
-abbrev pub StandsAt : (explicit : Bool) → Module → ModuleInfo → RefusalPlace → Construct → Type 0
-StandsAt explicit m info place.Labels it = StandsInLabels m it
-StandsAt explicit m info (place.Declaration at) it = StandsInDeclaration m at it
-StandsAt explicit m info (place.Function h at) it =
+abbrev pub StandsAt : (explicit : Bool) → Module → ModuleInfo → RefusalPosition → Construct → Type 0
+StandsAt explicit m info position.Labels it = StandsInLabels m it
+StandsAt explicit m info (position.Declaration at) it = StandsInDeclaration m at it
+StandsAt explicit m info (position.Function h at) it =
     (h < length m.functions) × StandsInFunction explicit m info h (it, at)
-StandsAt explicit m info (place.EntryPoint i at) it =
+StandsAt explicit m info (position.EntryPoint i at) it =
     StandsInFunction explicit m info (length m.functions + i) (it, at)
 
 abbrev pub StandsIn : (explicit : Bool) → Module → ModuleInfo → Refusal → Type 0
@@ -140,18 +140,18 @@ pub record AreWritableBefore (explicit : Bool) (m : Module) (info : ModuleInfo)
 
 -- a module is looked at by its declarations, by the labels of its items, and by its functions and
 -- entry points: nothing stands in front of this place for which it is refused
-abbrev pub IsFirst : (explicit : Bool) → Module → ModuleInfo → RefusalPlace → Type 0
-IsFirst explicit m info (place.Declaration at) = HaveFormsBefore m at
-IsFirst explicit m info place.Labels = DeclarationsHaveForms m
-IsFirst explicit m info (place.Function h at) = AreWritableBefore explicit m info h
-IsFirst explicit m info (place.EntryPoint i at) =
+abbrev pub IsFirst : (explicit : Bool) → Module → ModuleInfo → RefusalPosition → Type 0
+IsFirst explicit m info (position.Declaration at) = HaveFormsBefore m at
+IsFirst explicit m info position.Labels = DeclarationsHaveForms m
+IsFirst explicit m info (position.Function h at) = AreWritableBefore explicit m info h
+IsFirst explicit m info (position.EntryPoint i at) =
     AreWritableBefore explicit m info (length m.functions + i)
 
 -- ---- on the way
 -- the place of this part of a function or an entry point
-abbrev pub place_at : FunctionType → FunctionPart → RefusalPlace
-place_at (item.Function h) at = place.Function h at
-place_at (item.EntryPoint i) at = place.EntryPoint i at
+abbrev pub place_at : FunctionType → FunctionPart → RefusalPosition
+place_at (item.Function h) at = position.Function h at
+place_at (item.EntryPoint i) at = position.EntryPoint i at
 
 -- that is found where it has no plan
 abbrev pub IsFoundOf : FunctionType → Unplanned → Option Refusal → Type 0

@@ -65,21 +65,21 @@ front_text m info flags =
     enables_text (written_enables m info flags) ++ declarations_text m
 
 -- an empty line stands after each function that others may call, and between two entry points
-abbrev pub line_behind : Module → FunctionType → List ℕ
-line_behind m (item.Function handle) = codes "\n"
-line_behind m (item.EntryPoint index) =
+abbrev pub line_after : Module → FunctionType → List ℕ
+line_after m (item.Function handle) = codes "\n"
+line_after m (item.EntryPoint index) =
     if nat_lt (index + 1) (length m.entry_points.items) then codes "\n" else []
 
 -- the text of a function or of an entry point, with its empty line
 abbrev pub line_of : Module → ModuleInfo → WriterFlags → ℕ × Function → List ℕ
 line_of m info flags p =
     text_of m info flags (expression_name m p.0) p.0 p.1 (known_of info p.0)
-    ++ line_behind m (function_type m p.0)
+    ++ line_after m (function_type m p.0)
 
 -- the same of the one with this number
 abbrev pub line_at : Module → ModuleInfo → WriterFlags → (number : ℕ) → List ℕ
 line_at m info flags number =
-    text_of_function m info flags number ++ line_behind m (function_type m number)
+    text_of_function m info flags number ++ line_after m (function_type m number)
 
 -- those of these functions, of the module, and of it in front of this function
 abbrev pub lines_of : Module → ModuleInfo → WriterFlags → List (ℕ × Function) → List ℕ

@@ -15,23 +15,23 @@ ghost use Rattle.naga_wgsl_out.specs.Unwritable.{StandsIn, place_at};
 use crate::writer::items_named;
 use naga_back::{FunctionType, WriterFlags};
 use naga_info::ModuleInfo;
-use naga_ir::{Function, Handle, Module, Place};
+use naga_ir::{Function, Handle, ItemIndex, Module};
 use naga_names::NameKey;
 use naga_names::namer::Namer;
-use naga_scope::{DeclarationPlace, ModuleTables, formless_declaration};
+use naga_scope::{DeclarationPosition, ModuleTables, unsupported_declaration};
 use naga_wgsl_fns::{
-    Construct, FunctionPart, Unplanned, construct_of_names, formless_construct, plan_or_refusal,
+    Construct, FunctionPart, Unplanned, construct_of_names, plan_or_refusal, unsupported_construct,
 };
 use std::alloc::{AllocError, Global};
 use std::collections::HashMap;
 
 /// Where a construct stands for which a module is refused.
 #[derive(Clone, Copy, Debug, PartialEq, Eq)]
-pub enum RefusalPlace {
+pub enum RefusalPosition {
     /// Among the labels of the module's items.
     Labels,
     /// In a declaration.
-    Declaration(DeclarationPlace),
+    Declaration(DeclarationPosition),
     /// In the function with this handle.
     Function(Handle<Function>, FunctionPart),
     /// In the entry point with this index.
@@ -42,7 +42,7 @@ pub enum RefusalPlace {
 #[derive(Clone, Copy, Debug, PartialEq, Eq)]
 pub struct Refusal {
     pub construct: Construct,
-    pub place: RefusalPlace,
+    pub place: RefusalPosition,
 }
 
 /// A construct for which a module is refused that is accepted with what is known of it, and where
@@ -79,10 +79,10 @@ pub fn unwritable(
         IsFirst (annotates_types flags) «module».now info.now refusal.place)) }
 {
     let tables = ModuleTables::of(alloc, module)?;
-    if let Some((place, declaration)) = formless_declaration(module, &tables) {
+    if let Some((place, declaration)) = unsupported_declaration(module, &tables) {
         return Ok(Some(Refusal {
-            construct: formless_construct(module, &tables, declaration),
-            place: RefusalPlace::Declaration(place),
+            construct: unsupported_construct(module, &tables, declaration),
+            place: RefusalPosition::Declaration(place),
         }));
     }
     match items_named(alloc, module) {
@@ -93,7 +93,7 @@ pub fn unwritable(
             let construct = construct_of_names(error)?;
             Ok(Some(Refusal {
                 construct,
-                place: RefusalPlace::Labels,
+                place: RefusalPosition::Labels,
             }))
         }
     }
@@ -122,7 +122,7 @@ fn unwritable_function(
         IsFirst (annotates_types flags) «module».now info.now refusal.place)) }
 {
     for index in 0..module.functions.len() {
-        let ty = FunctionType::Function(Place::from_index(index));
+        let ty = FunctionType::Function(ItemIndex::from_index(index));
         let found = refused_in(alloc, module, info, &ty, tables, names, namer, flags)?;
         if let Some(refusal) = found {
             return Ok(Some(refusal));
@@ -183,11 +183,11 @@ fn refusal_of(ty: FunctionType, unplanned: Unplanned) -> Result<Option<Refusal>,
 }
 
 /// The place of this part of a function or an entry point.
-fn place_at(ty: FunctionType, part: FunctionPart) -> RefusalPlace
+fn place_at(ty: FunctionType, part: FunctionPart) -> RefusalPosition
     ensures { result ≡ place_at ty part }
 {
     match ty {
-        FunctionType::Function(handle) => RefusalPlace::Function(handle, part),
-        FunctionType::EntryPoint(index) => RefusalPlace::EntryPoint(index as usize, part),
+        FunctionType::Function(handle) => RefusalPosition::Function(handle, part),
+        FunctionType::EntryPoint(index) => RefusalPosition::EntryPoint(index as usize, part),
     }
 }

@@ -22,19 +22,19 @@ ghost use Rattle.naga_wgsl_out.specs.ModuleRefusals.{HasAllNames, HasNamedBefore
 ghost use Rattle.naga_wgsl_out.specs.ModuleRefusals.{IsNamesRefusal};
 ghost use Rattle.naga_wgsl_out.specs.Unwritable.{TellsFirst, TellsRefusalOf};
 ghost use Rattle.naga_wgsl_out.specs.Writing.{WritesFunctions, WritesNext, Writing};
-ghost use Rattle.naga_wgsl_out.specs.Writing.{AppendsItsText, front_text, line_at, line_behind};
+ghost use Rattle.naga_wgsl_out.specs.Writing.{AppendsItsText, front_text, line_at, line_after};
 ghost use Rattle.naga_wgsl_out.specs.Writing.{written_text};
 
 use crate::declarations::write_declarations;
 use crate::enables::write_enables;
 use naga_back::{FunctionType, WriterFlags};
 use naga_info::ModuleInfo;
-use naga_ir::{Module, Place};
+use naga_ir::{ItemIndex, Module};
 use naga_names::by_bytes::{builtin_words, reserved_words};
 use naga_names::keyword_set::CaseInsensitiveKeywordSet;
 use naga_names::keywords::RESERVED_PREFIXES;
 use naga_names::namer::{NameKey, Namer, NamerError};
-use naga_scope::{ModuleTables, Plan, formless_declaration};
+use naga_scope::{ModuleTables, Plan, unsupported_declaration};
 use naga_wgsl_fns::refusals::error::names_error;
 use naga_wgsl_fns::{Error, declaration_without_form, plan_of, put, write_planned};
 use naga_words::TextSink;
@@ -131,7 +131,7 @@ impl<W: TextSink> Writer<W> {
         ensures flags { self.new.flags ≡ self.old.flags }
     {
         let tables = ModuleTables::of(self.alloc, module)?;
-        if let Some((_, declaration)) = formless_declaration(module, &tables) {
+        if let Some((_, declaration)) = unsupported_declaration(module, &tables) {
             return Err(declaration_without_form(self.alloc, module, &tables, declaration));
         }
         let (names, mut namer) = names_of(self.alloc, module)?;
@@ -203,7 +203,7 @@ fn write_functions<W: TextSink>(
         TellsFirst (annotates_types flags) «module».now info.now e) }
 {
     for index in 0..module.functions.len() {
-        let ty = FunctionType::Function(Place::from_index(index));
+        let ty = FunctionType::Function(ItemIndex::from_index(index));
         write_next(alloc, module, info, tables, names, &ty, namer, flags, out)?;
     }
     for index in 0..module.entry_points.len() {
@@ -267,12 +267,12 @@ fn write_with_line<W: TextSink>(
         (W.text out.new) (W.failures out.new) }
 {
     write_planned(alloc, module, info, tables, names, flags, ty, plan, out)?;
-    put(line_behind(module, ty), out)
+    put(line_after(module, ty), out)
 }
 
 /// The empty line after a function that others may call, and between two entry points.
-fn line_behind(module: &Module, ty: &FunctionType) -> &'static str
-    ensures { result.now ≡ line_behind «module».now ty.now }
+fn line_after(module: &Module, ty: &FunctionType) -> &'static str
+    ensures { result.now ≡ line_after «module».now ty.now }
 {
     match ty {
         FunctionType::Function(_) => "\n",

@@ -7,7 +7,7 @@ use Rattle.naga_ir.specs.declared.types.TypeInner.{TypeInner}
 use Rattle.naga_ir.specs.declared.types.TypeInner.TheVariants as inner
 use Rattle.naga_ir.specs.declared.types.ArraySize.{ArraySize}
 use Rattle.naga_ir.specs.declared.types.ArraySize.TheVariants as size
-use Rattle.naga_words.specs.Spelling.{Context, IsInOrder, StandsBehind, knows_size, knows_override}
+use Rattle.naga_words.specs.Spelling.{Context, IsInOrder, StandsAfter, knows_size, knows_override}
 use Rattle.naga_words.specs.Spelling.{size_within, length_within}
 
 knows_each_size : (c : Context) → ((h : ℕ) → IsTrue (c.knows h)) → (it : ArraySize) → IsTrue (knows_size c it)
@@ -23,11 +23,11 @@ knows_each c all _ = refl
 -- a context that knows each override
 pub all_known : (c : Context) → ((h : ℕ) → IsTrue (c.knows h)) → (overrides : ℕ) →
     ((handle : ℕ) (t : Type_) → handle < length c.types → slice_get c.types handle ≡ Some t →
-    StandsBehind handle overrides t.inner) →
+    StandsAfter handle overrides t.inner) →
     ((handle : ℕ) (t : Type_) → slice_get c.types handle ≡ Some t → handle < length c.types) →
     IsInOrder c
-all_known c all overrides behind found = record {
-  before = λ handle t is. (behind handle t (found handle t is) is).before;
+all_known c all overrides following found = record {
+  before = λ handle t is. (following handle t (found handle t is) is).before;
   known = λ handle t is. knows_each c all t.inner;
 }
 
@@ -45,19 +45,19 @@ knows_within c overrides same _ k = refl
 pub so_many_known : (c : Context) (overrides : ℕ) →
     ((h : ℕ) → c.knows h ≡ size_within overrides (size.Pending h)) →
     ((handle : ℕ) (t : Type_) → handle < length c.types → slice_get c.types handle ≡ Some t →
-    StandsBehind handle overrides t.inner) →
+    StandsAfter handle overrides t.inner) →
     ((handle : ℕ) (t : Type_) → slice_get c.types handle ≡ Some t → handle < length c.types) →
     IsInOrder c
-so_many_known c overrides same behind found = record {
-  before = λ handle t is. (behind handle t (found handle t is) is).before;
-  known = λ handle t is. knows_within c overrides same t.inner (behind handle t (found handle t is) is).known;
+so_many_known c overrides same following found = record {
+  before = λ handle t is. (following handle t (found handle t is) is).before;
+  known = λ handle t is. knows_within c overrides same t.inner (following handle t (found handle t is) is).known;
 }
 
 -- one type more
-pub one_more : (types : List Type_) (n overrides : ℕ) (here : Type_) → slice_get types n ≡ Some here → StandsBehind n overrides here.inner →
-    ((handle : ℕ) → handle < n → (t : Type_) → slice_get types handle ≡ Some t → StandsBehind handle overrides t.inner) →
-    (handle : ℕ) → handle < n + 1 → (t : Type_) → slice_get types handle ≡ Some t → StandsBehind handle overrides t.inner
+pub one_more : (types : List Type_) (n overrides : ℕ) (here : Type_) → slice_get types n ≡ Some here → StandsAfter n overrides here.inner →
+    ((handle : ℕ) → handle < n → (t : Type_) → slice_get types handle ≡ Some t → StandsAfter handle overrides t.inner) →
+    (handle : ℕ) → handle < n + 1 → (t : Type_) → slice_get types handle ≡ Some t → StandsAfter handle overrides t.inner
 one_more types n overrides here at stands below =
     below_more (λ handle. (t : Type_) → slice_get types handle ≡ Some t →
-    StandsBehind handle overrides t.inner) n below (λ t is. let e : here ≡ t = cc in
-    subst (λ (x : Type_). StandsBehind n overrides x.inner) e stands)
+    StandsAfter handle overrides t.inner) n below (λ t is. let e : here ≡ t = cc in
+    subst (λ (x : Type_). StandsAfter n overrides x.inner) e stands)

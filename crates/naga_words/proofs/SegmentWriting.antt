@@ -7,7 +7,7 @@ use Rattle.naga_words.specs.Output.{Follows, Goes, IsReason, Lies, SegmentsFollo
 use Rattle.naga_words.specs.Output.{SegmentsLie}
 use Rattle.naga_words.specs.Output.{OutputView, SpelledSegments}
 use Rattle.naga_words.specs.Output.{Wrote}
-use Rattle.naga_words.proofs.Writing.{behind_first, behind_then}
+use Rattle.naga_words.proofs.Writing.{after_first, after_then}
 use Rattle.naga_words.specs.Segments.{Segment, Word, Shown, Missing, IsRefused, lacks}
 use Rattle.naga_words.specs.Segments.{before_missing}
 use Rattle.naga_words.specs.Segments.{IsText, NoSegments, WordThen, ShownThen, HasWritten, HasBegun}
@@ -54,7 +54,7 @@ segments_then : (ps qs : List Segment) (a b c : List ℕ) → HasWritten ps a b 
 segments_then ps qs a b c p q = record {
   text = p.text ++ q.text;
   is_text = text_append p.is_text q.is_text;
-  behind = q.behind ∙ (ap (λ v. v ++ q.text) p.behind ∙ append_assoc a p.text q.text);
+  following = q.following ∙ (ap (λ v. v ++ q.text) p.following ∙ append_assoc a p.text q.text);
 }
 
 -- segments were written, and then a beginning of others
@@ -63,7 +63,7 @@ segments_then_fail : (ps qs : List Segment) (a b c : List ℕ) → HasWritten ps
 segments_then_fail ps qs a b c p q = record {
   whole = p.text ++ q.whole;
   is_text = rw (before_written qs p.is_text) (text_append p.is_text q.is_text);
-  behind = behind_then a p.text b q.whole c p.behind q.behind;
+  following = after_then a p.text b q.whole c p.following q.following;
 }
 
 -- a beginning of segments is one of these and more
@@ -71,7 +71,7 @@ segments_fail : (ps qs : List Segment) (a b : List ℕ) → HasBegun ps a b → 
 segments_fail ps qs a b p = let r = begun_more_text ps qs p.whole p.is_text in record {
   whole = p.whole ++ r.0;
   is_text = r.1;
-  behind = behind_first a p.whole b r.0 p.behind;
+  following = after_first a p.whole b r.0 p.following;
 }
 
 -- what is written is begun
@@ -80,14 +80,14 @@ begun_all ps a b p = record {
   whole = p.text;
   is_text =
       rw (sym (append-nil ps)) (rw (before_written [] p.is_text) (rw (append-nil ps) p.is_text));
-  behind = (p.text, [], sym (append-nil p.text), p.behind);
+  following = (p.text, [], sym (append-nil p.text), p.following);
 }
 
 -- nothing is a beginning
 pub begun_at_once : (ps : List Segment) (a : List ℕ) → HasBegun ps a a
 begun_at_once ps a =
     let r = some_text ps in
-    record { whole = r.0; is_text = r.1; behind = ([], r.0, refl, sym (append-nil a)) }
+    record { whole = r.0; is_text = r.1; following = ([], r.0, refl, sym (append-nil a)) }
 
 -- what lacks a segment at its front, and what lacks one after
 lacks_before : (ps qs : List Segment) → lacks ps ≡ true → lacks (ps ++ qs) ≡ true
@@ -96,11 +96,11 @@ lacks_before (Word w ∷ ps) qs h = lacks_before ps qs h
 lacks_before (Shown ∷ ps) qs h = lacks_before ps qs h
 lacks_before (Missing ∷ ps) qs h = refl
 
-lacks_behind : (ps qs : List Segment) → lacks qs ≡ true → lacks (ps ++ qs) ≡ true
-lacks_behind [] qs h = h
-lacks_behind (Word w ∷ ps) qs h = lacks_behind ps qs h
-lacks_behind (Shown ∷ ps) qs h = lacks_behind ps qs h
-lacks_behind (Missing ∷ ps) qs h = refl
+lacks_after : (ps qs : List Segment) → lacks qs ≡ true → lacks (ps ++ qs) ≡ true
+lacks_after [] qs h = h
+lacks_after (Word w ∷ ps) qs h = lacks_after ps qs h
+lacks_after (Shown ∷ ps) qs h = lacks_after ps qs h
+lacks_after (Missing ∷ ps) qs h = refl
 
 -- ---- a row of segments, written to an output
 -- a reason of one kind is one of another
@@ -121,7 +121,7 @@ module _ (refuses : Bool) (before after : OutputView) where
         (segments_then ps qs before.content middle.content after.content w stand.0, stand.1 ∙ kept)
     after_whole (Some want) w kept stand = (
       segments_then_fail ps qs before.content middle.content after.content w stand.0,
-      reason_as (λ r. (r.0, lacks_behind ps qs r.1)) before.failures after.failures want
+      reason_as (λ r. (r.0, lacks_after ps qs r.1)) before.failures after.failures want
           (subst (λ n. IsReason (IsRefused refuses qs) n after.failures want) kept stand.1),
     )
 
@@ -163,7 +163,7 @@ module _ (refuses : Bool) (before after : OutputView) where
       record {
         text = text ++ [];
         is_text = is_text;
-        behind = lies.0 ∙ ap (λ t. before.content ++ t) (sym (append-nil text));
+        following = lies.0 ∙ ap (λ t. before.content ++ t) (sym (append-nil text));
       },
       lies.1,
     )
@@ -171,7 +171,7 @@ module _ (refuses : Bool) (before after : OutputView) where
       record {
         whole = text ++ [];
         is_text = subst (λ ps. IsText ps (text ++ [])) (sym known) is_text;
-        behind = behind_first before.content text after.content [] lies.0;
+        following = after_first before.content text after.content [] lies.0;
       },
       reason_as (λ none. absurd none) before.failures after.failures want lies.1,
     )
@@ -264,7 +264,7 @@ spells_nothing {refuses} before = record { goes = (by before.want refl, refl) }
     by : (want : Option TypeTextError) → want ≡ before.want
         → SegmentsFollow want refuses [] before before
     by None is = subst (λ o. SegmentsLie refuses [] before before o) is
-        (record { text = []; is_text = NoSegments; behind = sym (append-nil before.content) }, refl)
+        (record { text = []; is_text = NoSegments; following = sym (append-nil before.content) }, refl)
     by (Some want) is = refl
 
 -- after a want all segments are written

@@ -4,20 +4,20 @@ use Rattle.std.proofs.Common.{◌≡◌, ℕ, true, List, [], ◌++◌, append_a
 use Rattle.std.proofs.Common.{refl, sym, ap, ◌∙◌, subst}
 use Rattle.std.specs.Option.{is_some}
 use Rattle.std.proofs.lemmas.List.{append-nil}
-use Rattle.naga_words.specs.Sink.{IsBehind}
+use Rattle.naga_words.specs.Sink.{IsAfter}
 use Rattle.naga_words.specs.declared.error.TypeTextError.{TypeTextError}
 use Rattle.naga_words.specs.declared.error.TypeTextError.TheVariants.{NoForm}
 use Rattle.naga_words.specs.Output.{OutputView, IsReason, Lies, Follows, Goes, Wrote, joined_texts}
 
 -- ---- rows
 -- a beginning of the first text is a beginning of both
-pub behind_first : (content text now more : List ℕ) → IsBehind content text now → IsBehind content (text ++ more) now
-behind_first content text now more (taken, rest, whole, is) =
+pub after_first : (content text now more : List ℕ) → IsAfter content text now → IsAfter content (text ++ more) now
+after_first content text now more (taken, rest, whole, is) =
     (taken, rest ++ more, ap (λ t. t ++ more) whole ∙ append_assoc taken rest more, is)
 
 -- after the first text, a beginning of the second
-pub behind_then : (content text middle more now : List ℕ) → middle ≡ content ++ text → IsBehind middle more now → IsBehind content (text ++ more) now
-behind_then content text middle more now at (taken, rest, whole, is) = (
+pub after_then : (content text middle more now : List ℕ) → middle ≡ content ++ text → IsAfter middle more now → IsAfter content (text ++ more) now
+after_then content text middle more now at (taken, rest, whole, is) = (
   text ++ taken,
   rest,
   ap (λ t. text ++ t) whole ∙ sym (append_assoc text taken rest),
@@ -31,7 +31,7 @@ after_whole : (content : List ℕ) (failed : ℕ) (text middle more now : List �
 after_whole content failed text middle more now among failures None at kept lies =
     (lies.0 ∙ ap (λ t. t ++ more) at ∙ append_assoc content text more, lies.1 ∙ kept)
 after_whole content failed text middle more now among failures (Some want) at kept lies =
-    (behind_then content text middle more now at lies.0, subst (λ n. IsReason ⊥ n failures want) kept lies.1)
+    (after_then content text middle more now at lies.0, subst (λ n. IsReason ⊥ n failures want) kept lies.1)
 
 -- and where a beginning of the first does
 after_segment : (content : List ℕ) (failed : ℕ) (text more : List ℕ) (middle after : OutputView)
@@ -41,7 +41,7 @@ after_segment : (content : List ℕ) (failed : ℕ) (text more : List ℕ) (midd
 after_segment content failed text more middle after want lies is same =
     subst (λ (s : OutputView). Lies content failed (text ++ more) s.content s.failures s.want)
     (sym same)
-    (subst (λ w. Lies content failed (text ++ more) middle.content middle.failures w) (sym is) (behind_first content text middle.content more lies.0, lies.1))
+    (subst (λ w. Lies content failed (text ++ more) middle.content middle.failures w) (sym is) (after_first content text middle.content more lies.0, lies.1))
 
 pub writes_then : {before middle after : OutputView} {first more : List ℕ} → Wrote before middle first → Wrote middle after more → Wrote before after (joined_texts first more)
 unfolding joined_texts Goes
@@ -128,7 +128,7 @@ content_whole start now text w fresh none = (from_fresh start now text w fresh N
 pub never_failed : (start now : OutputView) (text : List ℕ) → Wrote start now text → start.want ≡ None → now.want ≡ None → now.failures ≡ start.failures
 never_failed start now text w fresh none = (from_fresh start now text w fresh None none).1
 
-pub content_begun : (start now : OutputView) (text : List ℕ) (want : TypeTextError) → Wrote start now text → start.want ≡ None → now.want ≡ Some want → IsBehind start.content text now.content
+pub content_begun : (start now : OutputView) (text : List ℕ) (want : TypeTextError) → Wrote start now text → start.want ≡ None → now.want ≡ Some want → IsAfter start.content text now.content
 content_begun start now text want w fresh some =
     (from_fresh start now text w fresh (Some want) some).0
 
@@ -136,9 +136,9 @@ pub reason_known : (start now : OutputView) (text : List ℕ) (want : TypeTextEr
 reason_known start now text want w fresh some = (from_fresh start now text w fresh (Some want) some).1
 
 -- and no text lacks a form
-pub never_formless : (start now : OutputView) (text : List ℕ) → Wrote start now text → start.want ≡ None
+pub never_unsupported : (start now : OutputView) (text : List ℕ) → Wrote start now text → start.want ≡ None
     → now.want ≡ Some NoForm → ⊥
-never_formless start now text w fresh some = (from_fresh start now text w fresh (Some NoForm) some).1
+never_unsupported start now text w fresh some = (from_fresh start now text w fresh (Some NoForm) some).1
 
 -- the same by what the sink shows before the output is made, and once the output is done with
 pub content_whole_as : (start now : OutputView) (text before after : List ℕ) →
@@ -148,8 +148,8 @@ content_whole_as start now text before after first last w fresh none = sym last 
 
 pub content_begun_as : (start now : OutputView) (text before after : List ℕ)
     (want : TypeTextError) → start.content ≡ before → now.content ≡ after → Wrote start now text →
-    start.want ≡ None → now.want ≡ Some want → IsBehind before text after
+    start.want ≡ None → now.want ≡ Some want → IsAfter before text after
 content_begun_as start now text before after want first last w fresh some =
-    subst (λ h. IsBehind h text after) first (subst (λ h. IsBehind start.content text h) last (content_begun start now text want w fresh some))
+    subst (λ h. IsAfter h text after) first (subst (λ h. IsAfter start.content text h) last (content_begun start now text want w fresh some))
 
 pub ruleset fresh_output = (same_sink, content_whole, never_failed)

@@ -1,7 +1,7 @@
 -- What a call that writes to an output does.
 use Rattle.std.specs.Prelude.{◌≡◌, ⊤, ℕ, ◌<◌, Bool, List, ◌++◌, Option, Some, None}
 use Rattle.naga_words.specs.Segments.{Segment, HasBegun, HasWritten, IsRefused}
-use Rattle.naga_words.specs.Sink.{IsBehind}
+use Rattle.naga_words.specs.Sink.{IsAfter}
 use Rattle.naga_words.specs.declared.error.TypeTextError.{TypeTextError}
 use Rattle.naga_words.specs.declared.error.TypeTextError.TheVariants.{Sink, Memory, NoForm}
 use Rattle.naga_words.specs.declared.output.Output.{Output}
@@ -37,7 +37,7 @@ abbrev pub Lies : (content : List ℕ) (failed : ℕ) (text now : List ℕ) (fai
     → Option TypeTextError → Type 0
 Lies content failed text now failures None = (now ≡ content ++ text) × (failures ≡ failed)
 Lies content failed text now failures (Some want) =
-    IsBehind content text now × IsReason ⊥ failed failures want
+    IsAfter content text now × IsReason ⊥ failed failures want
 
 -- after a want nothing is done
 abbrev pub Follows : Option TypeTextError →

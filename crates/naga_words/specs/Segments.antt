@@ -1,7 +1,7 @@
 -- Texts in segments: words, debug texts, and what a context refuses.
 use Rattle.std.specs.Prelude.{◌≡◌, ℕ, Bool, true, false, List, [], ◌∷◌, ◌++◌, Option, Some, None}
 use Rattle.std.specs.Option.{option_map}
-use Rattle.naga_words.specs.Sink.{IsBehind}
+use Rattle.naga_words.specs.Sink.{IsAfter}
 
 -- a segment of a spelling
 pub data Segment : Type 0 where
@@ -54,11 +54,11 @@ before_missing (segment ∷ segments) = segment ∷ before_missing segments
 pub record HasWritten (segments : List Segment) (content now : List ℕ) : Type 0 where
   pub text : List ℕ
   pub is_text : IsText segments text
-  pub behind : now ≡ content ++ text
+  pub following : now ≡ content ++ text
 
 -- A beginning of a text of the segments before the first that is refused stands after what was
 -- held before.
 pub record HasBegun (segments : List Segment) (content now : List ℕ) : Type 0 where
   pub whole : List ℕ
   pub is_text : IsText (before_missing segments) whole
-  pub behind : IsBehind content whole now
+  pub following : IsAfter content whole now

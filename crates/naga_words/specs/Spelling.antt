@@ -129,9 +129,9 @@ knows_override c (inner.BindingArray base size) = knows_size c size
 knows_override c _ = true
 
 -- a value pointer in a space without a word
-abbrev pub is_formless_pointer : TypeInner → Bool
-is_formless_pointer (inner.ValuePointer size scalar space) = is_none (space_word space)
-is_formless_pointer _ = false
+abbrev pub is_unsupported_pointer : TypeInner → Bool
+is_unsupported_pointer (inner.ValuePointer size scalar space) = is_none (space_word space)
+is_unsupported_pointer _ = false
 
 -- the type of an expression: one of the context's, or one by itself
 abbrev pub resolution_segments : Context → TypeResolution → List Segment
@@ -165,6 +165,6 @@ length_within overrides (inner.BindingArray base size) = size_within overrides s
 length_within overrides _ = true
 
 -- A type names types before the first so many and overrides of so many.
-pub record StandsBehind (types overrides : ℕ) (it : TypeInner) : Type 0 where
+pub record StandsAfter (types overrides : ℕ) (it : TypeInner) : Type 0 where
   pub before : end_of_base it ≤ types
   pub known : IsTrue (length_within overrides it)

@@ -14,9 +14,9 @@ use Rattle.naga_words.specs.Segments.{Segment, Word, Missing, shown_between, thr
 use Rattle.naga_words.specs.Words.{vector_word, image_word}
 
 -- a type without a form
-abbrev pub formless_segments : Bool → List Segment
-formless_segments true = Missing ∷ []
-formless_segments false = shown_between (codes "{non-WGSL Naga type ") (codes "}")
+abbrev pub unsupported_segments : Bool → List Segment
+unsupported_segments true = Missing ∷ []
+unsupported_segments false = shown_between (codes "{non-WGSL Naga type ") (codes "}")
 
 -- a scalar without a word, in braces
 abbrev pub braced_scalar_segments : ScalarKind → List Segment
@@ -25,13 +25,13 @@ braced_scalar_segments AbstractFloat = Word (codes "{AbstractFloat}") ∷ []
 braced_scalar_segments _ = shown_between (codes "{non-WGSL Naga scalar ") (codes "}")
 
 -- a scalar without a word
-abbrev pub formless_scalar_segments : Bool → ScalarKind → List Segment
-formless_scalar_segments true kind = Missing ∷ []
-formless_scalar_segments false kind = braced_scalar_segments kind
+abbrev pub unsupported_scalar_segments : Bool → ScalarKind → List Segment
+unsupported_scalar_segments true kind = Missing ∷ []
+unsupported_scalar_segments false kind = braced_scalar_segments kind
 
 abbrev pub scalar_segments_of : Bool → Option (List ℕ) → ScalarKind → List Segment
 scalar_segments_of refuses (Some w) kind = Word w ∷ []
-scalar_segments_of refuses None kind = formless_scalar_segments refuses kind
+scalar_segments_of refuses None kind = unsupported_scalar_segments refuses kind
 
 -- a scalar
 abbrev pub scalar_segments : Bool → Scalar → List Segment
@@ -63,7 +63,7 @@ pointer_in space access pointee =
 -- a pointer to a value; where its space has no word, it has no form
 abbrev pub value_pointer_segments : Bool → Option (List ℕ) → Option (List ℕ) → List Segment →
     List Segment
-value_pointer_segments refuses None access value = formless_segments refuses
+value_pointer_segments refuses None access value = unsupported_segments refuses
 value_pointer_segments refuses (Some space) access value = pointer_in space access value
 
 abbrev pub length_of_number : ℕ → List Segment

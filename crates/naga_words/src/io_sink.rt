@@ -2,7 +2,7 @@
 
 ghost use Rattle.std.specs.Prelude.{◌≡◌, ◌<◌, ◌++◌, OnOk, OnErr, IsErrOf, [], string_bytes};
 ghost use Rattle.std.specs.Io.KnownBytes.{Appends};
-ghost use Rattle.naga_words.specs.Sink.{IsBehind};
+ghost use Rattle.naga_words.specs.Sink.{IsAfter};
 ghost use Rattle.naga_words.specs.Handing.{Handing};
 
 use crate::sink::{SinkError, TextSink};
@@ -74,7 +74,7 @@ impl<W: Write> TextSink for IoSink<W> {
 
     fn write_str(&mut self, piece: &str) -> Result<(), SinkError>
         ensures text_ok { OnOk result (self.new.text ≡ self.old.text ++ piece.now) }
-        ensures text_err { OnErr result (IsBehind self.old.text piece.now self.new.text) }
+        ensures text_err { OnErr result (IsAfter self.old.text piece.now self.new.text) }
         ensures written { OnOk result
             (Appends (W.contents self.old.out) (W.contents self.new.out) piece.now) }
         ensures failures_ok { OnOk result (self.new.failures ≡ self.old.failures) }

@@ -7,7 +7,7 @@ ghost use Rattle.naga_words.specs.Output.{Spells};
 ghost use Rattle.naga_words.specs.Segments.{shown_between};
 ghost use Rattle.naga_words.specs.Values.{access_segments, pointer_in, template_segments};
 ghost use Rattle.naga_words.specs.Values.{value_segments};
-ghost use Rattle.naga_words.specs.Values.{braced_scalar_segments, formless_scalar_segments};
+ghost use Rattle.naga_words.specs.Values.{braced_scalar_segments, unsupported_scalar_segments};
 ghost use Rattle.naga_words.specs.Values.{scalar_segments};
 ghost use Rattle.wgsl_words.specs.Words.{space_access_word};
 
@@ -47,14 +47,14 @@ fn write_braced_scalar<W: TextSink>(alloc: Global, scalar: Scalar, out: &mut Out
 
 /// Writes a scalar without a word, or refuses it.
 #[tactic(auto, using(crate::proofs::SegmentWriting::rows))]
-pub fn write_formless_scalar<W: TextSink>(
+pub fn write_unsupported_scalar<W: TextSink>(
     refuses: bool,
     alloc: Global,
     scalar: Scalar,
     out: &mut Output<'_, W>,
 )
     ensures { Spells W.text W.failures refuses out.old out.new
-        (formless_scalar_segments refuses scalar.kind) }
+        (unsupported_scalar_segments refuses scalar.kind) }
 {
     if refuses {
         out.refuse();
@@ -75,7 +75,7 @@ pub fn write_scalar<W: TextSink>(
 {
     match scalar.try_to_wgsl() {
         Some(word) => write_word(word, out),
-        None => write_formless_scalar(refuses, alloc, scalar, out),
+        None => write_unsupported_scalar(refuses, alloc, scalar, out),
     }
 }
 

@@ -3,7 +3,7 @@
 ghost use Rattle.std.specs.Prelude.{◌≡◌, ℕ, ◌<◌, IsErrOf, List, ◌++◌, OnErr, OnOk, alloc_error};
 ghost use Rattle.std.specs.Prelude.{string_bytes};
 ghost use Rattle.naga_words.specs.declared.sink.SinkError.TheVariants.{Memory};
-ghost use Rattle.naga_words.specs.Sink.{IsBehind};
+ghost use Rattle.naga_words.specs.Sink.{IsAfter};
 
 use std::alloc::AllocError;
 use thiserror::Error;
@@ -49,7 +49,7 @@ pub trait TextSink {
     /// Takes `piece` after what it has taken. `Failed` comes only together with one more failure.
     fn write_str(&mut self, piece: &str) -> Result<(), SinkError>
         ensures text_ok { OnOk result (text self.new ≡ text self.old ++ piece.now) }
-        ensures text_err { OnErr result (IsBehind (text self.old) piece.now (text self.new)) }
+        ensures text_err { OnErr result (IsAfter (text self.old) piece.now (text self.new)) }
         ensures failures_ok { OnOk result (failures self.new ≡ failures self.old) }
         ensures failed { IsErrOf result SinkError.Failed → failures self.old < failures self.new };
 }

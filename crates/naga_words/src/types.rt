@@ -7,10 +7,10 @@ ghost use Rattle.naga_words.specs.Segments.{HasBegun, HasWritten, IsRefused, IsT
 ghost use Rattle.wgsl_words.specs.Words.{scalar_word};
 ghost use Rattle.naga_words.specs.Rules.{conclusion_segments, rule_segments, AllFit};
 ghost use Rattle.naga_words.specs.Rules.{FitsConclusion};
-ghost use Rattle.naga_words.specs.Values.{formless_segments, formless_scalar_segments};
+ghost use Rattle.naga_words.specs.Values.{unsupported_segments, unsupported_scalar_segments};
 ghost use Rattle.naga_words.specs.Values.{scalar_segments};
 ghost use Rattle.naga_words.specs.Spelling.{Context, Fits, FitsResolution, IsInOrder};
-ghost use Rattle.naga_words.specs.Spelling.{inner_segments, is_formless_pointer, is_struct};
+ghost use Rattle.naga_words.specs.Spelling.{inner_segments, is_unsupported_pointer, is_struct};
 ghost use Rattle.naga_words.specs.Spelling.{resolution_segments, type_segments};
 
 pub mod contexts;
@@ -20,12 +20,12 @@ pub(crate) mod scalars;
 pub(crate) mod spelling;
 
 pub use crate::TypeTextError;
-use crate::scalars::write_formless_scalar;
+use crate::scalars::write_unsupported_scalar;
 pub use crate::types::rules::write_resolution_in;
 use crate::types::rules::{write_conclusion_in, write_rule_in};
 use crate::types::scalars::write_scalar_in;
 pub use crate::types::spelling::write_type_in;
-use crate::types::spelling::{write_formless_inner, write_inner_in};
+use crate::types::spelling::{write_inner_in, write_unsupported_inner};
 use crate::{Output, SinkError, TextSink};
 pub use contexts::WriterTypeContext;
 use naga_info::{Conclusion, Rule, TypeResolution};
@@ -108,19 +108,19 @@ pub trait TypeContext {
         inner: &TypeInner,
         out: &mut W,
     ) -> Result<(), TypeTextError>
-        requires { IsTrue (is_formless_pointer inner.now) }
-        ensures written { OnOk result (HasWritten (formless_segments (context self.now).refuses)
+        requires { IsTrue (is_unsupported_pointer inner.now) }
+        ensures written { OnOk result (HasWritten (unsupported_segments (context self.now).refuses)
             (W.text out.old) (W.text out.new)) }
-        ensures begun { HasBegun (formless_segments (context self.now).refuses)
+        ensures begun { HasBegun (unsupported_segments (context self.now).refuses)
             (W.text out.old) (W.text out.new) }
         ensures no_form { IsErrOf result error.NoForm →
-            IsRefused (context self.now).refuses (formless_segments (context self.now).refuses) }
+            IsRefused (context self.now).refuses (unsupported_segments (context self.now).refuses) }
         ensures failures_ok { OnOk result (W.failures out.new ≡ W.failures out.old) }
         ensures failed { IsErrOf result (error.Sink SinkError.Failed) →
             W.failures out.old < W.failures out.new }
     {
         let mut output = Output::new(out);
-        write_formless_inner(self, alloc, inner, &mut output);
+        write_unsupported_inner(self, alloc, inner, &mut output);
         output.outcome()
     }
 
@@ -160,19 +160,19 @@ pub trait TypeContext {
     ) -> Result<(), TypeTextError>
         requires { scalar_word scalar ≡ None }
         ensures written { OnOk result (HasWritten
-            (formless_scalar_segments (context self.now).refuses scalar.kind)
+            (unsupported_scalar_segments (context self.now).refuses scalar.kind)
             (W.text out.old) (W.text out.new)) }
-        ensures begun { HasBegun (formless_scalar_segments (context self.now).refuses scalar.kind)
+        ensures begun { HasBegun (unsupported_scalar_segments (context self.now).refuses scalar.kind)
             (W.text out.old) (W.text out.new) }
         ensures no_form { IsErrOf result error.NoForm →
             IsRefused (context self.now).refuses
-            (formless_scalar_segments (context self.now).refuses scalar.kind) }
+            (unsupported_scalar_segments (context self.now).refuses scalar.kind) }
         ensures failures_ok { OnOk result (W.failures out.new ≡ W.failures out.old) }
         ensures failed { IsErrOf result (error.Sink SinkError.Failed) →
             W.failures out.old < W.failures out.new }
     {
         let mut output = Output::new(out);
-        write_formless_scalar(self.refuses(), alloc, scalar, &mut output);
+        write_unsupported_scalar(self.refuses(), alloc, scalar, &mut output);
         output.outcome()
     }
 

@@ -9,9 +9,10 @@ use Rattle.shader_runs.specs.ProgramRun.{KeptValues}
 use Rattle.shader_runs.proofs.Process.{Pause, DoneWith, ContinuedWith, BrokeWith, ReturnedWith}
 use Rattle.shader_runs.proofs.Process.{Process, gives, stuck, unreturned, discards, tells, wants}
 use Rattle.shader_runs.proofs.Process.{looks, sequence, repeats, resumed}
-use Rattle.shader_runs.proofs.Courses.{IsNoMistake, Course, comes_to, stops, makes, asks, counts, joins, lap_on}
+use Rattle.shader_runs.proofs.Courses.{IsNoMistake, Course, comes_to, stops, makes, asks, counts}
+use Rattle.shader_runs.proofs.Courses.{joins, lap_on}
 use Rattle.shader_runs.proofs.Courses.{laps, course, filled, events_made, AsksAt, now}
-use Rattle.shader_runs.proofs.Courses.{answered_then, made_then, counted_then, inside, behind}
+use Rattle.shader_runs.proofs.Courses.{answered_then, made_then, counted_then, inside, following}
 use Rattle.shader_runs.proofs.Courses.{filled_grows, joined_from, asks_later, asks_before}
 use Rattle.shader_runs.proofs.Typing.{default_value}
 
@@ -105,7 +106,7 @@ asks_with_more (cut_ask cut) now = now
 asks_with_more (cut_ask cut) (answered_then {y = y} a) = answered_then (asks_with_more (cut (default_value y)) a)
 asks_with_more {t = t} (cut_count cut) (counted_then a) = counted_then (asks_with_more (cut (entries t)) a)
 asks_with_more (cut_join cut cuts) (inside a) = inside (asks_with_more cut a)
-asks_with_more {t = t} (cut_join cut cuts) (behind {x = x} h a) = behind (pause_stays cut t h) (asks_with_more (cuts x) a)
+asks_with_more {t = t} (cut_join cut cuts) (following {x = x} h a) = following (pause_stays cut t h) (asks_with_more (cuts x) a)
 
 -- what is asked before the run with fewer turns ends
 pub asks_with_fewer : {c c' : Course} {t u : List Event} {k : ValueType} → Cut c c' → AsksAt c' t u k → length u < events_made (filled c t) → AsksAt c t u k
@@ -123,13 +124,13 @@ asks_with_fewer {t = t} {u = u} {k = k} (cut_join {c = c} {c' = c'} {next = next
     go (inl same) = omega (arith, asks_before a, ap (λ q. events_made q) same)
     go (inr (e, stop, le)) =
         omega (arith, lt, ap (λ q. events_made (resumed q (λ x e. filled (next x) e))) stop, ap (λ q. events_made q) stop)
-asks_with_fewer {t = t} {u = u} {k = k} (cut_join {c = c} {c' = c'} {next = next} cut cuts) (behind {e = e} {x = x} h a) lt =
+asks_with_fewer {t = t} {u = u} {k = k} (cut_join {c = c} {c' = c'} {next = next} cut cuts) (following {e = e} {x = x} h a) lt =
     go (ends_cut cut t) (asks_with_fewer (cuts x) a)
   where
     go : EndsCut (filled c t) (filled c' t) →
         (length u < events_made (filled (next x) e) → AsksAt (next x) e u k) →
         AsksAt (joins c next) t u k
     go (inl same) rest =
-        behind (same ∙ h) (rest (omega (arith, lt, ap (λ q. events_made q) (joined_from c next t (same ∙ h)))))
+        following (same ∙ h) (rest (omega (arith, lt, ap (λ q. events_made q) (joined_from c next t (same ∙ h)))))
     go (inr (e1, stop, le)) rest =
         absurd (omega (arith, lt, asks_later a, le, ap (λ q. events_made q) h, ap (λ q. events_made (resumed q (λ x e. filled (next x) e))) stop))

@@ -4,7 +4,7 @@
 -- Throughout, c is the call and n bounds the turns of loops, h is a handle and o is of an
 -- expression or of a handle, hs and xs are handles, kept are the kept values and t the events so
 -- far, v is a value and vs are several, a is an action and r its result, ss are statements and cs
--- cases, and x is a label.
+-- cases, and x is a case value.
 use Rattle.std.proofs.Common.{◌≡◌, ℕ, zero, suc, cond, List, [], ◌∷◌, Option, Some, None, refl, ap}
 use Rattle.std.proofs.Common.{◌∙◌, length, option_map}
 use Rattle.shader_runs.specs.Value.{Value}
@@ -12,18 +12,23 @@ use Rattle.shader_runs.specs.World.{Event, Write, update}
 use Rattle.shader_runs.specs.Outcome.{Done, Broke, Returned, ReachedOrHalted, Gives, Halts, answer}
 use Rattle.shader_runs.specs.Outcome.{after_switch, and_then, branch_by, or_stuck, turn, turns}
 use Rattle.shader_runs.specs.Outcome.{with_integer}
-use Rattle.shader_runs.specs.Program.{Action, Asked, Called, Access, AccessIndex, Cases, no_case, case}
+use Rattle.shader_runs.specs.Program.{Action, Asked, Called, Access, AccessIndex, Cases, no_case}
+use Rattle.shader_runs.specs.Program.{case}
 use Rattle.shader_runs.specs.Program.{Constant, Emit, Expression, Function}
-use Rattle.shader_runs.specs.Program.{Block, If, Switch, Loop, Return, Act, Store, Label, Load, Logical}
-use Rattle.shader_runs.specs.Program.{Numbered, Operator, Request, Statement, Statements, Swizzle, end}
+use Rattle.shader_runs.specs.Program.{Block, If, Switch, Loop, Return, Act, Store, CaseValue, Load}
+use Rattle.shader_runs.specs.Program.{Logical}
+use Rattle.shader_runs.specs.Program.{Numbered, Operator, Request, Statement, Statements, Swizzle}
+use Rattle.shader_runs.specs.Program.{end}
 use Rattle.shader_runs.specs.Program.{expression_of, from, handle_type, is_counted}
 use Rattle.shader_runs.specs.Program.{operands_of, then, Jumps}
 use Rattle.shader_runs.specs.ProgramRun.{Call, KeptValues, action_answer, after_load, after_request}
-use Rattle.shader_runs.specs.ProgramRun.{also, computed_value, constant_values, constants_kept, emit}
+use Rattle.shader_runs.specs.ProgramRun.{also, computed_value, constant_values, constants_kept}
+use Rattle.shader_runs.specs.ProgramRun.{emit}
 use Rattle.shader_runs.specs.ProgramRun.{emit_as, first_used, first_used_all, gathered_value}
-use Rattle.shader_runs.specs.ProgramRun.{has_label, if_counted, joined_values, label_if, leave}
+use Rattle.shader_runs.specs.ProgramRun.{has_case_value, if_counted, joined_values, case_value_if}
+use Rattle.shader_runs.specs.ProgramRun.{leave}
 use Rattle.shader_runs.specs.ProgramRun.{return_outcome, run, run_all, run_body, run_cases}
-use Rattle.shader_runs.specs.ProgramRun.{run_from_entry, run_on, same_label, used_value}
+use Rattle.shader_runs.specs.ProgramRun.{run_from_entry, run_on, same_case_value, used_value}
 use Rattle.shader_runs.specs.ProgramRun.{used_value_as, used_values, with_first, with_pointer}
 use Rattle.shader_runs.specs.ProgramRun.{constant_as, constant_below, with_result}
 
@@ -129,7 +134,7 @@ module _ (c : Call) (told : List Function) (body : Statements) where
           (λ v. branch_by v t (all_run a kept t i) (all_run b kept t i))
       one_runs (Switch h cases) kept t =
           λ i. or_stuck (used kept h i) t (λ v. with_integer v t (λ z.
-          after_switch (cases_run cases (label_if (has_label (Numbered z) cases) z) kept t i)))
+          after_switch (cases_run cases (case_value_if (has_case_value (Numbered z) cases) z) kept t i)))
       one_runs (Loop b d e) kept t =
           λ i. turns n
           (turn (λ kept t. all_run b kept t i) (λ kept t. all_run d kept t i) (λ kept t. left e kept t i))
@@ -147,11 +152,11 @@ module _ (c : Call) (told : List Function) (body : Statements) where
       all_run end kept t = refl
       all_run (then s ss) kept t = λ i. and_then (one_runs s kept t i) (λ kept t. all_run ss kept t i)
 
-      cases_run : (cs : Cases) (x : Label) (kept : KeptValues) (t : List Event) →
+      cases_run : (cs : Cases) (x : CaseValue) (kept : KeptValues) (t : List Event) →
           run_cases c n cs x kept t ≡ run_cases retold n cs x kept t
       cases_run no_case x kept t = refl
       cases_run (case l b falls cs) x kept t =
-          λ i. cond (same_label x l)
+          λ i. cond (same_case_value x l)
           (and_then (all_run b kept t i)
           (λ kept1 t1. cond falls (on_run cs kept1 t1 i) (Done kept1 t1)))
           (cases_run cs x kept t i)

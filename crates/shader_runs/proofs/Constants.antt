@@ -105,8 +105,8 @@ slice_get_drop (suc n) (x ∷ xs) i =
     slice_get_drop n xs i ∙ ap (slice_get (x ∷ xs)) same
 
 -- lists whose parts after n are the same have the same elements there
-behind_same : {X : Type 0} (n : ℕ) (xs ys : List X) → drop n xs ≡ drop n ys → (i : ℕ) → n ≤ i → slice_get xs i ≡ slice_get ys i
-behind_same n xs ys e i le =
+following_same : {X : Type 0} (n : ℕ) (xs ys : List X) → drop n xs ≡ drop n ys → (i : ℕ) → n ≤ i → slice_get xs i ≡ slice_get ys i
+following_same n xs ys e i le =
     let there : i ≡ n + (i - n) = omega (arith, le) in
     ap (slice_get xs) there
     ∙ sym (slice_get_drop n xs (i - n))
@@ -119,13 +119,13 @@ all_found_some [] = refl
 all_found_some (v ∷ vs) = ap (also (Some v)) (all_found_some vs)
 
 -- after the constants stand the overrides
-values_behind : (value : ConstantTree → Option Value) (es : List ConstantTree) (os vs : List Value) → map Some vs ≡ map value es ++ map Some os → drop (length es) vs ≡ os
-values_behind value es os vs e =
-    same_Some (drop (length es) vs) os (sym (all_found_some (drop (length es) vs)) ∙ ap all_found (sym (drop-map Some (length es) vs) ∙ ap (drop (length es)) e ∙ behind es) ∙ all_found_some os)
+values_after : (value : ConstantTree → Option Value) (es : List ConstantTree) (os vs : List Value) → map Some vs ≡ map value es ++ map Some os → drop (length es) vs ≡ os
+values_after value es os vs e =
+    same_Some (drop (length es) vs) os (sym (all_found_some (drop (length es) vs)) ∙ ap all_found (sym (drop-map Some (length es) vs) ∙ ap (drop (length es)) e ∙ following es) ∙ all_found_some os)
   where
-    behind : (es : List ConstantTree) → drop (length es) (map value es ++ map Some os) ≡ map Some os
-    behind [] = refl
-    behind (e ∷ es) = behind es
+    following : (es : List ConstantTree) → drop (length es) (map value es ++ map Some os) ≡ map Some os
+    following [] = refl
+    following (e ∷ es) = following es
 
 -- ---- the names of the text
 length-constants_from : (n : ModuleNames) (j : ℕ) (es : List ConstantTree) → length (constants_from n j es) ≡ length es
@@ -274,17 +274,17 @@ module _ (p : Module) (n : ModuleNames) (fits : ConstantsFit p n) (s : Settings)
   -- the computed constants solve the module's equations
   pub solution : IsSolution p s m env
   solution =
-      record { initialisers = constant_is; overrides = ap (drop (constant_count p)) constants_are ∙ behind (constant_count p) refl; globals = refl; parts = refl }
+      record { initialisers = constant_is; overrides = ap (drop (constant_count p)) constants_are ∙ following (constant_count p) refl; globals = refl; parts = refl }
     where
-      behind : (rounds : ℕ) → rounds ≡ constant_count p → drop (constant_count p) values.0 ≡ s.overrides
-      behind zero e = values_behind (λ e. None) p.initialisers s.overrides values.0 (sym values.1 ∙ ap (found_after p s m) (sym e))
-      behind (suc r) e =
-          values_behind (tree_value (known_value (found_after p s m r)) m) p.initialisers s.overrides values.0 (sym values.1 ∙ ap (found_after p s m) (sym e))
+      following : (rounds : ℕ) → rounds ≡ constant_count p → drop (constant_count p) values.0 ≡ s.overrides
+      following zero e = values_after (λ e. None) p.initialisers s.overrides values.0 (sym values.1 ∙ ap (found_after p s m) (sym e))
+      following (suc r) e =
+          values_after (tree_value (known_value (found_after p s m r)) m) p.initialisers s.overrides values.0 (sym values.1 ∙ ap (found_after p s m) (sym e))
 
   -- and nothing else does
   module _ (other : Environment) (solves : IsSolution p s m other) where
     override_agrees : (i : ℕ) → constant_count p ≤ i → slice_get other.constants i ≡ slice_get env.constants i
-    override_agrees = behind_same (constant_count p) other.constants env.constants (solves.overrides ∙ sym solution.overrides)
+    override_agrees = following_same (constant_count p) other.constants env.constants (solves.overrides ∙ sym solution.overrides)
 
     constant_agrees : (bound i : ℕ) (e : ConstantTree) → slice_get p.initialisers i ≡ Some e → position i < bound → slice_get other.constants i ≡ slice_get env.constants i
     constant_agrees zero i e q lt = absurd (omega (arith, lt))

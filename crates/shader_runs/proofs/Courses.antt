@@ -126,7 +126,7 @@ pub data AsksAt : Course → List Event → List Event → ValueType → Type 0 
       AsksAt (next (entries t)) t u k → AsksAt (counts next) t u k
   inside : {c : Course} {next : Pause → Course} {t u : List Event} {k : ValueType} →
       AsksAt c t u k → AsksAt (joins c next) t u k
-  behind : {c : Course} {next : Pause → Course} {t u e : List Event} {k : ValueType} {x : Pause} →
+  following : {c : Course} {next : Pause → Course} {t u e : List Event} {k : ValueType} {x : Pause} →
       filled c t ≡ Gives x e → AsksAt (next x) e u k → AsksAt (joins c next) t u k
 
 -- in a world that answers so
@@ -144,7 +144,7 @@ run_filled w (counts next) t right = run_filled w (next (entries t)) t (λ u k a
 run_filled w (joins c next) t right =
     resumed_alike (run w c t) (filled c t) (λ x e. run w (next x) e) (λ x e. filled (next x) e)
     (run_filled w c t (λ u k a. right u k (inside a)))
-    (λ x e h. run_filled w (next x) e (λ u k a. right u k (behind h a)))
+    (λ x e h. run_filled w (next x) e (λ u k a. right u k (following h a)))
 
 -- it makes no mistake
 abbrev pub HasNoMistake : ReachedOrHalted Pause → Type 0
@@ -199,7 +199,7 @@ asks_later (answered_then a) = omega (arith, asks_later a)
 asks_later (made_then a) = omega (arith, asks_later a)
 asks_later (counted_then a) = asks_later a
 asks_later (inside a) = asks_later a
-asks_later (behind {c = c} {t = t} h a) =
+asks_later (following {c = c} {t = t} h a) =
     omega (arith, asks_later a, filled_grows c t, ap (λ q. events_made q) h)
 
 pub asks_before : {c : Course} {t u : List Event} {k : ValueType} → AsksAt c t u k → length u < events_made (filled c t)
@@ -208,7 +208,7 @@ asks_before (answered_then a) = asks_before a
 asks_before (made_then a) = asks_before a
 asks_before (counted_then a) = asks_before a
 asks_before (inside {c = c} {next = next} {t = t} a) = omega (arith, asks_before a, joined_grows c next t)
-asks_before (behind {c = c} {next = next} {t = t} h a) =
+asks_before (following {c = c} {next = next} {t = t} h a) =
     omega (arith, asks_before a, ap (λ q. events_made q) (joined_from c next t h))
 
 -- the type that is wanted after i events, if one is
@@ -266,7 +266,7 @@ is_asked_at (made_then a) = is_asked_at a
 is_asked_at (counted_then a) = is_asked_at a
 is_asked_at (inside {c = c} {next = next} {t = t} {u = u} a) =
     ap (λ o. or_else o (where_given (filled c t) (λ x e. asked (next x) e (length u)))) (is_asked_at a)
-is_asked_at (behind {c = c} {next = next} {t = t} {u = u} h a) =
+is_asked_at (following {c = c} {next = next} {t = t} {u = u} h a) =
     ap (λ o. or_else o (where_given (filled c t) (λ x e. asked (next x) e (length u))))
     (none_asked c t (length u) (omega (arith, asks_later a, ap (λ q. events_made q) h)))
     ∙ ap (λ q. where_given q (λ x e. asked (next x) e (length u))) h

@@ -7,17 +7,18 @@ use Rattle.shader_runs.specs.World.{Event}
 use Rattle.shader_runs.specs.Outcome.{Outcome, Done, Continued, Broke, Returned, Stopped, Next}
 use Rattle.shader_runs.specs.Outcome.{and_then, and_continue, within, turns, and_again}
 use Rattle.shader_runs.specs.Outcome.{after_switch, branch_by, with_integer, or_stuck}
-use Rattle.shader_runs.specs.Program.{Label, Numbered, Statement, Block, If, Switch}
+use Rattle.shader_runs.specs.Program.{CaseValue, Numbered, Statement, Block, If, Switch}
 use Rattle.shader_runs.specs.Program.{Loop, Statements}
 use Rattle.shader_runs.specs.Program.{end, then, Cases, no_case, case}
-use Rattle.shader_runs.specs.ProgramRun.{Call, KeptValues, used_value, leave, same_label, has_label}
-use Rattle.shader_runs.specs.ProgramRun.{label_if, run, run_all, run_cases, run_on}
-use Rattle.shader_runs.specs.Passes.{Region, Inner, LoopBody, Continuing, here, behind, inside}
+use Rattle.shader_runs.specs.ProgramRun.{Call, KeptValues, used_value, leave, same_case_value}
+use Rattle.shader_runs.specs.ProgramRun.{has_case_value}
+use Rattle.shader_runs.specs.ProgramRun.{case_value_if, run, run_all, run_cases, run_on}
+use Rattle.shader_runs.specs.Passes.{Region, Inner, LoopBody, Continuing, here, following, inside}
 use Rattle.shader_runs.specs.Passes.{after_turns, to_body, to_continuing, body_at, statements_in}
 use Rattle.shader_runs.specs.Passes.{module_turn, FallsTo, this_case, next_case, ComesToCase}
 use Rattle.shader_runs.specs.Passes.{own_case, other_case, Comes, into_block, into_accept}
 use Rattle.shader_runs.specs.Passes.{into_reject, into_case, into_loop, Passes, is_here}
-use Rattle.shader_runs.specs.Passes.{goes_behind, goes_inside}
+use Rattle.shader_runs.specs.Passes.{goes_after, goes_inside}
 use Rattle.shader_runs.specs.Ends.{end_of, is_simple, stops_early, is_early, EndsAt, EndsArePassed}
 use Rattle.shader_runs.proofs.Passes.{same_state, same_events, then_parts, one_more_turn}
 
@@ -33,17 +34,17 @@ module _ (c : Call) (n : ℕ) where
   EndsOne st =
       (ss : Statements) (kept : KeptValues) (t : List Event) → IsTrue (is_early (run c n st kept t)) → EndsAt c n (then st ss) kept t (run c n st kept t)
 
-  ends_behind : (st : Statement) (ss : Statements) (kept kept1 : KeptValues) (t t1 : List Event)
+  ends_after : (st : Statement) (ss : Statements) (kept kept1 : KeptValues) (t t1 : List Event)
       (o : Outcome KeptValues) → run c n st kept t ≡ Done kept1 t1 → EndsAt c n ss kept1 t1 o →
       EndsAt c n (then st ss) kept t o
-  ends_behind st ss kept kept1 t t1 o e w =
+  ends_after st ss kept kept1 t t1 o e w =
       record {
-        point = behind w.point;
+        point = following w.point;
         statement = w.statement;
         rest = w.rest;
         kept_there = w.kept_there;
         events_there = w.events_there;
-        passed = goes_behind e w.passed;
+        passed = goes_after e w.passed;
         stands = w.stands;
         simple = w.simple;
         ends = w.ends;
@@ -86,7 +87,7 @@ module _ (c : Call) (n : ℕ) where
           (IsTrue (is_early o) → EndsAt c n (then st ss) kept t o) →
           IsTrue (is_early (and_then o (run_all c n ss))) →
           EndsAt c n (then st ss) kept t (and_then o (run_all c n ss))
-      go (Done k t1) e own early = ends_behind st ss kept k t t1 (run_all c n ss k t1) e (all k t1 early)
+      go (Done k t1) e own early = ends_after st ss kept k t t1 (run_all c n ss k t1) e (all k t1 early)
       go (Continued k t1) e own early = own early
       go (Broke k t1) e own early = own early
       go (Returned v t1) e own early = own early
@@ -114,19 +115,19 @@ module _ (c : Call) (n : ℕ) where
   abbrev EndsOn : Cases → Type 0
   EndsOn cs = (kept : KeptValues) (t : List Event) → IsTrue (is_early (run_on c n cs kept t)) → OnTo cs kept t (run_on c n cs kept t)
 
-  -- the same for a label
-  abbrev ForTo : Label → Cases → KeptValues → List Event → Outcome KeptValues → Type 0
+  -- the same for a case value
+  abbrev ForTo : CaseValue → Cases → KeptValues → List Event → Outcome KeptValues → Type 0
   ForTo x cs kept t o =
       (i : ℕ) × (kept1 : KeptValues) × (t1 : List Event) × ComesToCase c n x cs i kept t kept1 t1 × EndsAt c n (body_at cs i) kept1 t1 o
 
   abbrev EndsFor : Cases → Type 0
   EndsFor cs =
-      (x : Label) (kept : KeptValues) (t : List Event) → IsTrue (is_early (run_cases c n cs x kept t)) → ForTo x cs kept t (run_cases c n cs x kept t)
+      (x : CaseValue) (kept : KeptValues) (t : List Event) → IsTrue (is_early (run_cases c n cs x kept t)) → ForTo x cs kept t (run_cases c n cs x kept t)
 
   abbrev Goes_on : Bool → Cases → Next KeptValues
   Goes_on falls cs kept t = cond falls (run_on c n cs kept t) (Done kept t)
 
-  on_ends : (l : Label) (b : Statements) (falls : Bool) (cs : Cases) → EndsOf b → EndsOn cs → EndsOn (case l b falls cs)
+  on_ends : (l : CaseValue) (b : Statements) (falls : Bool) (cs : Cases) → EndsOf b → EndsOn cs → EndsOn (case l b falls cs)
   on_ends l b falls cs in_b on kept t = go falls (run_all c n b kept t) refl (in_b kept t)
     where
       go : (falls : Bool) (o : Outcome KeptValues) → run_all c n b kept t ≡ o →
@@ -142,10 +143,10 @@ module _ (c : Call) (n : ℕ) where
       go falls (Returned v t1) e own early = (0, kept, t, this_case, own early)
       go falls (Stopped x t1) e own early = (0, kept, t, this_case, own early)
 
-  for_ends : (l : Label) (b : Statements) (falls : Bool) (cs : Cases) → EndsOn (case l b falls cs) → EndsFor cs → EndsFor (case l b falls cs)
-  for_ends l b falls cs on others x kept t = go (same_label x l) refl
+  for_ends : (l : CaseValue) (b : Statements) (falls : Bool) (cs : Cases) → EndsOn (case l b falls cs) → EndsFor cs → EndsFor (case l b falls cs)
+  for_ends l b falls cs on others x kept t = go (same_case_value x l) refl
     where
-      go : (here : Bool) → same_label x l ≡ here →
+      go : (here : Bool) → same_case_value x l ≡ here →
           IsTrue (is_early
           (cond here (run_on c n (case l b falls cs) kept t) (run_cases c n cs x kept t))) →
           ForTo x (case l b falls cs) kept t
@@ -170,13 +171,13 @@ module _ (c : Call) (n : ℕ) where
           (or_stuck o t
           (λ v. with_integer v t
           (λ z. after_switch
-          (run_cases c n cs (label_if (has_label (Numbered z) cs) z) kept t))))) →
+          (run_cases c n cs (case_value_if (has_case_value (Numbered z) cs) z) kept t))))) →
           EndsAt c n (then (Switch h cs) ss) kept t
           (or_stuck o t
           (λ v. with_integer v t
-          (λ z. after_switch (run_cases c n cs (label_if (has_label (Numbered z) cs) z) kept t))))
+          (λ z. after_switch (run_cases c n cs (case_value_if (has_case_value (Numbered z) cs) z) kept t))))
       go (Some (Whole spelling z)) e early =
-          let x = label_if (has_label (Numbered z) cs) z in
+          let x = case_value_if (has_case_value (Numbered z) cs) z in
           let keeps = switch_keeps (run_cases c n cs x kept t) early in
           let w = cases x kept t keeps.1 in
           subst (λ o. EndsAt c n (then (Switch h cs) ss) kept t o) (sym keeps.0) (ends_inside (Switch h cs) _ ss kept w.1 t w.2 (run_cases c n cs x kept t) (into_case e w.3) w.4)
@@ -287,7 +288,7 @@ module _ (c : Call) (n : ℕ) where
       subst (λ k. Passes c n end here kept t k t1) (same_state kept kept1 t t1 e) (subst (λ x. Passes c n end here kept t kept x) (same_events kept kept1 t t1 e) is_here)
   end_passed (then st ss) kept kept1 t t1 e =
       let parts = then_parts (run c n st kept t) (run_all c n ss) kept1 t1 e in
-      goes_behind parts.2 (end_passed ss parts.0 kept1 parts.1 t1 parts.3)
+      goes_after parts.2 (end_passed ss parts.0 kept1 parts.1 t1 parts.3)
 
 pub ends_are_passed : EndsArePassed
 ends_are_passed c n ss kept t = (λ kept1 t1 e. end_passed c n ss kept kept1 t t1 e, all_ends c n ss kept t)

@@ -9,17 +9,18 @@ use Rattle.shader_runs.specs.World.{Event, Entry, Ask, Read, entries, Meaning}
 use Rattle.shader_runs.specs.World.{Environment}
 use Rattle.shader_runs.specs.Program.{Expression, Load}
 use Rattle.shader_runs.specs.Program.{Request}
-use Rattle.shader_runs.specs.Program.{Action, Asked, Called, Label, Numbered, Statement, Emit}
+use Rattle.shader_runs.specs.Program.{Action, Asked, Called, CaseValue, Numbered, Statement, Emit}
 use Rattle.shader_runs.specs.Program.{Store, Block, If, Switch, Loop, Break, Continue, Return}
 use Rattle.shader_runs.specs.Program.{Barrier, Act, Statements, end, then, Cases, no_case, case}
 use Rattle.shader_runs.specs.Program.{Function, argument_count, expression_of, handle_type}
 use Rattle.shader_runs.specs.Program.{is_counted, from, Jumps}
 use Rattle.shader_runs.specs.ProgramRun.{Call, KeptValues, constant_values, used_value, used_values}
-use Rattle.shader_runs.specs.ProgramRun.{joined_values, barrier_words, same_label, has_label}
-use Rattle.shader_runs.specs.ProgramRun.{label_if, constants_kept, first_used_all}
+use Rattle.shader_runs.specs.ProgramRun.{joined_values, barrier_words, same_case_value}
+use Rattle.shader_runs.specs.ProgramRun.{has_case_value}
+use Rattle.shader_runs.specs.ProgramRun.{case_value_if, constants_kept, first_used_all}
 use Rattle.shader_runs.proofs.Process.{Pause, DoneWith, ContinuedWith, BrokeWith, ReturnedWith}
 use Rattle.shader_runs.proofs.Process.{Process, gives, stuck, looks, sequence, then_on}
-use Rattle.shader_runs.proofs.Process.{continue_on, inside, behind_switch, on_there, if_true}
+use Rattle.shader_runs.proofs.Process.{continue_on, inside, following_switch, on_there, if_true}
 use Rattle.shader_runs.proofs.Process.{on_truth, keeping, load_process, ask_process, asks_process}
 use Rattle.shader_runs.proofs.Process.{answer_back, result_process, answers_call, entry_process}
 use Rattle.shader_runs.proofs.Process.{emit_one, emit_process, act_process, leave_process}
@@ -100,7 +101,7 @@ module _ (calls : ℕ → List Value → Course) where
     inside_enters (DoneWith s) t = tt
     inside_enters _ t = tt
 
-    switch_enters : (x : Pause) → Enters (behind_switch x)
+    switch_enters : (x : Pause) → Enters (following_switch x)
     switch_enters (DoneWith s) t = tt
     switch_enters _ t = tt
 
@@ -180,7 +181,7 @@ module _ (calls : ℕ → List Value → Course) where
         statement_enters (Switch h ks) kept =
             there_enters (used_value c kept h) _
             (λ v. there_enters (integer_in v) _
-            (λ z t. (cases_enter ks (label_if (has_label (Numbered z) ks) z) kept t, switch_enters)))
+            (λ z t. (cases_enter ks (case_value_if (has_case_value (Numbered z) ks) z) kept t, switch_enters)))
         statement_enters (Loop b d o) kept =
             laps_entered (λ s. course n
             (sequence (list_process c callees b s) (continue_on
@@ -206,10 +207,10 @@ module _ (calls : ℕ → List Value → Course) where
         list_enters (then s ss) kept t =
             (statement_enters s kept t, then_enters (list_process c callees ss) (list_enters ss))
 
-        cases_enter : (ks : Cases) (x : Label) (kept : KeptValues) → Enters (cases_process c callees ks x kept)
+        cases_enter : (ks : Cases) (x : CaseValue) (kept : KeptValues) → Enters (cases_process c callees ks x kept)
         cases_enter no_case x kept = λ t. tt
         cases_enter (case l b falls ks) x kept =
-            chosen_enters (same_label x l) _ _
+            chosen_enters (same_case_value x l) _ _
             (λ t. (
               list_enters b kept t,
               then_enters (λ s. if_true falls (on_process c callees ks s) (gives (DoneWith s)))

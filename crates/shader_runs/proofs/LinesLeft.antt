@@ -6,7 +6,7 @@ use Rattle.shader_runs.specs.Value.{Bytes}
 use Rattle.shader_runs.specs.World.{bind}
 use Rattle.shader_runs.specs.Program.{Statement, Emit, Block, If, Switch, Loop}
 use Rattle.shader_runs.specs.Program.{Continue, Barrier, Act, Statements, end, then}
-use Rattle.shader_runs.specs.Program.{Cases, no_case, case, Label, expression_of}
+use Rattle.shader_runs.specs.Program.{Cases, no_case, case, CaseValue, expression_of}
 use Rattle.shader_runs.specs.Program.{binds, from, holds_continue, any_continue}
 use Rattle.shader_runs.specs.Program.{some_case_continues, Jumps}
 use Rattle.shader_runs.specs.ProgramRun.{barrier_words}
@@ -19,7 +19,8 @@ use Rattle.shader_runs.specs.Form.{form}
 use Rattle.shader_runs.specs.Form.{form_all, form_cases, value_if}
 use Rattle.shader_runs.specs.Premises.{FallsEmpty, OnlyEmptyFalls, OnlyEmptyFallIn}
 use Rattle.shader_runs.specs.Premises.{OnlyEmptyCasesFall}
-use Rattle.shader_runs.specs.Resolution.{LetTarget, Lookup, lets_behind_all, lets_behind_groups}
+use Rattle.shader_runs.specs.Resolution.{LetTarget, Lookup, lets_following_all}
+use Rattle.shader_runs.specs.Resolution.{lets_following_groups}
 use Rattle.shader_runs.specs.Resolution.{names_left, lets_after, lets_after_all, lets_by}
 use Rattle.shader_runs.specs.Resolution.{lets_by_all, lets_by_cases}
 use Rattle.shader_runs.proofs.Scope.{lets_continue, performs_continue, told_continues}
@@ -49,7 +50,7 @@ module _ (f : Naming) where
         line_continues k st s (form_all f (named_by f.function st k) ss (after f k st s)) only.0
         ∙ ap (λ c. holds_continue st || c) (lines_continue (named_by f.function st k) ss (after f k st s) only.1)
 
-    groups_continue : (k : ℕ) (labels : List Label) (cs : Cases) (s : Handles) → OnlyEmptyCasesFall cs → some_group_continues (form_cases f k labels cs s) ≡ some_case_continues cs
+    groups_continue : (k : ℕ) (labels : List CaseValue) (cs : Cases) (s : Handles) → OnlyEmptyCasesFall cs → some_group_continues (form_cases f k labels cs s) ≡ some_case_continues cs
     groups_continue k labels no_case s only = refl
     groups_continue k labels (case label b true cs) s only =
         groups_continue (named_by_all f.function b k) (labels ++ label ∷ []) cs s only.2
@@ -85,7 +86,7 @@ module _ (f : Naming) where
 
   -- ---- what a statement's lines leave
   -- how many `let`s there are
-  pub lets_counted : (k l : ℕ) (hs : List ℕ) (s : Handles) (tail : Lines) → lets_behind_all l (lets f k hs s tail) ≡ lets_behind_all (lets_after_all f.function hs l) tail
+  pub lets_counted : (k l : ℕ) (hs : List ℕ) (s : Handles) (tail : Lines) → lets_following_all l (lets f k hs s tail) ≡ lets_following_all (lets_after_all f.function hs l) tail
   lets_counted k l [] s tail = refl
   lets_counted k l (h ∷ hs) s tail =
       by (binds f.function h) (λ l1. lets_counted (named_after f.function h k) l1 hs (after_one f k h s) tail)
@@ -97,46 +98,46 @@ module _ (f : Naming) where
       rest = lets f (named_after f.function h k) hs (after_one f k h s) tail
 
       by : (b : Bool) →
-          ((l1 : ℕ) → lets_behind_all l1 rest ≡ lets_behind_all (lets_after_all f.function hs l1)
-          tail) → lets_behind_all l (let_if b (bound_name f k h) e rest) ≡ lets_behind_all
+          ((l1 : ℕ) → lets_following_all l1 rest ≡ lets_following_all (lets_after_all f.function hs l1)
+          tail) → lets_following_all l (let_if b (bound_name f k h) e rest) ≡ lets_following_all
           (lets_after_all f.function hs (cond b (suc l) l)) tail
       by true further = further (suc l)
       by false further = further l
 
-  pub performs_counted : (l : ℕ) (ws : List Bytes) (tail : Lines) → lets_behind_all l (perform_each ws tail) ≡ lets_behind_all l tail
+  pub performs_counted : (l : ℕ) (ws : List Bytes) (tail : Lines) → lets_following_all l (perform_each ws tail) ≡ lets_following_all l tail
   performs_counted l [] tail = refl
   performs_counted l (w ∷ ws) tail = performs_counted l ws tail
 
   mutual
-    pub line_counted : (k l : ℕ) (st : Statement) (s : Handles) (tail : Lines) → lets_behind_all l (form f k st s tail) ≡ lets_behind_all (lets_by f.function st l) tail
+    pub line_counted : (k l : ℕ) (st : Statement) (s : Handles) (tail : Lines) → lets_following_all l (form f k st s tail) ≡ lets_following_all (lets_by f.function st l) tail
     line_counted k l (Emit first count) s tail = lets_counted k l (from first count) s tail
-    line_counted k l (Block b) s tail = ap (λ n. lets_behind_all n tail) (lines_counted k l b s)
+    line_counted k l (Block b) s tail = ap (λ n. lets_following_all n tail) (lines_counted k l b s)
     line_counted k l (If c a b) s tail =
         let k1 = named_by_all f.function a k in
-        ap (λ n. lets_behind_all (lets_behind_all n (form_all f k1 b s)) tail) (lines_counted k l a s)
-        ∙ ap (λ n. lets_behind_all n tail) (lines_counted k1 (lets_by_all f.function a l) b s)
-    line_counted k l (Switch h cs) s tail = ap (λ n. lets_behind_all n tail) (groups_counted k l [] cs s)
+        ap (λ n. lets_following_all (lets_following_all n (form_all f k1 b s)) tail) (lines_counted k l a s)
+        ∙ ap (λ n. lets_following_all n tail) (lines_counted k1 (lets_by_all f.function a l) b s)
+    line_counted k l (Switch h cs) s tail = ap (λ n. lets_following_all n tail) (groups_counted k l [] cs s)
     line_counted k l (Loop b d e) s tail =
         let k1 = named_by_all f.function b k in
         let s1 = after_all f k b s in
-        ap (λ n. lets_behind_all (lets_behind_all n (form_all f k1 d s1)) tail) (lines_counted k l b s)
-        ∙ ap (λ n. lets_behind_all n tail) (lines_counted k1 (lets_by_all f.function b l) d s1)
+        ap (λ n. lets_following_all (lets_following_all n (form_all f k1 d s1)) tail) (lines_counted k l b s)
+        ∙ ap (λ n. lets_following_all n tail) (lines_counted k1 (lets_by_all f.function b l) d s1)
     line_counted k l (Barrier bits) s tail = performs_counted l (barrier_words bits) tail
     line_counted k l (Act a xs None) s tail = refl
     line_counted k l (Act a xs (Some h)) s tail = refl
     line_counted k l _ s tail = refl
 
-    pub lines_counted : (k l : ℕ) (ss : Statements) (s : Handles) → lets_behind_all l (form_all f k ss s) ≡ lets_by_all f.function ss l
+    pub lines_counted : (k l : ℕ) (ss : Statements) (s : Handles) → lets_following_all l (form_all f k ss s) ≡ lets_by_all f.function ss l
     lines_counted k l end s = refl
     lines_counted k l (then st ss) s =
         line_counted k l st s (form_all f (named_by f.function st k) ss (after f k st s))
         ∙ lines_counted (named_by f.function st k) (lets_by f.function st l) ss (after f k st s)
 
-    pub groups_counted : (k l : ℕ) (labels : List Label) (cs : Cases) (s : Handles) → lets_behind_groups l (form_cases f k labels cs s) ≡ lets_by_cases f.function cs l
+    pub groups_counted : (k l : ℕ) (labels : List CaseValue) (cs : Cases) (s : Handles) → lets_following_groups l (form_cases f k labels cs s) ≡ lets_by_cases f.function cs l
     groups_counted k l labels no_case s = refl
     groups_counted k l labels (case label b true cs) s = groups_counted (named_by_all f.function b k) l (labels ++ label ∷ []) cs s
     groups_counted k l labels (case label b false cs) s =
-        ap (λ n. lets_behind_groups n (form_cases f (named_by_all f.function b k) [] cs s)) (lines_counted k l b s)
+        ap (λ n. lets_following_groups n (form_cases f (named_by_all f.function b k) [] cs s)) (lines_counted k l b s)
         ∙ groups_counted (named_by_all f.function b k) (lets_by_all f.function b l) [] cs s
 
   -- which names there are
@@ -175,13 +176,13 @@ module _ (f : Naming) where
   line_leaves k l (If c a b) s tail names only =
       let k1 = named_by_all f.function a k in
       λ i. cond (lines_continue f k a s only.0 i || lines_continue f k1 b s only.1 i) names
-      (names_left ((ap (λ n. lets_behind_all n (form_all f k1 b s)) (lines_counted k l a s) ∙ lines_counted k1 (lets_by_all f.function a l) b s) i) tail names)
+      (names_left ((ap (λ n. lets_following_all n (form_all f k1 b s)) (lines_counted k l a s) ∙ lines_counted k1 (lets_by_all f.function a l) b s) i) tail names)
   line_leaves k l (Switch h cs) s tail names only =
       λ i. cond (groups_continue f k [] cs s only i) names (names_left (groups_counted k l [] cs s i) tail names)
   line_leaves k l (Loop b d e) s tail names only =
       let k1 = named_by_all f.function b k in
       let s1 = after_all f k b s in
-      λ i. names_left ((ap (λ n. lets_behind_all n (form_all f k1 d s1)) (lines_counted k l b s) ∙ lines_counted k1 (lets_by_all f.function b l) d s1) i) tail names
+      λ i. names_left ((ap (λ n. lets_following_all n (form_all f k1 d s1)) (lines_counted k l b s) ∙ lines_counted k1 (lets_by_all f.function b l) d s1) i) tail names
   line_leaves k l (Jumps Continue) s tail names only = refl
   line_leaves k l (Barrier bits) s tail names only = performs_leave l (barrier_words bits) tail names
   line_leaves k l (Act a xs None) s tail names only = refl

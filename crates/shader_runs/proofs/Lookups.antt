@@ -344,12 +344,12 @@ module _ (p : Module) (f : Naming) (distinct : AreDistinct p f) where
       InScope next s1 numbers1 names1 →
       InScope next (forgotten_if continues s s1) (cond continues numbers numbers1)
       (cond continues names names1)
-  scope_forgotten true k next s s1 numbers numbers1 names names1 le scope behind = record {
+  scope_forgotten true k next s s1 numbers numbers1 names names1 le scope following = record {
     items = scope.items;
     lets = λ h x e. scope.lets h x (forgotten_bound (s h) (s1 h) x e);
     sources = λ h x e. sources_more f k next s le scope.sources h x (forgotten_bound (s h) (s1 h) x e);
   }
-  scope_forgotten false k next s s1 numbers numbers1 names names1 le scope behind = behind
+  scope_forgotten false k next s s1 numbers numbers1 names names1 le scope following = following
 
   pub scope_left : (k l : ℕ) (ss : Statements) (s : Handles) (numbers : LetNumbers)
       (names : Lookup) → named_by_all f.function ss k ≤ total → InScope k s numbers names →

@@ -215,11 +215,11 @@ environment_alike p n later f between callees fits env environment m typed vs h 
         (subst (λ parts. AllTypedIn parts p m p.functions) (sym environment.parts) typed.functions))
 
     named : AreNamed n (form_function f ∷ rest)
-    named = named_behind later (form_function f ∷ rest) fits.items.named
+    named = named_following later (form_function f ∷ rest) fits.items.named
       where
-        named_behind : (fs gs : List TextFunction) → AreNamed n (fs ++ gs) → AreNamed n gs
-        named_behind [] gs are = are
-        named_behind (f ∷ fs) gs are = named_behind fs gs are.1
+        named_following : (fs gs : List TextFunction) → AreNamed n (fs ++ gs) → AreNamed n gs
+        named_following [] gs are = are
+        named_following (f ∷ fs) gs are = named_following fs gs are.1
 
     -- its callees do the same by their names as by their numbers
     calls : ℕ → List Value → List Event → ReachedOrHalted (Option Value)

@@ -7,7 +7,8 @@ use Rattle.std.specs.Prelude.{IsTrue, false}
 use Rattle.std.specs.Option.{option_map_or}
 use Rattle.std.proofs.lemmas.Bool.{cases_lt}
 use Rattle.shader_runs.specs.Value.{ValueType, has_types, Value, Truth}
-use Rattle.shader_runs.specs.World.{Event, Entry, Ask, Read, Write, Discard, entries, World, Meaning}
+use Rattle.shader_runs.specs.World.{Event, Entry, Ask, Read, Write, Discard, entries, World}
+use Rattle.shader_runs.specs.World.{Meaning}
 use Rattle.shader_runs.specs.World.{Environment, Settings}
 use Rattle.shader_runs.specs.Outcome.{Mistyped}
 use Rattle.shader_runs.specs.Outcome.{ReachedOrHalted, Gives, Halts}
@@ -23,7 +24,7 @@ use Rattle.shader_runs.proofs.Process.{Pause, Process, resumed, call_process}
 use Rattle.shader_runs.proofs.Performed.{call_outcome, call_performed}
 use Rattle.shader_runs.proofs.Courses.{Course, comes_to, stops, makes, asks, counts, joins}
 use Rattle.shader_runs.proofs.Courses.{process_runs, filled, events_made, AsksAt, now}
-use Rattle.shader_runs.proofs.Courses.{answered_then, made_then, counted_then, inside, behind}
+use Rattle.shader_runs.proofs.Courses.{answered_then, made_then, counted_then, inside, following}
 use Rattle.shader_runs.proofs.Courses.{run_filled, HasNoMistake, filled_right, filled_grows}
 use Rattle.shader_runs.proofs.Courses.{asks_later, asks_before, or_else, asked, none_asked}
 use Rattle.shader_runs.proofs.Courses.{is_asked_at}
@@ -116,7 +117,7 @@ module _ (env : Environment) (m : Meaning) (functions : List Function) where
   asks_wanted (made_then {e = e} {c = c} {t = t} a) (begins, en) h = asks_wanted a en (event_wanted e c t begins a h)
   asks_wanted (counted_then a) en h = asks_wanted a en h
   asks_wanted (inside a) (en, rest) h = asks_wanted a en h
-  asks_wanted (behind {c = c} {t = t} {u = u} {e = e} {x = x} given a) (en, rest) h =
+  asks_wanted (following {c = c} {t = t} {u = u} {e = e} {x = x} given a) (en, rest) h =
       asks_wanted a (rest x e) (subst (LeavesWanted (length u) t) given (leaves_wanted (length u) c t en) (asks_later a) ∙ h)
 
   -- nothing need be so before a call
@@ -131,7 +132,7 @@ module _ (env : Environment) (m : Meaning) (functions : List Function) where
   opening_wanted (made_then {e = Discard} a) en o = absurd o
   opening_wanted (counted_then {t = t} a) en o = opening_wanted a en (o (entries t))
   opening_wanted (inside a) en o = absurd o
-  opening_wanted (behind h a) en o = absurd o
+  opening_wanted (following h a) en o = absurd o
 
   call_wanted : (g : ℕ) (vs : List Value) {t u : List Event} {k : ValueType} → AsksAt (call_to (length u) g vs) t u k → wanted (length u) u ≡ Some k
   call_wanted g vs {t} {u} a =

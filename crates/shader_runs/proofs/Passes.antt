@@ -9,12 +9,12 @@ use Rattle.shader_runs.specs.Outcome.{Stop, Outcome, Done, Continued, Broke, Ret
 use Rattle.shader_runs.specs.Outcome.{ReachedOrHalted, Gives, Halts, Next, and_then, and_continue}
 use Rattle.shader_runs.specs.Outcome.{after_switch, branch_by, with_integer, closed_outcome}
 use Rattle.shader_runs.specs.Outcome.{closed_if, or_stuck, reach, unless}
-use Rattle.shader_runs.specs.Program.{expression_of, Label, Numbered, Statement, Emit}
+use Rattle.shader_runs.specs.Program.{expression_of, CaseValue, Numbered, Statement, Emit}
 use Rattle.shader_runs.specs.Program.{Store, Block, If, Switch, Loop, Break, Continue, Return}
 use Rattle.shader_runs.specs.Program.{Barrier, Act, Statements, end, then, Cases, no_case, case}
 use Rattle.shader_runs.specs.Program.{Module, binds, from, holds_continue, any_continue, Jumps}
 use Rattle.shader_runs.specs.ProgramRun.{Call, KeptValues, used_value, emit, emit_as, barrier_words}
-use Rattle.shader_runs.specs.ProgramRun.{ask_each, same_label, label_if, run, run_all}
+use Rattle.shader_runs.specs.ProgramRun.{ask_each, same_case_value, case_value_if, run, run_all}
 use Rattle.shader_runs.specs.Text.{Tree, Line, Let, Braces, IfElse, SwitchOn, LoopOf, Lines, last}
 use Rattle.shader_runs.specs.Text.{before, Groups}
 use Rattle.shader_runs.specs.TextRun.{Scope, perform_outcome, value_of, with_value, has_continue}
@@ -28,16 +28,16 @@ use Rattle.shader_runs.specs.Form.{written_form, value_at, value_if, value_form,
 use Rattle.shader_runs.specs.Form.{lets}
 use Rattle.shader_runs.specs.Form.{perform_each, form, form_all, form_cases}
 use Rattle.shader_runs.specs.Premises.{EachAsks}
-use Rattle.shader_runs.specs.Passes.{Region, Point, here, behind, inside, after_turns, InTurn}
+use Rattle.shader_runs.specs.Passes.{Region, Point, here, following, inside, after_turns, InTurn}
 use Rattle.shader_runs.specs.Passes.{to_body, to_continuing, to_break_if, body_at, statements_in}
 use Rattle.shader_runs.specs.Passes.{module_turn, FallsTo, this_case, next_case, ComesToCase}
 use Rattle.shader_runs.specs.Passes.{own_case, other_case, Comes, into_block, into_accept}
 use Rattle.shader_runs.specs.Passes.{into_reject, into_case, into_loop, Passes, is_here}
-use Rattle.shader_runs.specs.Passes.{goes_behind, goes_inside, emits, lines_at, lines_in, text_turn}
+use Rattle.shader_runs.specs.Passes.{goes_after, goes_inside, emits, lines_at, lines_in, text_turn}
 use Rattle.shader_runs.specs.Passes.{GoesToGroup, own_group, other_group, into_braces, into_then}
 use Rattle.shader_runs.specs.Passes.{into_else, into_group, into_loop_line, TextPasses}
-use Rattle.shader_runs.specs.Passes.{is_here_in_text, goes_behind_line, goes_inside_line, let_count}
-use Rattle.shader_runs.specs.Passes.{line_count, behind_lines, group_of, region_in_text}
+use Rattle.shader_runs.specs.Passes.{is_here_in_text, goes_after_line, goes_inside_line, let_count}
+use Rattle.shader_runs.specs.Passes.{line_count, after_lines, group_of, region_in_text}
 use Rattle.shader_runs.specs.Passes.{point_in_text}
 use Rattle.shader_runs.specs.Points.{named_before, named_in, handles_in, handles_at}
 use Rattle.shader_runs.proofs.Alike.{Alike, done, continued, broke, returned_alike, stopped}
@@ -97,7 +97,7 @@ then_parts (Stopped x t1) g s t q = absurd (not_stopped x s t1 t q)
 pub one_more_turn : {S : Type 0} (once : Next S) (j : ℕ) (s s1 : S) (t t1 : List Event) (o : Outcome S) → once s t ≡ Done s1 t1 → after_turns once j s1 t1 ≡ o → after_turns once (suc j) s t ≡ o
 one_more_turn once j s s1 t t1 o e rest = ap (λ o. and_then o (after_turns once j)) e ∙ rest
 
-one_more_line : (b : Bool) (m : ℕ) (q : Point) → behind_lines (cond b 1 0) (behind_lines m q) ≡ behind_lines (cond b (suc m) m) q
+one_more_line : (b : Bool) (m : ℕ) (q : Point) → after_lines (cond b 1 0) (after_lines m q) ≡ after_lines (cond b (suc m) m) q
 one_more_line true m q = refl
 one_more_line false m q = refl
 
@@ -143,11 +143,11 @@ module _ (p : Module) (c : Call) (n : Names) (d : Respond) (facts : Facts p c n 
       (q : Point) (names2 : Scope) (t2 : List Event) → Text tail q names1 t1 names2 t2 → Text ls (way q) names t names2 t2
 
   -- the text's run is after a statement
-  abbrev Behind : ℕ → Statement → Handles → Scope → List Event → KeptValues → List Event → Type 0
-  Behind k st s names t kept1 t1 =
+  abbrev Following : ℕ → Statement → Handles → Scope → List Event → KeptValues → List Event → Type 0
+  Following k st s names t kept1 t1 =
       (names1 : Scope) × Related c n (after (naming c n) k st s) names1 kept1 ×
       ((tail : Lines) →
-      Leads (form (naming c n) k st s tail) (behind_lines (line_count c.function st)) names t
+      Leads (form (naming c n) k st s tail) (after_lines (line_count c.function st)) names t
       tail names1 t1)
 
   -- the outcome of a statement's own lines
@@ -167,12 +167,12 @@ module _ (p : Module) (c : Call) (n : Names) (d : Respond) (facts : Facts p c n 
       has_continue x ≡ false → (names1 : Scope) ×
       (follow_in_loop (words c d) bound (before x last) names t ≡ Done names1 t1) ×
       Related c n s1 names1 kept1 → (names1 : Scope) × Related c n s1 names1 kept1 ×
-      ((tail : Lines) → Leads (before x tail) (λ q. behind q) names t tail names1 t1)
+      ((tail : Lines) → Leads (before x tail) (λ q. following q) names t tail names1 t1)
   one_line x s1 names kept1 t t1 none w =
       let whole = and_then (follow (words c d) bound x names t) (λ s t. Done s t) in
       let there : closed_if false names whole ≡ Done w.0 t1 = subst (λ b. closed_if b names whole ≡ Done w.0 t1) none w.1 in
       let own = sym (then_done (follow (words c d) bound x names t)) ∙ there in
-      (w.0, w.2, λ tail q names2 t2 h. goes_behind_line own h)
+      (w.0, w.2, λ tail q names2 t2 h. goes_after_line own h)
 
   -- a line that leaves the names as they were, with or without a `continue` in it
   abbrev Closes : Line → Scope → List Event → Type 0
@@ -205,17 +205,17 @@ module _ (p : Module) (c : Call) (n : Names) (d : Respond) (facts : Facts p c n 
       closes (SwitchOn e gs) names t (value_of (words c d) e names t)
       (λ v t1. with_integer v t1
       (λ z. after_switch
-      (follow_groups (words c d) bound gs (label_if (group_has (Numbered z) gs) z) names t1)))
+      (follow_groups (words c d) bound gs (case_value_if (group_has (Numbered z) gs) z) names t1)))
       refl
 
   closing_line : (x : Line) (s : Handles) (names : Scope) (kept kept1 : KeptValues)
       (t t1 : List Event) → Closes x names t → Related c n s names kept → (names1 : Scope) ×
       (follow_in_loop (words c d) bound (before x last) names t ≡ Done names1 t1) × Agree s kept kept1 →
       (names1 : Scope) × Related c n s names1 kept1 ×
-      ((tail : Lines) → Leads (before x tail) (λ q. behind q) names t tail names1 t1)
+      ((tail : Lines) → Leads (before x tail) (λ q. following q) names t tail names1 t1)
   closing_line x s names kept kept1 t t1 z r w =
       let own : follow (words c d) bound x names t ≡ Done w.0 t1 = sym z.0 ∙ w.1 in
-      (w.0, subst (λ l. Related c n s l kept1) (sym (z.1 w.0 t1 own)) (related_agree c n s names kept kept1 w.2 r), λ tail q names2 t2 h. goes_behind_line own h)
+      (w.0, subst (λ l. Related c n s l kept1) (sym (z.1 w.0 t1 own)) (related_agree c n s names kept kept1 w.2 r), λ tail q names2 t2 h. goes_after_line own h)
 
   -- a line for each handle that is bound
   emits_one : (k h : ℕ) (s : Handles) (names : Scope) (kept kept1 : KeptValues)
@@ -223,7 +223,7 @@ module _ (p : Module) (c : Call) (n : Names) (d : Respond) (facts : Facts p c n 
       emit c (h ∷ []) kept t ≡ Done kept1 t1 →
       (names1 : Scope) × Related c n (after_one (naming c n) k h s) names1 kept1 ×
       ((tail : Lines) →
-      Leads (lets (naming c n) k (h ∷ []) s tail) (behind_lines (let_count c.function (h ∷ [])))
+      Leads (lets (naming c n) k (h ∷ []) s tail) (after_lines (let_count c.function (h ∷ [])))
       names t tail names1 t1)
   emits_one k h s names kept kept1 t t1 r m e =
       let f = λ (kept1 : KeptValues) (t1 : List Event). Done kept1 t1 in
@@ -241,8 +241,8 @@ module _ (p : Module) (c : Call) (n : Names) (d : Respond) (facts : Facts p c n 
 
       go : (b : Bool) (tail : Lines) (names1 : Scope) →
           follow_in_loop (words c d) bound (let_if b x own last) names t ≡ Done names1 t1 →
-          Leads (let_if b x own tail) (behind_lines (cond b 1 0)) names t tail names1 t1
-      go true tail names1 e q names2 t2 h = goes_behind_line (sym (then_done (follow (words c d) bound (Let x own) names t)) ∙ e) h
+          Leads (let_if b x own tail) (after_lines (cond b 1 0)) names t tail names1 t1
+      go true tail names1 e q names2 t2 h = goes_after_line (sym (then_done (follow (words c d) bound (Let x own) names t)) ∙ e) h
       go false tail names1 e q names2 t2 h =
           subst (λ l. Text tail q l t names2 t2) (sym (same_state names names1 t t1 e)) (subst (λ e. Text tail q names1 e names2 t2) (sym (same_events names names1 t t1 e)) h)
 
@@ -251,7 +251,7 @@ module _ (p : Module) (c : Call) (n : Names) (d : Respond) (facts : Facts p c n 
       emit c hs kept t ≡ Done kept1 t1 →
       (names1 : Scope) × Related c n (after_emit (naming c n) k hs s) names1 kept1 ×
       ((tail : Lines) →
-      Leads (lets (naming c n) k hs s tail) (behind_lines (let_count c.function hs)) names t tail
+      Leads (lets (naming c n) k hs s tail) (after_lines (let_count c.function hs)) names t tail
       names1 t1)
   emits_all k [] s names kept kept1 t t1 r m e =
       (names, subst (λ k. Related c n s names k) (same_state kept kept1 t t1 e) r, λ tail q names2 t2 h. subst (λ e. Text tail q names e names2 t2) (sym (same_events kept kept1 t t1 e)) h)
@@ -266,7 +266,7 @@ module _ (p : Module) (c : Call) (n : Names) (d : Respond) (facts : Facts p c n 
         λ tail q names2 t2 there. subst
             (λ q. Text (lets (naming c n) k (h ∷ hs) s tail) q names t names2 t2)
             (one_more_line (binds c.function h) (let_count c.function hs) q)
-            (one.2 (lets (naming c n) k1 hs s1 tail) (behind_lines (let_count c.function hs) q) names2
+            (one.2 (lets (naming c n) k1 hs s1 tail) (after_lines (let_count c.function hs) q) names2
             t2 (rest.2 tail q names2 t2 there)),
       )
 
@@ -274,19 +274,19 @@ module _ (p : Module) (c : Call) (n : Names) (d : Respond) (facts : Facts p c n 
   asks_all : (ws : List Bytes) (s : Handles) (names : Scope) (kept kept1 : KeptValues)
       (t t1 : List Event) → Related c n s names kept → EachAsks p (naming c n) ws →
       ask_each ws kept t ≡ Done kept1 t1 → (kept1 ≡ kept) ×
-      ((tail : Lines) → Leads (perform_each ws tail) (behind_lines (length ws)) names t tail names
+      ((tail : Lines) → Leads (perform_each ws tail) (after_lines (length ws)) names t tail names
       t1)
   asks_all [] s names kept kept1 t t1 r m e =
       (sym (same_state kept kept1 t t1 e), λ tail q names2 t2 h. subst (λ e. Text tail q names e names2 t2) (sym (same_events kept kept1 t t1 e)) h)
   asks_all (w ∷ ws) s names kept kept1 t t1 r m e =
       let rest = asks_all ws s names kept kept1 (Ask w [] ∷ t) t1 r m.1 e in
       let asked = ap (λ o. unless o t (d.1 w [] t)) (free p c n d facts s names kept r w m.0.1.1) ∙ request_responds p c n d facts.responds w m.0 [] t in
-      (rest.0, λ tail q names2 t2 h. goes_behind_line (ap (λ q. perform_outcome (d.0 w) names q) asked ∙ ap (λ b. perform_outcome b names (respond_by_use AsksForEvent c.world c.meaning w [] t)) (facts.responds.asking w m.0)) (rest.1 tail q names2 t2 h))
+      (rest.0, λ tail q names2 t2 h. goes_after_line (ap (λ q. perform_outcome (d.0 w) names q) asked ∙ ap (λ b. perform_outcome b names (respond_by_use AsksForEvent c.world c.meaning w [] t)) (facts.responds.asking w m.0)) (rest.1 tail q names2 t2 h))
 
   -- the text's run gets after each statement that the module's run gets after
   goes_on : (st : Statement) (k : ℕ) (s : Handles) (names : Scope) (kept kept1 : KeptValues)
       (t t1 : List Event) → Related c n s names kept → Fits p c n k st s →
-      run c bound st kept t ≡ Done kept1 t1 → Behind k st s names t kept1 t1
+      run c bound st kept t ≡ Done kept1 t1 → Following k st s names t kept1 t1
   goes_on (Emit first count) k s names kept kept1 t t1 r m e = emits_all k (from first count) s names kept kept1 t t1 r m e
   goes_on (Barrier bits) k s names kept kept1 t t1 r m e =
       let w = asks_all (barrier_words bits) s names kept kept1 t t1 r m e in
@@ -343,7 +343,7 @@ module _ (p : Module) (c : Call) (n : Names) (d : Respond) (facts : Facts p c n 
     where
       go : {ls1 : Lines} {q : Point} {names names1 : Scope} {t t1 : List Event} → Text ls1 q names t names1 t1 → ls1 ≡ last → Text ls q names t names1 t1
       go is_here_in_text e = is_here_in_text
-      go (goes_behind_line {x = x} {ls = rest} a b) e = absurd (some_line x rest e)
+      go (goes_after_line {x = x} {ls = rest} a b) e = absurd (some_line x rest e)
       go (goes_inside_line {x = x} {ls = rest} a b) e = absurd (some_line x rest e)
 
   -- the value of a handle in scope, by the text
@@ -353,19 +353,19 @@ module _ (p : Module) (c : Call) (n : Names) (d : Respond) (facts : Facts p c n 
       Gives v t
   value_there s names kept t h v r u e = value_here p c n d facts s names kept r h u t ∙ ap (λ o. reach o t) e
 
-  -- the labels that wait in front of a case, and its own
-  abbrev Awaited : Label → List Label → Cases → Type 0
+  -- the values that wait in front of a case, and its own
+  abbrev Awaited : CaseValue → List CaseValue → Cases → Type 0
   Awaited x labels no_case = ⊥
   Awaited x labels (case l b falls cs) = IsTrue (among x (labels ++ l ∷ []))
 
-  awaited_more : (x : Label) (labels : List Label) (b : Statements) (cs : Cases) → JoinsNext true b cs → IsTrue (among x labels) → Awaited x labels cs
+  awaited_more : (x : CaseValue) (labels : List CaseValue) (b : Statements) (cs : Cases) → JoinsNext true b cs → IsTrue (among x labels) → Awaited x labels cs
   awaited_more x labels b (case l b1 falls cs) m e =
-      among_append x labels l ∙ or_left (among x labels) (same_label x l) e
+      among_append x labels l ∙ or_left (among x labels) (same_case_value x l) e
   awaited_more x labels end no_case m e = absurd m
   awaited_more x labels (then st ss) no_case m e = absurd m
 
   -- the text's run is in the group of a case
-  abbrev Found : ℕ → List Label → Cases → Handles → Label → ℕ → Type 0
+  abbrev Found : ℕ → List CaseValue → Cases → Handles → CaseValue → ℕ → Type 0
   Found k labels cs s x i =
       GoesToGroup x (form_cases (naming c n) k labels cs s) (group_of cs i) ×
       FitsAll p c n (named_before c.function cs i k) (body_at cs i) s ×
@@ -374,20 +374,20 @@ module _ (p : Module) (c : Call) (n : Names) (d : Respond) (facts : Facts p c n 
       names1 t1 → Text (lines_at (form_cases (naming c n) k labels cs s) (group_of cs i)) q
       names t names1 t1)
 
-  -- labels that wait are those of the next group
-  waiting : (cs : Cases) (k : ℕ) (labels : List Label) (s : Handles) (x : Label) →
+  -- case values that wait are those of the next group
+  waiting : (cs : Cases) (k : ℕ) (labels : List CaseValue) (s : Handles) (x : CaseValue) →
       IsFollowed labels cs → IsTrue (among x labels) → FitsCases p c n k cs s →
       GoesToGroup x (form_cases (naming c n) k labels cs s) 0
   waiting no_case k [] s x w e m = absurd (true≢false (sym e))
   waiting no_case k (l ∷ ls) s x w e m = absurd w
   waiting (case l b false cs) k labels s x w e m =
-      own_group (among_append x labels l ∙ or_left (among x labels) (same_label x l) e)
+      own_group (among_append x labels l ∙ or_left (among x labels) (same_case_value x l) e)
   waiting (case l end true cs) k labels s x w e m =
-      waiting cs k (labels ++ l ∷ []) s x (falls_followed (labels ++ l ∷ []) cs m.0) (among_append x labels l ∙ or_left (among x labels) (same_label x l) e) m.2
+      waiting cs k (labels ++ l ∷ []) s x (falls_followed (labels ++ l ∷ []) cs m.0) (among_append x labels l ∙ or_left (among x labels) (same_case_value x l) e) m.2
   waiting (case l (then st ss) true cs) k labels s x w e m = absurd m.0
 
-  found_here : (l : Label) (b : Statements) (falls : Bool) (cs : Cases) (k : ℕ)
-      (labels : List Label) (s : Handles) (x : Label) → IsTrue (among x (labels ++ l ∷ [])) →
+  found_here : (l : CaseValue) (b : Statements) (falls : Bool) (cs : Cases) (k : ℕ)
+      (labels : List CaseValue) (s : Handles) (x : CaseValue) → IsTrue (among x (labels ++ l ∷ [])) →
       FitsCases p c n k (case l b falls cs) s → Found k labels (case l b falls cs) s x 0
   found_here l b false cs k labels s x e m = (own_group e, m.1, λ q names names1 t t1 h. h)
   found_here l end true cs k labels s x e m =
@@ -401,7 +401,7 @@ module _ (p : Module) (c : Call) (n : Names) (d : Respond) (facts : Facts p c n 
 
   falls_to : {cs : Cases} {i : ℕ} {kept kept1 : KeptValues} {t t1 : List Event} →
       FallsTo c bound cs i kept t kept1 t1 →
-      (k : ℕ) (labels : List Label) (s : Handles) (x : Label) → Awaited x labels cs →
+      (k : ℕ) (labels : List CaseValue) (s : Handles) (x : CaseValue) → Awaited x labels cs →
       FitsCases p c n k cs s → Found k labels cs s x i × (kept1 ≡ kept) × (t1 ≡ t)
   falls_to (this_case {l = l} {b = b} {falls = falls} {cs = cs}) k labels s x e m =
       (found_here l b falls cs k labels s x e m, refl, refl)
@@ -410,17 +410,17 @@ module _ (p : Module) (c : Call) (n : Names) (d : Respond) (facts : Facts p c n 
       let w = falls_to rest (named_by_all c.function b k) (labels ++ l ∷ []) s x (awaited_more x (labels ++ l ∷ []) b cs m.0 e) m.2 in
       (w.0, w.1 ∙ first.0, w.2 ∙ first.1)
 
-  comes_to : {x : Label} {cs : Cases} {i : ℕ} {kept kept1 : KeptValues} {t t1 : List Event} →
-      ComesToCase c bound x cs i kept t kept1 t1 → (k : ℕ) (labels : List Label) (s : Handles) →
+  comes_to : {x : CaseValue} {cs : Cases} {i : ℕ} {kept kept1 : KeptValues} {t t1 : List Event} →
+      ComesToCase c bound x cs i kept t kept1 t1 → (k : ℕ) (labels : List CaseValue) (s : Handles) →
       among x labels ≡ false → FitsCases p c n k cs s → Found k labels cs s x i × (kept1 ≡ kept) ×
       (t1 ≡ t)
   comes_to {x} (own_case {l = l} q rest) k labels s e m =
-      falls_to rest k labels s x (among_append x labels l ∙ or_right (among x labels) (same_label x l) q) m
+      falls_to rest k labels s x (among_append x labels l ∙ or_right (among x labels) (same_case_value x l) q) m
   comes_to {x} (other_case {l = l} {b = b} {falls = false} q rest) k labels s e m =
       let w = comes_to rest (named_by_all c.function b k) [] s refl m.2 in
-      ((other_group (among_append x labels l ∙ ap (λ a. a || same_label x l) e ∙ q) w.0.0, w.0.1, w.0.2), w.1, w.2)
+      ((other_group (among_append x labels l ∙ ap (λ a. a || same_case_value x l) e ∙ q) w.0.0, w.0.1, w.0.2), w.1, w.2)
   comes_to {x} (other_case {l = l} {b = b} {falls = true} q rest) k labels s e m =
-      comes_to rest (named_by_all c.function b k) (labels ++ l ∷ []) s (among_append x labels l ∙ ap (λ a. a || same_label x l) e ∙ q) m.2
+      comes_to rest (named_by_all c.function b k) (labels ++ l ∷ []) s (among_append x labels l ∙ ap (λ a. a || same_case_value x l) e ∙ q) m.2
 
   -- the same state and events, of the text's run
   same_from : (ls : Lines) (q : Point) (names names2 : Scope) (t t1 t2 : List Event) → t1 ≡ t → Text ls q names t1 names2 t2 → Text ls q names t names2 t2
@@ -520,7 +520,7 @@ module _ (p : Module) (c : Call) (n : Names) (d : Respond) (facts : Facts p c n 
       (names, r, m.2, λ tail q names2 t2 h. goes_inside_line (into_else (value_there s names kept t x (Truth false) r m.0 e)) h)
   enters (into_case {h = x} {i = i} {cases = cs} {spelling = spelling} {z = z} {kept = kept} {kept1 = kept1} {t = t} {t1 = t1} e to) k s names r m =
       let w = comes_to to k [] s refl m.1 in
-      let goes = subst (λ b. GoesToGroup (label_if b z) (form_cases (naming c n) k [] cs s) (group_of cs i)) (sym (has_all_cases p c n k cs s m.1 (Numbered z))) w.0.0 in (
+      let goes = subst (λ b. GoesToGroup (case_value_if b z) (form_cases (naming c n) k [] cs s) (group_of cs i)) (sym (has_all_cases p c n k cs s m.1 (Numbered z))) w.0.0 in (
         names,
         subst (λ k. Related c n s names k) (sym w.1) r,
         w.0.1,
@@ -538,7 +538,7 @@ module _ (p : Module) (c : Call) (n : Names) (d : Respond) (facts : Facts p c n 
       (t t1 : List Event) (tail : Lines) → i ≤ count → Related c n s names kept →
       MayEmitAll c n k (from first count) s → emit c (from first i) kept t ≡ Done kept1 t1 →
       (names1 : Scope) × Text (lets (naming c n) k (from first count) s tail)
-      (behind_lines (let_count c.function (from first i)) here) names t names1 t1 ×
+      (after_lines (let_count c.function (from first i)) here) names t names1 t1 ×
       Related c n (after_emit (naming c n) k (from first i) s) names1 kept1
   emits_some i count first k s names kept kept1 t t1 tail le r m e =
       let hs = from (first + i) (count - i) in
@@ -547,7 +547,7 @@ module _ (p : Module) (c : Call) (n : Names) (d : Respond) (facts : Facts p c n 
       let f = naming c n in
       let rest = lets f (named_after_all c.function (from first i) k) hs (after_emit f k (from first i) s) tail in
       let lines = ap (λ hs. lets f k hs s tail) split ∙ lets_append (from first i) hs k s tail in
-      (w.0, subst (λ ls. Text ls (behind_lines (let_count c.function (from first i)) here) names t w.0 t1) (sym lines) (w.2 rest here w.0 t1 is_here_in_text), w.1)
+      (w.0, subst (λ ls. Text ls (after_lines (let_count c.function (from first i)) here) names t w.0 t1) (sym lines) (w.2 rest here w.0 t1 is_here_in_text), w.1)
     where
       may_emit_some : (xs ys : List ℕ) (k : ℕ) (s : Handles) → MayEmitAll c n k (xs ++ ys) s → MayEmitAll c n k xs s
       may_emit_some [] ys k s m = tt
@@ -570,7 +570,7 @@ module _ (p : Module) (c : Call) (n : Names) (d : Respond) (facts : Facts p c n 
       (names1 : Scope) × Text (form_all (naming c n) k ss s) (point_in_text c.function ss q) names t
       names1 t1 × Related c n (handles_at (naming c n) k ss q s) names1 kept1
   passes is_here k s names r m = (names, is_here_in_text, r)
-  passes (goes_behind {st = st} {ss = ss} {q = q} {kept = kept} {kept1 = kept1} {t = t} {t1 = t1} {t2 = t2} e rest) k s names r m =
+  passes (goes_after {st = st} {ss = ss} {q = q} {kept = kept} {kept1 = kept1} {t = t} {t1 = t1} {t2 = t2} e rest) k s names r m =
       let k1 = named_by c.function st k in
       let s1 = after (naming c n) k st s in
       let w = goes_on st k s names kept kept1 t t1 r m.0 e in

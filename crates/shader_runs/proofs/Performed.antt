@@ -12,7 +12,7 @@ use Rattle.shader_runs.specs.Outcome.{Gives, Halts, answer, Next, and_then, and_
 use Rattle.shader_runs.specs.Outcome.{turn, and_again, turns, after_switch, branch_by, with_integer}
 use Rattle.shader_runs.specs.Outcome.{or_stuck}
 use Rattle.shader_runs.specs.Program.{Expression, Load, Operator, Access, AccessIndex}
-use Rattle.shader_runs.specs.Program.{Logical, Swizzle, Request, Action, Asked, Called, Label}
+use Rattle.shader_runs.specs.Program.{Logical, Swizzle, Request, Action, Asked, Called, CaseValue}
 use Rattle.shader_runs.specs.Program.{Numbered, Statement, Emit, Store, Block, If, Switch, Loop}
 use Rattle.shader_runs.specs.Program.{Return, Barrier, Act, Statements, end}
 use Rattle.shader_runs.specs.Program.{then, Cases, no_case, case, Function, argument_count}
@@ -24,14 +24,16 @@ use Rattle.shader_runs.specs.ProgramRun.{also, used_values, gathered_value, comp
 use Rattle.shader_runs.specs.ProgramRun.{joined_values, if_typed, keep_typed, after_load}
 use Rattle.shader_runs.specs.ProgramRun.{after_request, if_counted, emit_as, emit, leave}
 use Rattle.shader_runs.specs.ProgramRun.{return_outcome, action_answer, with_result, barrier_words}
-use Rattle.shader_runs.specs.ProgramRun.{ask_each, same_label, has_label, label_if, run, run_all}
+use Rattle.shader_runs.specs.ProgramRun.{ask_each, same_case_value, has_case_value, case_value_if}
+use Rattle.shader_runs.specs.ProgramRun.{run, run_all}
 use Rattle.shader_runs.specs.ProgramRun.{run_cases, run_on, constants_kept, with_first, first_used}
 use Rattle.shader_runs.specs.ProgramRun.{first_used_all, run_from_entry, run_body}
 use Rattle.shader_runs.specs.ProgramRun.{run_if_arguments_fit, run_call}
 use Rattle.shader_runs.proofs.Process.{Pause, DoneWith, ContinuedWith, BrokeWith, ReturnedWith}
 use Rattle.shader_runs.proofs.Process.{Process, gives, stuck, tells, looks, sequence, answered}
 use Rattle.shader_runs.proofs.Process.{resumed, again, rounds, perform, then_on, continue_on}
-use Rattle.shader_runs.proofs.Process.{inside, behind_switch, on_there, on_truth, if_true, keeping}
+use Rattle.shader_runs.proofs.Process.{inside, following_switch, on_there, on_truth, if_true}
+use Rattle.shader_runs.proofs.Process.{keeping}
 use Rattle.shader_runs.proofs.Process.{load_process, ask_process, asks_process, answer_back}
 use Rattle.shader_runs.proofs.Process.{result_process, answers_call, entry_process, emit_one}
 use Rattle.shader_runs.proofs.Process.{emit_process, act_process, leave_process, return_process}
@@ -91,10 +93,10 @@ module _ (w : World) (n : ℕ) where
       go (Gives (ReturnedWith v) e) = refl
       go (Halts x e) = refl
 
-  switch_performed : (o : Outcome KeptValues) (p : Process) (t : List Event) → o ≡ outcome (perform w n p t) → after_switch o ≡ outcome (perform w n (sequence p behind_switch) t)
+  switch_performed : (o : Outcome KeptValues) (p : Process) (t : List Event) → o ≡ outcome (perform w n p t) → after_switch o ≡ outcome (perform w n (sequence p following_switch) t)
   switch_performed o p t e = ap after_switch e ∙ go (perform w n p t)
     where
-      go : (q : ReachedOrHalted Pause) → after_switch (outcome q) ≡ outcome (resumed q (λ x e. perform w n (behind_switch x) e))
+      go : (q : ReachedOrHalted Pause) → after_switch (outcome q) ≡ outcome (resumed q (λ x e. perform w n (following_switch x) e))
       go (Gives (DoneWith s) e) = refl
       go (Gives (ContinuedWith s) e) = refl
       go (Gives (BrokeWith s) e) = refl
@@ -297,20 +299,20 @@ module _ (w : World) (n : ℕ) where
           there_performed (used_value c kept h) (used_value alone kept h) t
           (λ v. with_integer v t
           (λ z. after_switch
-          (run_cases c n ks (label_if (has_label (Numbered z) ks) z) kept t)))
+          (run_cases c n ks (case_value_if (has_case_value (Numbered z) ks) z) kept t)))
           (λ v. on_there (integer_in v)
           (λ z. sequence
-          (cases_process alone callees ks (label_if (has_label (Numbered z) ks) z) kept)
-          behind_switch)) (used_alone kept h)
+          (cases_process alone callees ks (case_value_if (has_case_value (Numbered z) ks) z) kept)
+          following_switch)) (used_alone kept h)
           (λ v. there_performed (integer_in v) (integer_in v) t
-          (λ z. after_switch (run_cases c n ks (label_if (has_label (Numbered z) ks) z) kept t))
+          (λ z. after_switch (run_cases c n ks (case_value_if (has_case_value (Numbered z) ks) z) kept t))
           (λ z. sequence
-          (cases_process alone callees ks (label_if (has_label (Numbered z) ks) z) kept)
-          behind_switch) refl
+          (cases_process alone callees ks (case_value_if (has_case_value (Numbered z) ks) z) kept)
+          following_switch) refl
           (λ z. switch_performed
-          (run_cases c n ks (label_if (has_label (Numbered z) ks) z) kept t)
-          (cases_process alone callees ks (label_if (has_label (Numbered z) ks) z) kept) t
-          (cases_performed ks (label_if (has_label (Numbered z) ks) z) kept t)))
+          (run_cases c n ks (case_value_if (has_case_value (Numbered z) ks) z) kept t)
+          (cases_process alone callees ks (case_value_if (has_case_value (Numbered z) ks) z) kept) t
+          (cases_performed ks (case_value_if (has_case_value (Numbered z) ks) z) kept t)))
       statement_performed (Loop b d o) kept t =
           turns_performed (turn (run_all c n b) (run_all c n d) (leave c o))
           (λ s. sequence (list_process alone callees b s)
@@ -339,10 +341,10 @@ module _ (w : World) (n : ℕ) where
       list_performed (then st ss) kept t =
           then_performed (run c n st kept t) (statement_process alone callees st kept) t (run_all c n ss) (list_process alone callees ss) (statement_performed st kept t) (list_performed ss)
 
-      cases_performed : (ks : Cases) (x : Label) → NextPerformed (run_cases c n ks x) (cases_process alone callees ks x)
+      cases_performed : (ks : Cases) (x : CaseValue) → NextPerformed (run_cases c n ks x) (cases_process alone callees ks x)
       cases_performed no_case x kept t = refl
       cases_performed (case l b falls ks) x kept t =
-          if_performed (same_label x l) t
+          if_performed (same_case_value x l) t
           (and_then (run_all c n b kept t) (λ s e. cond falls (run_on c n ks s e) (Done s e)))
           (run_cases c n ks x kept t)
           (sequence (list_process alone callees b kept)

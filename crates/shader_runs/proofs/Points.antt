@@ -38,17 +38,17 @@ facts_hold p c n d facts s names kept r =
     }
 
 -- what holds of all functions holds of the first ones
-fit_behind : (p : Module) (n : ModuleNames) (later fs : List Naming) → AllFit p n (later ++ fs) → AllFit p n fs
-fit_behind p n [] fs fits = fits
-fit_behind p n (g ∷ later) fs fits = fit_behind p n later fs fits.1
+fit_after : (p : Module) (n : ModuleNames) (later fs : List Naming) → AllFit p n (later ++ fs) → AllFit p n fs
+fit_after p n [] fs fits = fits
+fit_after p n (g ∷ later) fs fits = fit_after p n later fs fits.1
 
-typed_behind : (parts : PartTypes) (p : Module) (m : Meaning) (later fs : List Naming) → AllTypedIn parts p m (functions_of (later ++ fs)) → AllTypedIn parts p m (functions_of fs)
-typed_behind parts p m [] fs typed = typed
-typed_behind parts p m (g ∷ later) fs typed = typed_behind parts p m later fs typed.1
+typed_after : (parts : PartTypes) (p : Module) (m : Meaning) (later fs : List Naming) → AllTypedIn parts p m (functions_of (later ++ fs)) → AllTypedIn parts p m (functions_of fs)
+typed_after parts p m [] fs typed = typed
+typed_after parts p m (g ∷ later) fs typed = typed_after parts p m later fs typed.1
 
-count_behind : (later fs : List Naming) → length fs ≤ length (later ++ fs)
-count_behind [] fs = omega arith
-count_behind (g ∷ later) fs = omega (arith, count_behind later fs)
+count_after : (later fs : List Naming) → length fs ≤ length (later ++ fs)
+count_after [] fs = omega arith
+count_after (g ∷ later) fs = omega (arith, count_after later fs)
 
 pub points_agree : PointsAgree
 points_agree p n later f fs fits s settings m typed vs h w turns before_entry t q kept t1 passed =
@@ -82,17 +82,17 @@ points_agree p n later f fs fits s settings m typed vs h w turns before_entry t 
 
     one : (g k : ℕ) → g < length fs → k < length fs → n.function g ≡ n.function k → g ≡ k
     one g k lg lk =
-        let more = count_behind later (f ∷ fs) in
+        let more = count_after later (f ∷ fs) in
         fits.distinct.functions g k (omega (arith, more, count)) (omega (arith, more, count))
 
     inside_named : Arrived (module_names_in_scope p n env)
     inside_named =
-        let more = count_behind later (f ∷ fs) in
+        let more = count_after later (f ∷ fs) in
         let within : length fs ≤ length p.functions = omega (arith, more, count) in
         let uses = word_use (form_functions every) n.vocabulary in
         let known = uses_fit p n (form_functions every) items.counted items.named in
-        let fit = fit_behind p n later (f ∷ fs) fits.all in
-        let all = typed_behind env.parts p m later (f ∷ fs) (subst (λ l. AllTypedIn env.parts p m l) (sym fits.functions) typed.functions) in
+        let fit = fit_after p n later (f ∷ fs) fits.all in
+        let all = typed_after env.parts p m later (f ∷ fs) (subst (λ l. AllTypedIn env.parts p m l) (sym fits.functions) typed.functions) in
         let earlier = calls_alike p n uses known env environment w m turns fs within fit.1 all.1 one in
         let l = words_of p.parts (module_names_in_scope p n env) n every w m turns fs in
         let d : Respond = (l.operates, l.respond) in

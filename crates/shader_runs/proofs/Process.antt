@@ -11,14 +11,16 @@ use Rattle.shader_runs.specs.Outcome.{Done, Continued, Broke, Returned, Stopped,
 use Rattle.shader_runs.specs.Outcome.{Gives}
 use Rattle.shader_runs.specs.Outcome.{Halts}
 use Rattle.shader_runs.specs.Program.{Expression, Load, Operator, Access, AccessIndex, Logical}
-use Rattle.shader_runs.specs.Program.{Swizzle, Request, Action, Asked, Called, Label, Numbered}
+use Rattle.shader_runs.specs.Program.{Swizzle, Request, Action, Asked, Called, CaseValue, Numbered}
 use Rattle.shader_runs.specs.Program.{Statement, Emit, Store, Block, If, Switch, Loop, Break}
 use Rattle.shader_runs.specs.Program.{Continue, Return, Barrier, Act, Statements, end, then}
 use Rattle.shader_runs.specs.Program.{Cases, no_case, case, Function, argument_count, expression_of}
 use Rattle.shader_runs.specs.Program.{handle_type, is_counted, from, Jump, Jumps}
 use Rattle.shader_runs.specs.ProgramRun.{Call, KeptValues, constant_values, used_value, used_values}
-use Rattle.shader_runs.specs.ProgramRun.{computed_value, joined_values, barrier_words, same_label}
-use Rattle.shader_runs.specs.ProgramRun.{has_label, label_if, constants_kept, first_used_all}
+use Rattle.shader_runs.specs.ProgramRun.{computed_value, joined_values, barrier_words}
+use Rattle.shader_runs.specs.ProgramRun.{same_case_value}
+use Rattle.shader_runs.specs.ProgramRun.{has_case_value, case_value_if, constants_kept}
+use Rattle.shader_runs.specs.ProgramRun.{first_used_all}
 
 abbrev pub events_of : {S : Type 0} → Outcome S → List Event
 events_of (Done s t) = t
@@ -101,11 +103,11 @@ inside (ContinuedWith s) = stuck
 inside (BrokeWith s) = stuck
 inside (ReturnedWith v) = gives (ReturnedWith v)
 
-abbrev pub behind_switch : Pause → Process
-behind_switch (DoneWith s) = gives (DoneWith s)
-behind_switch (ContinuedWith s) = gives (ContinuedWith s)
-behind_switch (BrokeWith s) = gives (DoneWith s)
-behind_switch (ReturnedWith v) = gives (ReturnedWith v)
+abbrev pub following_switch : Pause → Process
+following_switch (DoneWith s) = gives (DoneWith s)
+following_switch (ContinuedWith s) = gives (ContinuedWith s)
+following_switch (BrokeWith s) = gives (DoneWith s)
+following_switch (ReturnedWith v) = gives (ReturnedWith v)
 
 -- goes on with what is there
 abbrev pub on_there : {A : Type 0} → Option A → (A → Process) → Process
@@ -204,7 +206,7 @@ module _ (c : Call) (calls : ℕ → List Value → Process) where
     statement_process (If h a b) kept =
         on_there (used_value c kept h) (λ v. on_truth v (list_process a kept) (list_process b kept))
     statement_process (Switch h ks) kept =
-        on_there (used_value c kept h) (λ v. on_there (integer_in v) (λ z. sequence (cases_process ks (label_if (has_label (Numbered z) ks) z) kept) behind_switch))
+        on_there (used_value c kept h) (λ v. on_there (integer_in v) (λ z. sequence (cases_process ks (case_value_if (has_case_value (Numbered z) ks) z) kept) following_switch))
     statement_process (Loop b d o) kept =
         repeats (λ s. sequence (list_process b s) (continue_on (λ s1. sequence (sequence (list_process d s1) inside) (then_on (leave_process o))))) kept
     statement_process (Jumps j) kept = jump_process j kept
@@ -215,10 +217,10 @@ module _ (c : Call) (calls : ℕ → List Value → Process) where
     list_process end kept = gives (DoneWith kept)
     list_process (then s ss) kept = sequence (statement_process s kept) (then_on (list_process ss))
 
-    pub cases_process : Cases → Label → KeptValues → Process
+    pub cases_process : Cases → CaseValue → KeptValues → Process
     cases_process no_case x kept = gives (DoneWith kept)
     cases_process (case l b falls ks) x kept =
-        if_true (same_label x l) (sequence (list_process b kept) (then_on (λ s. if_true falls (on_process ks s) (gives (DoneWith s))))) (cases_process ks x kept)
+        if_true (same_case_value x l) (sequence (list_process b kept) (then_on (λ s. if_true falls (on_process ks s) (gives (DoneWith s))))) (cases_process ks x kept)
 
     pub on_process : Cases → KeptValues → Process
     on_process no_case kept = gives (DoneWith kept)

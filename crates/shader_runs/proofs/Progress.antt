@@ -16,7 +16,8 @@ use Rattle.shader_runs.specs.Outcome.{within, and_again, turn, turns, after_swit
 use Rattle.shader_runs.specs.Outcome.{with_integer, or_stuck}
 use Rattle.shader_runs.specs.Program.{ConstantTrees, Expression, Local, Load, Operator}
 use Rattle.shader_runs.specs.Program.{Access, AccessIndex, Logical, Swizzle, Request, Action, Asked}
-use Rattle.shader_runs.specs.Program.{Called, Label, Numbered, Statement, Emit, Store, Block, If}
+use Rattle.shader_runs.specs.Program.{Called, CaseValue, Numbered, Statement, Emit, Store, Block}
+use Rattle.shader_runs.specs.Program.{If}
 use Rattle.shader_runs.specs.Program.{Switch, Loop, Break, Continue, Return, Barrier, Act}
 use Rattle.shader_runs.specs.Program.{Statements, end, then, Cases, no_case, case, Function}
 use Rattle.shader_runs.specs.Program.{argument_count, local_count, function_numbered, expression_of}
@@ -28,7 +29,8 @@ use Rattle.shader_runs.specs.ProgramRun.{Call, KeptValues, constant_values, used
 use Rattle.shader_runs.specs.ProgramRun.{joined_values, computed_value, if_typed, after_load}
 use Rattle.shader_runs.specs.ProgramRun.{after_request, if_counted, emit_as, emit, with_pointer}
 use Rattle.shader_runs.specs.ProgramRun.{leave, return_outcome, action_answer, with_result}
-use Rattle.shader_runs.specs.ProgramRun.{barrier_words, ask_each, same_label, has_label, label_if}
+use Rattle.shader_runs.specs.ProgramRun.{barrier_words, ask_each, same_case_value, has_case_value}
+use Rattle.shader_runs.specs.ProgramRun.{case_value_if}
 use Rattle.shader_runs.specs.ProgramRun.{run, run_all, run_cases, run_on, constants_kept}
 use Rattle.shader_runs.specs.ProgramRun.{with_first, first_used_all, run_from_entry, run_body}
 use Rattle.shader_runs.specs.ProgramRun.{run_if_arguments_fit}
@@ -557,13 +559,13 @@ module _ (p : Module) (c : Call) (n : Names) (sound : Sound p c) (bound : ℕ) w
   switch_line : (s : Handles) (breaks continues held : Bool) (h : ℕ) (cs : Cases) →
       IsTrue (usable c.function s h) → IsInteger (handle_type c.function h) →
       (kept : KeptValues) (t : List Event) → Typed c s kept →
-      ((x : Label) → In_case s continues held (run_cases c bound cs x kept t)) →
+      ((x : CaseValue) → In_case s continues held (run_cases c bound cs x kept t)) →
       Line s s breaks continues held (run c bound (Switch h cs) kept t)
   switch_line s breaks continues held h cs u w kept t y each =
       used_proceeds c.environment.parts (handle_type c.function h) (used_value c kept h) t
       _ (uses p c n sound s kept y h u)
       (λ v i. integer_proceeds c.environment.parts (handle_type c.function h) w v i t
-      _ (λ z. switch_proceeds (each (label_if (has_label (Numbered z) cs) z))))
+      _ (λ z. switch_proceeds (each (case_value_if (has_case_value (Numbered z) cs) z))))
 
   -- a case and those that it falls through to
   case_proceeds : (s s1 : Handles) (continues held held2 falls : Bool) → Extends s s1 →
@@ -634,16 +636,16 @@ module _ (p : Module) (c : Call) (n : Names) (sound : Sound p c) (bound : ℕ) w
         (λ kept t y. body_proceeds ss k1 s1 breaks continues (rooted_after c n k st s r) m.1 w.1
         kept t y)
 
-    -- from the case with this label on
+    -- from the case with this value on
     cases_proceed : (cs : Cases) (k : ℕ) (s : Handles) (continues : Bool) → Rooted c s →
         FitsCases p c n k cs s → CasesAreWellFormed c.function continues cs →
-        (x : Label) (kept : KeptValues) (t : List Event) → Typed c s kept →
+        (x : CaseValue) (kept : KeptValues) (t : List Event) → Typed c s kept →
         In_case s continues (some_case_continues cs) (run_cases c bound cs x kept t)
     cases_proceed no_case k s continues r m w x kept t y = done y
     cases_proceed (case l b falls cs) k s continues r m w x kept t y =
         let k1 = named_by_all c.function b k in
         picked_proceeds s continues (any_continue b || some_case_continues cs)
-        (same_label x l) _ _ (case_proceeds s (after_all (naming c n) k b s) continues
+        (same_case_value x l) _ _ (case_proceeds s (after_all (naming c n) k b s) continues
         (any_continue b) (some_case_continues cs) falls (extends_all c n k b s)
         _ (run_on c bound cs) (body_proceeds b k s true continues r m.1 w.0 kept t y)
         (λ kept t y. on_proceeds cs k1 s continues r m.2 w.1 kept t y))

@@ -10,7 +10,8 @@ use Rattle.shader_runs.specs.Program.{ConstantTree, Expression, Constant, Argume
 use Rattle.shader_runs.specs.Program.{Operator, Request, Action, Asked, Called, Statement, Emit}
 use Rattle.shader_runs.specs.Program.{Store, Block, If, Switch, Loop, Return}
 use Rattle.shader_runs.specs.Program.{Barrier, Act, Statements, end, then, Cases, no_case, case}
-use Rattle.shader_runs.specs.Program.{Label, Function, argument_count, local_count, expression_of}
+use Rattle.shader_runs.specs.Program.{CaseValue, Function, argument_count, local_count}
+use Rattle.shader_runs.specs.Program.{expression_of}
 use Rattle.shader_runs.specs.Program.{handle_type, binds, from, Module, constant_count}
 use Rattle.shader_runs.specs.Program.{VariableShape, override_types, Jumps}
 use Rattle.shader_runs.specs.ProgramRun.{barrier_words}
@@ -36,7 +37,8 @@ use Rattle.shader_runs.specs.Correct.{AreNamed, ItemsFit}
 use Rattle.shader_runs.specs.Resolution.{Target, ConstantTarget, GlobalTarget, FunctionTarget}
 use Rattle.shader_runs.specs.Resolution.{ArgumentTarget, LocalTarget, LetTarget, Lookup}
 use Rattle.shader_runs.specs.Resolution.{word_target, tree_targets, trees_targets, tree_targets_if}
-use Rattle.shader_runs.specs.Resolution.{lets_behind_all, names_left, lines_targets, groups_targets}
+use Rattle.shader_runs.specs.Resolution.{lets_following_all, names_left, lines_targets}
+use Rattle.shader_runs.specs.Resolution.{groups_targets}
 use Rattle.shader_runs.specs.Resolution.{with_items, with_functions, text_names, variables_targets}
 use Rattle.shader_runs.specs.Resolution.{text_function_targets, constant_targets, operands_targets}
 use Rattle.shader_runs.specs.Resolution.{own_targets, LetNumbers, value_targets, value_targets_if}
@@ -109,25 +111,25 @@ module _ (p : Module) (f : Naming) (distinct : AreDistinct p f) where
         after_it : LetNumbers → ℕ → List Target
         after_it numbers1 l1 = emit_targets f (named_after f.function h k) l1 hs (after_one f k h s) numbers1
 
-        behind : ℕ → Lookup → List (Option Target)
-        behind l1 names1 = lines_targets (lets_after_all f.function hs l1) (names_after_all f (named_after f.function h k) l1 hs names1) tail
+        following : ℕ → Lookup → List (Option Target)
+        following l1 names1 = lines_targets (lets_after_all f.function hs l1) (names_after_all f (named_after f.function h k) l1 hs names1) tail
 
         by : (b : Bool) → tree_targets names e ≡ map Some own
             → lines_targets (cond b (suc l) l)
             (cond b (bind names (bound_name f k h) (Some (LetTarget l))) names) rest ≡ map Some
-            (after_it (cond b (update numbers h l) numbers) (cond b (suc l) l)) ++ behind
+            (after_it (cond b (update numbers h l) numbers) (cond b (suc l) l)) ++ following
             (cond b (suc l) l)
             (cond b (bind names (bound_name f k h) (Some (LetTarget l))) names)
             → lines_targets l names (let_if b (bound_name f k h) e rest) ≡ map Some
             (cond b (LetTarget l ∷ own) []
             ++ after_it (cond b (update numbers h l) numbers) (cond b (suc l) l))
-            ++ behind (cond b (suc l) l)
+            ++ following (cond b (suc l) l)
             (cond b (bind names (bound_name f k h) (Some (LetTarget l))) names)
         by true one more_of =
             ap (λ ts. Some (LetTarget l) ∷ ts)
             ((λ i. one i ++ more_of i)
             ∙ (sym (append_assoc (map Some own) _ _)
-            ∙ ap (λ ts. ts ++ behind (suc l) (bind names (bound_name f k h) (Some (LetTarget l)))) (sym (map-append Some own (after_it (update numbers h l) (suc l))))))
+            ∙ ap (λ ts. ts ++ following (suc l) (bind names (bound_name f k h) (Some (LetTarget l)))) (sym (map-append Some own (after_it (update numbers h l) (suc l))))))
         by false one more_of = more_of
 
     performs_resolve : (l : ℕ) (names : Lookup) →
@@ -176,7 +178,7 @@ module _ (p : Module) (f : Naming) (distinct : AreDistinct p f) where
             (lines_counted f k l a s) ∙ lines_resolve k1 l1 b s numbers names le regular.1 only.1
             (scope_more p f distinct k k1 s numbers names (list_more f a k) scope) in
             let one = both (value_targets f.function s numbers c) _ value (both (statements_targets f k l a s numbers) (statements_targets f k1 l1 b s numbers) accept reject) in
-            let counted = ap (λ n. lets_behind_all n (form_all f k1 b s)) (lines_counted f k l a s) ∙ lines_counted f k1 l1 b s in
+            let counted = ap (λ n. lets_following_all n (form_all f k1 b s)) (lines_counted f k l a s) ∙ lines_counted f k1 l1 b s in
             λ i. one i ++ lines_targets (counted i) names tail
         line_resolves k l (Switch h cs) s numbers names tail le regular only scope =
             let value = value_resolves f names s numbers scope.lets (all_named names scope.items) h in
@@ -205,7 +207,7 @@ module _ (p : Module) (f : Naming) (distinct : AreDistinct p f) where
             (both (statements_targets f k1 l1 d s1 numbers1)
             (value_targets_if f.function (after_all f k1 d s1)
             (numbers_left f.function l1 d numbers1) e) rest break_if) in
-            let counted = ap (λ n. lets_behind_all n (form_all f k1 d s1)) (lines_counted f k l b s) ∙ lines_counted f k1 l1 d s1 in
+            let counted = ap (λ n. lets_following_all n (form_all f k1 d s1)) (lines_counted f k l b s) ∙ lines_counted f k1 l1 d s1 in
             λ i. one i ++ lines_targets (counted i) names tail
         line_resolves k l (Jumps (Return v)) s numbers names tail le regular only scope =
             ap (λ ts. ts ++ lines_targets l names tail) (value_if_resolves f names s numbers scope.lets (all_named names scope.items) v)
@@ -243,7 +245,7 @@ module _ (p : Module) (f : Naming) (distinct : AreDistinct p f) where
             ∙ both (statement_targets f k l st s numbers) (statements_targets f k1 l1 ss (after f k st s) (numbers_by f.function l st numbers)) refl
             (lines_resolve k1 l1 ss (after f k st s) (numbers_by f.function l st numbers) (names_by f k l st names) le regular.1 only.1 (scope_by p f distinct k l st s numbers names here scope))
 
-        groups_resolve : (k l : ℕ) (labels : List Label) (cs : Cases) (s : Handles)
+        groups_resolve : (k l : ℕ) (labels : List CaseValue) (cs : Cases) (s : Handles)
             (numbers : LetNumbers) (names : Lookup) →
             named_by_cases f.function cs k ≤ total p f distinct → CasesAreRegular p callees f cs →
             OnlyEmptyCasesFall cs →

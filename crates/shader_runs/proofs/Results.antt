@@ -10,7 +10,7 @@ use Rattle.shader_runs.specs.Outcome.{Outcome, Done, Continued, Broke, Returned,
 use Rattle.shader_runs.specs.Outcome.{ReachedOrHalted}
 use Rattle.shader_runs.specs.Outcome.{Gives, Halts, answer, Next, and_then, and_continue, within}
 use Rattle.shader_runs.specs.Outcome.{and_again, turn, turns, after_switch, branch_by, or_stuck}
-use Rattle.shader_runs.specs.Program.{Expression, Load, Request, Action, Asked, Called, Label}
+use Rattle.shader_runs.specs.Program.{Expression, Load, Request, Action, Asked, Called, CaseValue}
 use Rattle.shader_runs.specs.Program.{Numbered, Default, Statement, Emit, Store, Block, If, Switch}
 use Rattle.shader_runs.specs.Program.{Loop, Break, Return, Barrier, Act, Statements}
 use Rattle.shader_runs.specs.Program.{end, then, Cases, no_case, case, Function, argument_count}
@@ -19,8 +19,9 @@ use Rattle.shader_runs.specs.Program.{from, Module, Jumps}
 use Rattle.shader_runs.specs.ProgramRun.{Call, KeptValues, constant_values, used_value, used_values}
 use Rattle.shader_runs.specs.ProgramRun.{joined_values, if_typed, after_load, after_request}
 use Rattle.shader_runs.specs.ProgramRun.{if_counted, emit_as, emit, leave, action_answer}
-use Rattle.shader_runs.specs.ProgramRun.{with_result, barrier_words, ask_each, same_label}
-use Rattle.shader_runs.specs.ProgramRun.{has_label, label_if, run, run_all, run_cases, run_on}
+use Rattle.shader_runs.specs.ProgramRun.{with_result, barrier_words, ask_each, same_case_value}
+use Rattle.shader_runs.specs.ProgramRun.{has_case_value, case_value_if, run, run_all, run_cases}
+use Rattle.shader_runs.specs.ProgramRun.{run_on}
 use Rattle.shader_runs.specs.ProgramRun.{constants_kept, first_used_all, run_from_entry, run_body}
 use Rattle.shader_runs.specs.ProgramRun.{run_if_arguments_fit}
 use Rattle.shader_runs.specs.ProgramRun.{run_call}
@@ -251,7 +252,7 @@ module _ (p : Module) (c : Call) (f : Naming) (complete : (g : ℕ) (callee : Fu
       go (Returned v t) l = l
       go (Stopped x t) l = l
 
-  -- a case by its label, and the later ones
+  -- a case by its value, and the later ones
   picked_leads : (z there ends later : Bool) (o o2 : Outcome KeptValues) →
       (IsTrue later → IsTrue ends) → Leads k ends ends o → Leads k (not there || later) later o2 →
       Leads k (not (z || there) || ends) ends (cond z o o2)
@@ -268,24 +269,24 @@ module _ (p : Module) (c : Call) (f : Naming) (complete : (g : ℕ) (callee : Fu
       (more k eb (ea || eb) bb (ba || bb) b (λ h. or_right ea eb h) (λ h. or_right ba bb h) l2)
 
   -- an integer goes to its own case or to the default
-  one_label : (cs : Cases) →
-      ((x : Label) (kept : KeptValues) (t : List Event) →
-      Leads k (not (has_label x cs) || some_case_ends cs) (some_case_ends cs)
+  one_case_value : (cs : Cases) →
+      ((x : CaseValue) (kept : KeptValues) (t : List Event) →
+      Leads k (not (has_case_value x cs) || some_case_ends cs) (some_case_ends cs)
       (run_cases c bound cs x kept t)) → (z : ℤ) (kept : KeptValues) (t : List Event) →
       Leads k (may_end (Switch 0 cs)) false
-      (after_switch (run_cases c bound cs (label_if (has_label (Numbered z) cs) z) kept t))
-  one_label cs each z kept t = go (has_label (Numbered z) cs) refl
+      (after_switch (run_cases c bound cs (case_value_if (has_case_value (Numbered z) cs) z) kept t))
+  one_case_value cs each z kept t = go (has_case_value (Numbered z) cs) refl
     where
-      go : (b : Bool) → has_label (Numbered z) cs ≡ b → Leads k (may_end (Switch 0 cs)) false (after_switch (run_cases c bound cs (label_if b z) kept t))
+      go : (b : Bool) → has_case_value (Numbered z) cs ≡ b → Leads k (may_end (Switch 0 cs)) false (after_switch (run_cases c bound cs (case_value_if b z) kept t))
       go true q =
-          let up = λ (h : IsTrue (some_case_ends cs)). or_right (not (has_label Default cs)) (some_case_ends cs) h in
+          let up = λ (h : IsTrue (some_case_ends cs)). or_right (not (has_case_value Default cs)) (some_case_ends cs) h in
           let there = subst (λ b. Leads k (not b || some_case_ends cs) (some_case_ends cs) (run_cases c bound cs (Numbered z) kept t)) q (each (Numbered z) kept t) in
           switch_leads k (may_end (Switch 0 cs)) (some_case_ends cs)
           (run_cases c bound cs (Numbered z) kept t) up
           (more k (some_case_ends cs) (may_end (Switch 0 cs)) (some_case_ends cs)
           (some_case_ends cs) (run_cases c bound cs (Numbered z) kept t) up (λ h. h) there)
       go false q =
-          switch_leads k (may_end (Switch 0 cs)) (some_case_ends cs) (run_cases c bound cs Default kept t) (λ h. or_right (not (has_label Default cs)) (some_case_ends cs) h) (each Default kept t)
+          switch_leads k (may_end (Switch 0 cs)) (some_case_ends cs) (run_cases c bound cs Default kept t) (λ h. or_right (not (has_case_value Default cs)) (some_case_ends cs) h) (each Default kept t)
 
   mutual
     line_leads : (st : Statement) → IsRegular p c.callees f st → Where k (has_values st) → (kept : KeptValues) (t : List Event) → Leads k (may_end st) (holds_break st) (run c bound st kept t)
@@ -302,7 +303,7 @@ module _ (p : Module) (c : Call) (f : Naming) (complete : (g : ℕ) (callee : Fu
     line_leads (Switch h cs) m w kept t =
         there_leads k (may_end (Switch h cs)) false (used_value c kept h) t
         _ (λ v. there_leads k (may_end (Switch h cs)) false
-        (integer_in v) t _ (λ z. one_label cs (λ x kept t. cases_lead cs m w x kept t) z kept
+        (integer_in v) t _ (λ z. one_case_value cs (λ x kept t. cases_lead cs m w x kept t) z kept
         t))
     line_leads (Loop b d e) m w kept t =
         let out = any_break b || is_some e in
@@ -333,14 +334,14 @@ module _ (p : Module) (c : Call) (f : Naming) (complete : (g : ℕ) (callee : Fu
         t)
 
     cases_lead : (cs : Cases) → CasesAreRegular p c.callees f cs → Where k (cases_have_values cs) →
-        (x : Label) (kept : KeptValues) (t : List Event) →
-        Leads k (not (has_label x cs) || some_case_ends cs) (some_case_ends cs)
+        (x : CaseValue) (kept : KeptValues) (t : List Event) →
+        Leads k (not (has_case_value x cs) || some_case_ends cs) (some_case_ends cs)
         (run_cases c bound cs x kept t)
     cases_lead no_case m w x kept t = refl
     cases_lead (case l b falls cs) m w x kept t =
         let body = body_leads b m.1 (where_left k (all_have_values b) (cases_have_values cs) w) kept t in
         let later = where_right k (all_have_values b) (cases_have_values cs) w in
-        picked_leads (same_label x l) (has_label x cs) (Ends b falls cs)
+        picked_leads (same_case_value x l) (has_case_value x cs) (Ends b falls cs)
         (some_case_ends cs) _ _ (ends_later b falls cs)
         (case_leads b falls cs (run_on c bound cs) kept t body
         (λ q kept t. on_lead cs (falls_to_case falls cs m.0 q) m.2 later kept t))

@@ -1,15 +1,17 @@
--- The scope only grows, and the text holds a `continue` and a label where the module does.
-use Rattle.std.proofs.Common.{Option, ◌≡◌, ℕ, Bool, true, false, List, [], ◌∷◌, ◌++◌, Some, None, ◌||◌}
+-- The scope only grows, and the text holds a `continue` and a case value where the module does.
+use Rattle.std.proofs.Common.{Option, ◌≡◌, ℕ, Bool, true, false, List, [], ◌∷◌, ◌++◌, Some, None}
+use Rattle.std.proofs.Common.{◌||◌}
 use Rattle.std.proofs.Common.{refl, sym, ap, ap₂, ◌∙◌}
 use Rattle.std.proofs.Math.Bool.{or-false}
 use Rattle.shader_runs.specs.Value.{Bytes}
-use Rattle.shader_runs.specs.Program.{Label, Statement, Emit, Block, If, Switch}
+use Rattle.shader_runs.specs.Program.{CaseValue, Statement, Emit, Block, If, Switch}
 use Rattle.shader_runs.specs.Program.{Continue, Barrier, Act, Statements, end, then}
 use Rattle.shader_runs.specs.Program.{Cases, no_case, case, Module, from, binds, holds_continue}
-use Rattle.shader_runs.specs.Program.{any_continue, some_case_continues, expression_of, Jump, Jumps, is_continue, jump_told}
+use Rattle.shader_runs.specs.Program.{any_continue, some_case_continues, expression_of, Jump, Jumps}
+use Rattle.shader_runs.specs.Program.{is_continue, jump_told}
 use Rattle.shader_runs.specs.Text.{Tree, Lines}
 use Rattle.shader_runs.specs.TextRun.{some_continue, some_group_continues, among, group_has}
-use Rattle.shader_runs.specs.ProgramRun.{Call, barrier_words, same_label, has_label}
+use Rattle.shader_runs.specs.ProgramRun.{Call, barrier_words, same_case_value, has_case_value}
 use Rattle.shader_runs.specs.Scope.{Bound, Handles, Names, Naming, bound_name, after_one}
 use Rattle.shader_runs.specs.Scope.{named_after, named_by, named_by_all, after, after_all}
 use Rattle.shader_runs.specs.Scope.{forgotten_if}
@@ -36,13 +38,13 @@ pub performs_continue : (ws : List Bytes) (tail : Lines) → some_continue (perf
 performs_continue [] tail = refl
 performs_continue (w ∷ ws) tail = performs_continue ws tail
 
--- the labels that wait for a case, and the cases
-abbrev pub IsFollowed : List Label → Cases → Type 0
+-- the values that wait for a case, and the cases
+abbrev pub IsFollowed : List CaseValue → Cases → Type 0
 IsFollowed [] no_case = Unit {0}
 IsFollowed (l ∷ ls) no_case = ⊥
 IsFollowed labels (case l b falls cs) = Unit {0}
 
-pub falls_followed : (labels : List Label) (cs : Cases) → JoinsNext true end cs → IsFollowed labels cs
+pub falls_followed : (labels : List CaseValue) (cs : Cases) → JoinsNext true end cs → IsFollowed labels cs
 falls_followed labels no_case m = absurd m
 falls_followed labels (case l b falls cs) m = tt
 
@@ -73,7 +75,7 @@ mutual
       let rest = form_all (naming c n) (named_by c.function st k) ss (after (naming c n) k st s) in
       continue_one p c n k st s rest m.0 ∙ ap (λ x. holds_continue st || x) (continue_all p c n (named_by c.function st k) ss (after (naming c n) k st s) m.1)
 
-  pub continue_cases : (p : Module) (c : Call) (n : Names) (k : ℕ) (labels : List Label)
+  pub continue_cases : (p : Module) (c : Call) (n : Names) (k : ℕ) (labels : List CaseValue)
       (cs : Cases) (s : Handles) → FitsCases p c n k cs s →
       some_group_continues (form_cases (naming c n) k labels cs s) ≡ some_case_continues cs
   continue_cases p c n k labels no_case s m = refl
@@ -86,32 +88,32 @@ or_assoc : (a b c : Bool) → ((a || b) || c) ≡ (a || (b || c))
 or_assoc true b c = refl
 or_assoc false b c = refl
 
-pub among_append : (x : Label) (labels : List Label) (l : Label) → among x (labels ++ l ∷ []) ≡ (among x labels || same_label x l)
-among_append x [] l = or-false (same_label x l)
+pub among_append : (x : CaseValue) (labels : List CaseValue) (l : CaseValue) → among x (labels ++ l ∷ []) ≡ (among x labels || same_case_value x l)
+among_append x [] l = or-false (same_case_value x l)
 among_append x (y ∷ ys) l =
-    ap (λ b. same_label x y || b) (among_append x ys l) ∙ sym (or_assoc (same_label x y) (among x ys) (same_label x l))
+    ap (λ b. same_case_value x y || b) (among_append x ys l) ∙ sym (or_assoc (same_case_value x y) (among x ys) (same_case_value x l))
 
 pub first_followed_by : (cs : Cases) → IsFollowed [] cs
 first_followed_by no_case = tt
 first_followed_by (case l b falls cs) = tt
 
--- the groups have the cases' labels
-has_cases : (p : Module) (c : Call) (n : Names) (k : ℕ) (labels : List Label) (cs : Cases)
+-- the groups have the cases' values
+has_cases : (p : Module) (c : Call) (n : Names) (k : ℕ) (labels : List CaseValue) (cs : Cases)
     (s : Handles) → FitsCases p c n k cs s → IsFollowed labels cs →
-    (x : Label) → group_has x (form_cases (naming c n) k labels cs s) ≡
-    (among x labels || has_label x cs)
+    (x : CaseValue) → group_has x (form_cases (naming c n) k labels cs s) ≡
+    (among x labels || has_case_value x cs)
 has_cases p c n k [] no_case s m w x = refl
 has_cases p c n k (y ∷ ys) no_case s m w x = absurd w
 has_cases p c n k labels (case l b false cs) s m w x =
     ap₂ (λ p q. p || q) (among_append x labels l) (has_cases p c n (named_by_all c.function b k) [] cs s m.2 (first_followed_by cs) x)
-    ∙ or_assoc (among x labels) (same_label x l) (has_label x cs)
+    ∙ or_assoc (among x labels) (same_case_value x l) (has_case_value x cs)
 has_cases p c n k labels (case l end true cs) s m w x =
     has_cases p c n k (labels ++ l ∷ []) cs s m.2 (falls_followed (labels ++ l ∷ []) cs m.0) x
-    ∙ ap (λ p. p || has_label x cs) (among_append x labels l)
-    ∙ or_assoc (among x labels) (same_label x l) (has_label x cs)
+    ∙ ap (λ p. p || has_case_value x cs) (among_append x labels l)
+    ∙ or_assoc (among x labels) (same_case_value x l) (has_case_value x cs)
 has_cases p c n k labels (case l (then st ss) true cs) s m w x = absurd m.0
 
-pub has_all_cases : (p : Module) (c : Call) (n : Names) (k : ℕ) (cs : Cases) (s : Handles) → FitsCases p c n k cs s → (x : Label) → group_has x (form_cases (naming c n) k [] cs s) ≡ has_label x cs
+pub has_all_cases : (p : Module) (c : Call) (n : Names) (k : ℕ) (cs : Cases) (s : Handles) → FitsCases p c n k cs s → (x : CaseValue) → group_has x (form_cases (naming c n) k [] cs s) ≡ has_case_value x cs
 has_all_cases p c n k cs s m x = has_cases p c n k [] cs s m (first_followed_by cs) x
 
 pub extends_after : (c : Call) (n : Names) (k : ℕ) (st : Statement) (s : Handles) → Extends s (after (naming c n) k st s)

@@ -16,7 +16,8 @@ use Rattle.shader_runs.specs.Scope.{first_values_fit, fits_function}
 use Rattle.shader_runs.specs.Premises.{AllBelow}
 use Rattle.shader_runs.specs.ScopeRules.{IntroducedHandle, Emitted, AsResult, handle_of, InScope}
 use Rattle.shader_runs.specs.ScopeRules.{EachInScope, no_handle, and_handle, Point, entry_point}
-use Rattle.shader_runs.specs.ScopeRules.{behind_one, behind, behind_turn, WasIntroduced, MayEmit}
+use Rattle.shader_runs.specs.ScopeRules.{following_one, following, after_turn, WasIntroduced}
+use Rattle.shader_runs.specs.ScopeRules.{MayEmit}
 use Rattle.shader_runs.specs.ScopeRules.{MayEmitEach, StatementHolds, StatementsHold, CasesHold}
 use Rattle.shader_runs.specs.ScopeRules.{FirstValuesHold, InScopeIf, ScopeHolds}
 use Rattle.shader_runs.specs.ScopeFaults.{IsOutOfScopeAt, after_some, UsesAt, emitted_operand}
@@ -48,7 +49,7 @@ emit_at f first (suc count) zero at l holds =
 emit_at f first (suc count) (suc i) at l holds =
     let same : suc first + i ≡ first + suc i = omega arith in
     subst (λ h. MayEmit f (after_some f first (suc i) at) h) same
-    (emit_at f (suc first) count i (behind_one f first at) (omega (arith, l)) holds.1)
+    (emit_at f (suc first) count i (following_one f first at) (omega (arith, l)) holds.1)
 
 uses_hold : (f : Function) (at : Point) (st : Statement) (there : Point) (h : ℕ) →
     UsesAt f at st there h → StatementHolds f at st → InScope f there.visible h
@@ -89,7 +90,7 @@ stands_hold : (f : Function) (at : Point) (ss : Statements) (there : Point) (st 
     StandsIn f at ss there st → StatementsHold f at ss → StatementHolds f there st
 stands_hold f at ss there st stands_first holds = holds.0
 stands_hold f at ss there st (later {st0 = st0} {ss = rest} s) holds =
-    stands_hold f (behind f st0 at) rest there st s holds.1
+    stands_hold f (following f st0 at) rest there st s holds.1
 stands_hold f at ss there st (in_block {b = b} s) holds = stands_hold f at b there st s holds.0
 stands_hold f at ss there st (in_accept {a = a} s) holds = stands_hold f at a there st s holds.0.1
 stands_hold f at ss there st (in_reject {b = b} s) holds = stands_hold f at b there st s holds.0.2
@@ -97,7 +98,7 @@ stands_hold f at ss there st (in_case {cs = cs} {b = b} c s) holds =
     stands_hold f at b there st s (case_holds f at b cs c holds.0.1)
 stands_hold f at ss there st (in_loop {b = b} s) holds = stands_hold f at b there st s holds.0.0
 stands_hold f at ss there st (in_continuing {b = b} {d = d} s) holds =
-    stands_hold f (behind_turn f b at) d there st s holds.0.1
+    stands_hold f (after_turn f b at) d there st s holds.0.1
 
 first_value_at : (f : Function) (os : List (Option ℕ)) (i k h : ℕ) → FirstValuesHold f i os →
     slice_get os k ≡ Some (Some h) → InScope (before_local f (i + k)) entry_point.visible h
@@ -161,18 +162,18 @@ gives_emitted f at first count i j q l =
 
 -- what the rest of an Emit uses and gives
 module _ (f : Function) (at : Point) (first count : ℕ) where
-  uses_further : (there : Point) (h : ℕ) → UsesAt f (behind_one f first at) (Emit (suc first) count) there h →
+  uses_further : (there : Point) (h : ℕ) → UsesAt f (following_one f first at) (Emit (suc first) count) there h →
       UsesAt f at (Emit first (suc count)) there h
   uses_further there h (emitted_operand i k l b e) =
       uses_emitted f at first (suc count) (suc i) (suc first + i) k h (omega arith) (omega (arith, l)) b e
 
   gives_further : (there : Point) (g : IntroducedHandle) →
-      GivesAt f (behind_one f first at) (Emit (suc first) count) there g →
+      GivesAt f (following_one f first at) (Emit (suc first) count) there g →
       GivesAt f at (Emit first (suc count)) there g
   gives_further there g (emitted i l) =
       gives_emitted f at first (suc count) (suc i) (suc first + i) (omega arith) (omega (arith, l))
 
-  breaks_further : BreaksScope f (behind_one f first at) (Emit (suc first) count) →
+  breaks_further : BreaksScope f (following_one f first at) (Emit (suc first) count) →
       BreaksScope f at (Emit first (suc count))
   breaks_further (out_of_scope there h u out) = out_of_scope there h (uses_further there h u) out
   breaks_further (given_before there g u w) = given_before there g (gives_further there g u) w
@@ -210,7 +211,7 @@ find_emit f k first (suc count) at s t e =
     (λ p. let kind = ((may_emit_rule f.function at s first t).0 p.0).kind in
     let t1 = tracks_emitted f.function first at s t kind (bound_name f k first) in
     breaks_further f.function at first count
-    (find_emit f k1 (suc first) count (behind_one f.function first at) s1 t1 p.1))
+    (find_emit f k1 (suc first) count (following_one f.function first at) s1 t1 p.1))
     (first_false (may_emit f.function first s) (may_emit_all f k1 (from (suc first) count) s1) e)
 
 -- a statement of the list breaks a rule where it stands
@@ -233,11 +234,11 @@ FoundInCase f at cs =
 
 -- a `break if`
 find_break : (f : Function) (at : Point) (b d : Statements) (s : Handles) →
-    Tracks f (behind_turn f d (behind_turn f b at)) s → (o : Option ℕ) → IsFalse (usable_if f s o) →
+    Tracks f (after_turn f d (after_turn f b at)) s → (o : Option ℕ) → IsFalse (usable_if f s o) →
     BreaksScope f at (Loop b d o)
 find_break f at b d s t None e = absurd (true≢false e)
 find_break f at b d s t (Some h) e =
-    let there = behind_turn f d (behind_turn f b at) in
+    let there = after_turn f d (after_turn f b at) in
     out_of_scope there h break_if (unusable f there s t h e)
 
 mutual
@@ -273,10 +274,10 @@ mutual
       let ended = usable_if f.function s2 o in
       ⊎_elim (λ e. let x = find_all f k b at s t e in (x.0, x.1, in_loop x.2, x.3))
       (λ p. let t1 = tracks_turn f k b at s t p.0 in
-      let behind_body = behind_turn f.function b at in
-      ⊎_elim (λ e. let x = find_all f k1 d behind_body s1 t1 e in (x.0, x.1, in_continuing x.2, x.3))
+      let after_body = after_turn f.function b at in
+      ⊎_elim (λ e. let x = find_all f k1 d after_body s1 t1 e in (x.0, x.1, in_continuing x.2, x.3))
       (λ q. itself f.function at (Loop b d o) ss
-      (find_break f.function at b d s2 (tracks_turn f k1 d behind_body s1 t1 q.0) o q.1))
+      (find_break f.function at b d s2 (tracks_turn f k1 d after_body s1 t1 q.0) o q.1))
       (first_false continuing ended p.1))
       (first_false body (continuing && ended) e)
   find_in f k (Jumps (Return None)) at s t e ss = absurd (true≢false e)
@@ -301,7 +302,7 @@ mutual
       let s1 = after f k st s in
       ⊎_elim (λ e. find_in f k st at s t e ss)
       (λ p. let t1 = tracks_after f k st at s t p.0 in
-      let x = find_all f k1 ss (behind f.function st at) s1 t1 p.1 in
+      let x = find_all f k1 ss (following f.function st at) s1 t1 p.1 in
       (x.0, x.1, later x.2, x.3))
       (first_false (fits f k st s) (fits_all f k1 ss s1) e)
 

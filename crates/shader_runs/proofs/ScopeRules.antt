@@ -36,7 +36,7 @@ use Rattle.shader_runs.specs.ScopeRules.{result, still, EachInScope, no_handle, 
 use Rattle.shader_runs.specs.ScopeRules.{InScopeIf, is_unwritten, with_one, with_emitted}
 use Rattle.shader_runs.specs.ScopeRules.{with_statement, with_statements}
 use Rattle.shader_runs.specs.ScopeRules.{statements_before_continue, Point}
-use Rattle.shader_runs.specs.ScopeRules.{entry_point, behind_one, behind, behind_turn}
+use Rattle.shader_runs.specs.ScopeRules.{entry_point, following_one, following, after_turn}
 use Rattle.shader_runs.specs.ScopeRules.{WasIntroduced}
 use Rattle.shader_runs.specs.ScopeRules.{in_sight, as_a_tree, MayEmit, MayEmitEach, MayResult}
 use Rattle.shader_runs.specs.ScopeRules.{StatementHolds, StatementsHold, CasesHold, FirstValuesHold}
@@ -362,7 +362,7 @@ module _ (f : Function) (h : ℕ) (at : Point) (s : Handles) (t : Tracks f at s)
       tracks_introduced f (Emitted h) (availability_without_name Usable (s h)) at s t (λ i. here.0 (sym same ∙ i), λ d. same ∙ here.1 d) new
   tracks_kind false false b p = t
 
-  pub tracks_emitted : Tracks f (behind_one f h at) (with_emitted_handle (binds f h) (is_pure (expression_of f h)) Usable x s h)
+  pub tracks_emitted : Tracks f (following_one f h at) (with_emitted_handle (binds f h) (is_pure (expression_of f h)) Usable x s h)
   tracks_emitted =
       subst (λ c. Tracks f (WithOne c) (with_emitted_handle (binds f h) (is_pure (expression_of f h)) Usable x s h))
       (sym (unwritten_kind f h (expression_of f h) m))
@@ -416,7 +416,7 @@ emits_rule f k at s (h ∷ hs) t =
     let here = may_emit_rule f.function at s h t in
     both (may_emit f.function h s) (may_emit_all f k1 hs s1) here
     (λ i. let t1 = tracks_emitted f.function h at s t (here.0 i).kind (bound_name f k h) in
-    emits_rule f k1 (behind_one f.function h at) s1 hs t1)
+    emits_rule f k1 (following_one f.function h at) s1 hs t1)
 
 result_rule : (f : Function) (at : Point) (s : Handles) (r : Option ℕ) → Tracks f at s →
     (IsTrue (may_give r s) ↔ MayResult f at r)
@@ -424,12 +424,12 @@ result_rule f at s None t = (λ i. tt, λ d. refl)
 result_rule f at s (Some h) t = new_rule f at s h t
 
 -- after an Emit
-abbrev behind_each : Function → List ℕ → Point → Point
-behind_each f hs at = record { visible = with_emitted f hs at.visible; passed = with_emitted f hs at.passed }
+abbrev following_each : Function → List ℕ → Point → Point
+following_each f hs at = record { visible = with_emitted f hs at.visible; passed = with_emitted f hs at.passed }
 
 tracks_emit : (f : Naming) (k : ℕ) (hs : List ℕ) (at : Point) (s : Handles) → Tracks f.function at s →
     IsTrue (may_emit_all f k hs s) →
-    Tracks f.function (behind_each f.function hs at) (after_emit f k hs s)
+    Tracks f.function (following_each f.function hs at) (after_emit f k hs s)
 tracks_emit f k [] at s t i = t
 tracks_emit f k (h ∷ hs) at s t i =
     let k1 = named_after f.function h k in
@@ -438,11 +438,11 @@ tracks_emit f k (h ∷ hs) at s t i =
     let rest = may_emit_all f k1 hs s1 in
     let kind = ((may_emit_rule f.function at s h t).0 (and_left first rest i)).kind in
     let t1 = tracks_emitted f.function h at s t kind (bound_name f k h) in
-    tracks_emit f k1 hs (behind_one f.function h at) s1 t1 (and_right first rest i)
+    tracks_emit f k1 hs (following_one f.function h at) s1 t1 (and_right first rest i)
 
 -- after a statement
 pub tracks_after : (f : Naming) (k : ℕ) (st : Statement) (at : Point) (s : Handles) → Tracks f.function at s →
-    IsTrue (fits f k st s) → Tracks f.function (behind f.function st at) (after f k st s)
+    IsTrue (fits f k st s) → Tracks f.function (following f.function st at) (after f k st s)
 tracks_after f k (Emit first count) at s t i = tracks_emit f k (from first count) at s t i
 tracks_after f k (Act a xs (Some h)) at s t i = tracks_result f.function h at s t (f.names.numbered h)
 tracks_after f k (Act a xs None) at s t i = t
@@ -549,24 +549,24 @@ module _ (f : Function) (at later : Point) (s now : Handles) (t : Tracks f at s)
       }
 
 -- a list whose first statement may hold a `continue`
-abbrev behind_first : Function → Bool → Statement → Statements → Point → Point
-behind_first f b st ss at =
+abbrev after_first : Function → Bool → Statement → Statements → Point → Point
+after_first f b st ss at =
     record {
       visible = with_statements f (cond b end (then st (statements_before_continue ss))) at.visible;
       passed = with_statements f (then st ss) at.passed;
     }
 
 turn_first : (f : Function) (st : Statement) (ss : Statements) (at : Point) (s now : Handles) → Tracks f at s →
-    Tracks f (behind_turn f ss (behind f st at)) now → (b : Bool) →
-    Tracks f (behind_first f b st ss at) (forgotten_if b s now)
+    Tracks f (after_turn f ss (following f st at)) now → (b : Bool) →
+    Tracks f (after_first f b st ss at) (forgotten_if b s now)
 turn_first f st ss at s now t t1 true =
     let more = among_statements f (then st ss) at.passed in
-    tracks_forgotten f at (behind_turn f ss (behind f st at)) s now t t1 more
+    tracks_forgotten f at (after_turn f ss (following f st at)) s now t t1 more
 turn_first f st ss at s now t t1 false = t1
 
 -- where a loop's body, or its `continuing`, leads
 pub tracks_turn : (f : Naming) (k : ℕ) (ss : Statements) (at : Point) (s : Handles) → Tracks f.function at s →
-    IsTrue (fits_all f k ss s) → Tracks f.function (behind_turn f.function ss at) (after_all f k ss s)
+    IsTrue (fits_all f k ss s) → Tracks f.function (after_turn f.function ss at) (after_all f k ss s)
 tracks_turn f k end at s t i = t
 tracks_turn f k (then st ss) at s t i =
     let k1 = named_by f.function st k in
@@ -574,7 +574,7 @@ tracks_turn f k (then st ss) at s t i =
     let one = fits f k st s in
     let others = fits_all f k1 ss s1 in
     let t1 = tracks_after f k st at s t (and_left one others i) in
-    let rest = tracks_turn f k1 ss (behind f.function st at) s1 t1 (and_right one others i) in
+    let rest = tracks_turn f k1 ss (following f.function st at) s1 t1 (and_right one others i) in
     turn_first f.function st ss at s (after_all f k1 ss s1) t rest (holds_continue st)
 
 -- the statements of a function
@@ -595,8 +595,8 @@ mutual
       let s1 = after_all f k b s in
       let k1 = named_by_all f.function b k in
       let s2 = after_all f k1 d s1 in
-      let continuing = behind_turn f.function b at in
-      let break_if = behind_turn f.function d continuing in
+      let continuing = after_turn f.function b at in
+      let break_if = after_turn f.function d continuing in
       three (fits_all f k b s) (fits_all f k1 d s1) (usable_if f.function s2 e)
       (statements_rule f k b at s t)
       (λ i. statements_rule f k1 d continuing s1 (tracks_turn f k b at s t i))
@@ -614,7 +614,7 @@ mutual
       let k1 = named_by f.function st k in
       let s1 = after f k st s in
       both (fits f k st s) (fits_all f k1 ss s1) (statement_rule f k st at s t)
-      (λ i. statements_rule f k1 ss (behind f.function st at) s1 (tracks_after f k st at s t i))
+      (λ i. statements_rule f k1 ss (following f.function st at) s1 (tracks_after f k st at s t i))
 
   cases_rule : (f : Naming) (k : ℕ) (cs : Cases) (at : Point) (s : Handles) → Tracks f.function at s →
       (IsTrue (fits_cases f k cs s) ↔ CasesHold f.function at cs)

@@ -6,7 +6,8 @@ use Rattle.std.proofs.Common.{ap, ◌∙◌, subst, arith, option_map}
 use Rattle.std.proofs.Math.Nat.{eq-or-lt_of_le}
 use Rattle.std.specs.Prelude.{option_and_then}
 use Rattle.shader_runs.specs.Value.{Bytes, same_bytes, PartTypes, Place, Selector, Value}
-use Rattle.shader_runs.specs.Value.{ShortCircuit, truth_in, integer_in, place_in, place_at, place_to}
+use Rattle.shader_runs.specs.Value.{ShortCircuit, truth_in, integer_in, place_in, place_at}
+use Rattle.shader_runs.specs.Value.{place_to}
 use Rattle.shader_runs.specs.Value.{place_type, takes_several}
 use Rattle.shader_runs.specs.World.{Event, Entry, Read, Write, entries, World, Meaning, bind}
 use Rattle.shader_runs.specs.Outcome.{Stuck, OutOfTurns, Outcome, Done, Continued, Broke, Returned}
@@ -15,8 +16,8 @@ use Rattle.shader_runs.specs.Outcome.{and_then}
 use Rattle.shader_runs.specs.Outcome.{and_continue, within, turn, and_again, turns, after_switch}
 use Rattle.shader_runs.specs.Outcome.{closed_outcome, closed_if, branch_by, with_integer, or_stuck}
 use Rattle.shader_runs.specs.Outcome.{reach, unless}
-use Rattle.shader_runs.specs.Program.{Label, Numbered, Break, Continue, Return}
-use Rattle.shader_runs.specs.ProgramRun.{run_if_arguments_fit, decides, label_if}
+use Rattle.shader_runs.specs.Program.{CaseValue, Numbered, Break, Continue, Return}
+use Rattle.shader_runs.specs.ProgramRun.{run_if_arguments_fit, decides, case_value_if}
 use Rattle.shader_runs.specs.Text.{Tree, Name, LiteralOf, Apply, Deref, AddressOf, Index, PartOf}
 use Rattle.shader_runs.specs.Text.{LogicalOf, Trees, no_more, more, Line, Let, Assign, Braces}
 use Rattle.shader_runs.specs.Text.{IfElse, SwitchOn, LoopOf}
@@ -436,19 +437,19 @@ module _ (k : ℕ) where
             (λ v e. closed_outcome names
             (with_integer v e
             (λ z. after_switch
-            (follow_groups l k groups (label_if (group_has (Numbered z) groups) z) names e))))
+            (follow_groups l k groups (case_value_if (group_has (Numbered z) groups) z) names e))))
             (λ v e. closed_outcome names
             (with_integer v e
             (λ z. after_switch
-            (follow_groups l' n groups (label_if (group_has (Numbered z) groups) z) names e))))
+            (follow_groups l' n groups (case_value_if (group_has (Numbered z) groups) z) names e))))
             (λ v e. closed_settles names
             (there_settles (integer_in v) e
             (λ z. after_switch
-            (follow_groups l k groups (label_if (group_has (Numbered z) groups) z) names e))
+            (follow_groups l k groups (case_value_if (group_has (Numbered z) groups) z) names e))
             (λ z. after_switch
-            (follow_groups l' n groups (label_if (group_has (Numbered z) groups) z) names e))
+            (follow_groups l' n groups (case_value_if (group_has (Numbered z) groups) z) names e))
             (λ z. switch_settles
-            (groups_settle groups (label_if (group_has (Numbered z) groups) z) names e))))
+            (groups_settle groups (case_value_if (group_has (Numbered z) groups) z) names e))))
             (value_settles a names t)
         line_settles (LoopOf b d o) names t =
             turns_settle (turn (follow_in_loop l k b) (follow_in_loop l k d) (break_line l o))
@@ -476,7 +477,7 @@ module _ (k : ℕ) where
         looped_settle (before x ls) names t =
             closed_if_settles (has_continue x) names (and_then_settles (follow_in_loop l k ls) (follow_in_loop l' n ls) (looped_settle ls) (line_settles x names t))
 
-        groups_settle : (gs : Groups) (x : Label) → SettlesNext (follow_groups l k gs x) (follow_groups l' n gs x)
+        groups_settle : (gs : Groups) (x : CaseValue) → SettlesNext (follow_groups l k gs x) (follow_groups l' n gs x)
         groups_settle no_group x names t = same here
         groups_settle (group labels b gs) x names t =
             cond_settles (among x labels) (follow_all l k b names t)

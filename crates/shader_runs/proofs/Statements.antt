@@ -9,17 +9,20 @@ use Rattle.shader_runs.specs.Outcome.{Gives}
 use Rattle.shader_runs.specs.Outcome.{Halts, and_then, within, turn, turns, after_switch, branch_by}
 use Rattle.shader_runs.specs.Outcome.{with_integer, closed_outcome, closed_if, or_stuck, reach}
 use Rattle.shader_runs.specs.Outcome.{unless, jump_outcome}
-use Rattle.shader_runs.specs.Program.{Expression, Result, Action, Asked, Called, Label, Numbered}
+use Rattle.shader_runs.specs.Program.{Expression, Result, Action, Asked, Called, CaseValue}
+use Rattle.shader_runs.specs.Program.{Numbered}
 use Rattle.shader_runs.specs.Program.{Statement, Emit, Store, Block, If, Switch, Loop, Break}
 use Rattle.shader_runs.specs.Program.{Continue, Return, Barrier, Act, Statements, end, then}
 use Rattle.shader_runs.specs.Program.{Cases, no_case, case, from, holds_continue, any_continue}
 use Rattle.shader_runs.specs.Program.{some_case_continues, expression_of, handle_type, BarrierBits}
-use Rattle.shader_runs.specs.Program.{Function, function_numbered, Module, Jump, Jumps, is_continue, jump_told}
+use Rattle.shader_runs.specs.Program.{Function, function_numbered, Module, Jump, Jumps, is_continue}
+use Rattle.shader_runs.specs.Program.{jump_told}
 use Rattle.shader_runs.specs.ProgramRun.{Call, KeptValues, combined_value, used_value}
 use Rattle.shader_runs.specs.ProgramRun.{used_value_as}
 use Rattle.shader_runs.specs.ProgramRun.{used_values, action_answer, with_result, leave}
-use Rattle.shader_runs.specs.ProgramRun.{return_outcome, barrier_words, ask_each, same_label}
-use Rattle.shader_runs.specs.ProgramRun.{has_label, label_if, run, run_all, run_cases, run_on}
+use Rattle.shader_runs.specs.ProgramRun.{return_outcome, barrier_words, ask_each, same_case_value}
+use Rattle.shader_runs.specs.ProgramRun.{has_case_value, case_value_if, run, run_all, run_cases}
+use Rattle.shader_runs.specs.ProgramRun.{run_on}
 use Rattle.shader_runs.specs.Text.{Lines}
 use Rattle.shader_runs.specs.TextRun.{IsValue, Scope, read_value, as_value, word_reached}
 use Rattle.shader_runs.specs.TextRun.{perform_outcome, evaluate_all, value_of, with_value}
@@ -481,17 +484,17 @@ module _ (p : Module) (c : Call) (n : Names) (d : Respond) (facts : Facts p c n 
       (action_answer c a v.0 t) q'
       (responded_written s names kept r a xs (Some h) m.1 m.0 v.0 v.1 v.2 t))
 
-  -- what is to be shown of the cases of a switch, after waiting labels: entered, or on the way to
-  -- the label x
+  -- what is to be shown of the cases of a switch, after waiting values: entered, or on the way to
+  -- the case value x
   pub record Cases_row (k : ℕ) (cs : Cases) (s : Handles) : Type 0 where
-    pub entered : (labels : List Label) → IsFollowed labels cs →
-        (x : Label) → IsTrue (among x labels) →
+    pub entered : (labels : List CaseValue) → IsFollowed labels cs →
+        (x : CaseValue) → IsTrue (among x labels) →
         (names : Scope) (kept : KeptValues) (t : List Event) → Related c n s names kept →
         FitsCases p c n k cs s →
         SameBody c s kept (some_case_continues cs) (run_on c bound cs kept t)
         (follow_groups (words c d) bound (form_cases (naming c n) k labels cs s) x names t)
-    pub searching : (labels : List Label) → IsFollowed labels cs →
-        (x : Label) → among x labels ≡ false →
+    pub searching : (labels : List CaseValue) → IsFollowed labels cs →
+        (x : CaseValue) → among x labels ≡ false →
         (names : Scope) (kept : KeptValues) (t : List Event) → Related c n s names kept →
         FitsCases p c n k cs s →
         SameBody c s kept (some_case_continues cs) (run_cases c bound cs x kept t)
@@ -500,22 +503,22 @@ module _ (p : Module) (c : Call) (n : Names) (d : Respond) (facts : Facts p c n 
   no_cases : (k : ℕ) (s : Handles) → Cases_row k no_case s
   no_cases k s = record { entered = in_none; searching = by_none }
     where
-      in_none : (labels : List Label) → IsFollowed labels no_case →
-          (x : Label) → IsTrue (among x labels) →
+      in_none : (labels : List CaseValue) → IsFollowed labels no_case →
+          (x : CaseValue) → IsTrue (among x labels) →
           (names : Scope) (kept : KeptValues) (t : List Event) → Related c n s names kept →
           FitsCases p c n k no_case s → SameBody c s kept false (run_on c bound no_case kept t)
           (follow_groups (words c d) bound (form_cases (naming c n) k labels no_case s) x names t)
       in_none labels w x e names kept t r m = done (agree_refl s kept)
 
-      by_none : (labels : List Label) → IsFollowed labels no_case →
-          (x : Label) → among x labels ≡ false →
+      by_none : (labels : List CaseValue) → IsFollowed labels no_case →
+          (x : CaseValue) → among x labels ≡ false →
           (names : Scope) (kept : KeptValues) (t : List Event) → Related c n s names kept →
           FitsCases p c n k no_case s → SameBody c s kept false (run_cases c bound no_case x kept t)
           (follow_groups (words c d) bound (form_cases (naming c n) k labels no_case s) x names t)
       by_none labels w x e names kept t r m = done (agree_refl s kept)
 
-  module _ (k : ℕ) (l : Label) (b : Statements) (cs : Cases) (s : Handles) (same : List_row k b s) (rest : Cases_row (named_by_all c.function b k) cs s) where
-    abbrev Groups_at : List Label → Bool → Label → Next Scope
+  module _ (k : ℕ) (l : CaseValue) (b : Statements) (cs : Cases) (s : Handles) (same : List_row k b s) (rest : Cases_row (named_by_all c.function b k) cs s) where
+    abbrev Groups_at : List CaseValue → Bool → CaseValue → Next Scope
     Groups_at labels falls x = follow_groups (words c d) bound (form_cases (naming c n) k labels (case l b falls cs) s) x
 
     abbrev On_from : Bool → Next KeptValues
@@ -547,11 +550,11 @@ module _ (p : Module) (c : Call) (n : Names) (d : Respond) (facts : Facts p c n 
     more_held kept a =
         weaker (λ k l p. p) (λ k l q. (q.0, or_right (any_continue b) (some_case_continues cs) q.1)) (λ k l b. b) a
 
-    is_among : (labels : List Label) (x : Label) → IsTrue (among x labels || same_label x l) → IsTrue (among x (labels ++ l ∷ []))
+    is_among : (labels : List CaseValue) (x : CaseValue) → IsTrue (among x labels || same_case_value x l) → IsTrue (among x (labels ++ l ∷ []))
     is_among labels x e = among_append x labels l ∙ e
 
-    -- the case with this label, or one that waiting labels came to
-    pub here_stays : (labels : List Label) (x : Label) → IsTrue (among x (labels ++ l ∷ [])) →
+    -- the case with this value, or one that waiting values came to
+    pub here_stays : (labels : List CaseValue) (x : CaseValue) → IsTrue (among x (labels ++ l ∷ [])) →
         (names : Scope) (kept : KeptValues) (t : List Event) → Related c n s names kept →
         FitsCases p c n k (case l b false cs) s →
         SameBody c s kept (any_continue b || some_case_continues cs) (On_from false kept t)
@@ -563,7 +566,7 @@ module _ (p : Module) (c : Call) (n : Names) (d : Respond) (facts : Facts p c n 
         (sym e) (body_alone names kept t r m.1)
 
     -- another case
-    pub past_stays : (labels : List Label) (x : Label) → among x (labels ++ l ∷ []) ≡ false →
+    pub past_stays : (labels : List CaseValue) (x : CaseValue) → among x (labels ++ l ∷ []) ≡ false →
         (names : Scope) (kept : KeptValues) (t : List Event) → Related c n s names kept →
         FitsCases p c n k (case l b false cs) s →
         SameBody c s kept (any_continue b || some_case_continues cs) (run_cases c bound cs x kept t)
@@ -578,35 +581,35 @@ module _ (p : Module) (c : Call) (n : Names) (d : Respond) (facts : Facts p c n 
   or_second : (a b : Bool) → a ≡ false → (a || b) ≡ b
   or_second a b e = ap (λ z. z || b) e
 
-  -- by the case's own label
-  by_label : (a : Bool) {o1 o2 : Outcome KeptValues} {o' : Outcome Scope} (s : Handles)
+  -- by the case's own value
+  by_case_value : (a : Bool) {o1 o2 : Outcome KeptValues} {o' : Outcome Scope} (s : Handles)
       (kept : KeptValues) (held : Bool) → (a ≡ true → SameBody c s kept held o1 o') →
       (a ≡ false → SameBody c s kept held o2 o') → SameBody c s kept held (cond a o1 o2) o'
-  by_label true s kept held f g = f refl
-  by_label false s kept held f g = g refl
+  by_case_value true s kept held f g = f refl
+  by_case_value false s kept held f g = g refl
 
-  case_row : (k : ℕ) (l : Label) (b : Statements) (falls : Bool) (cs : Cases) (s : Handles) → List_row k b s → Cases_row (named_by_all c.function b k) cs s → Cases_row k (case l b falls cs) s
+  case_row : (k : ℕ) (l : CaseValue) (b : Statements) (falls : Bool) (cs : Cases) (s : Handles) → List_row k b s → Cases_row (named_by_all c.function b k) cs s → Cases_row k (case l b falls cs) s
   case_row k l b false cs s same rest =
       record {
-        entered = λ labels w x e names kept t r m. here_stays k l b cs s same rest labels x (among_append x labels l ∙ or_left (among x labels) (same_label x l) e) names kept t r m;
-        searching = λ labels w x e names kept t r m. by_label (same_label x l) s kept
+        entered = λ labels w x e names kept t r m. here_stays k l b cs s same rest labels x (among_append x labels l ∙ or_left (among x labels) (same_case_value x l) e) names kept t r m;
+        searching = λ labels w x e names kept t r m. by_case_value (same_case_value x l) s kept
             (any_continue b || some_case_continues cs)
             (λ q. here_stays k l b cs s same rest labels x (among_append x labels l
-            ∙ or_right (among x labels) (same_label x l) q) names kept t r m)
+            ∙ or_right (among x labels) (same_case_value x l) q) names kept t r m)
             (λ q. past_stays k l b cs s same rest labels x (among_append x labels l
-            ∙ or_second (among x labels) (same_label x l) e ∙ q) names kept t r m);
+            ∙ or_second (among x labels) (same_case_value x l) e ∙ q) names kept t r m);
       }
   case_row k l end true cs s same rest =
       record {
         entered = λ labels w x e names kept t r m. rest.entered (labels ++ l ∷ [])
             (falls_followed (labels ++ l ∷ []) cs m.0) x (among_append x labels l
-            ∙ or_left (among x labels) (same_label x l) e) names kept t r m.2;
-        searching = λ labels w x e names kept t r m. by_label (same_label x l) s kept
+            ∙ or_left (among x labels) (same_case_value x l) e) names kept t r m.2;
+        searching = λ labels w x e names kept t r m. by_case_value (same_case_value x l) s kept
             (some_case_continues cs)
             (λ q. rest.entered (labels ++ l ∷ []) (falls_followed (labels ++ l ∷ []) cs m.0) x
-            (among_append x labels l ∙ or_right (among x labels) (same_label x l) q) names kept t r
+            (among_append x labels l ∙ or_right (among x labels) (same_case_value x l) q) names kept t r
             m.2) (λ q. rest.searching (labels ++ l ∷ []) (falls_followed (labels ++ l ∷ []) cs m.0)
-            x (among_append x labels l ∙ or_second (among x labels) (same_label x l) e ∙ q) names
+            x (among_append x labels l ∙ or_second (among x labels) (same_case_value x l) e ∙ q) names
             kept t r m.2);
       }
   case_row k l (then st ss) true cs s same rest =
@@ -621,12 +624,12 @@ module _ (p : Module) (c : Call) (n : Names) (d : Respond) (facts : Facts p c n 
       SameLine c n s kept (some_case_continues cs)
       (or_stuck (used_value c kept h) t
       (λ v. with_integer v t
-      (λ z. after_switch (run_cases c bound cs (label_if (has_label (Numbered z) cs) z) kept t))))
+      (λ z. after_switch (run_cases c bound cs (case_value_if (has_case_value (Numbered z) cs) z) kept t))))
       (with_value (value_of (words c d) (value_at (naming c n) s h) names t)
       (λ v t1. closed_outcome names
       (with_integer v t1
       (λ z. after_switch (follow_groups (words c d) bound (form_cases (naming c n) k [] cs s)
-      (label_if (group_has (Numbered z) (form_cases (naming c n) k [] cs s)) z) names t1)))))
+      (case_value_if (group_has (Numbered z) (form_cases (naming c n) k [] cs s)) z) names t1)))))
   switch_line k h cs s cases names kept t r u m =
       used_alike _ _ (used_value c kept h) t
       (value_of (words c d) (value_at (naming c n) s h) names t)
@@ -634,32 +637,32 @@ module _ (p : Module) (c : Call) (n : Names) (d : Respond) (facts : Facts p c n 
       (λ v. closed_alike {P = λ k l. Agree s kept k} {Q = λ k l. Agree s kept k ×
       IsTrue (some_case_continues cs)} {B = λ k l. Agree s kept k} names
       (λ k l a. (related_agree c n s names kept k a r, a)) (λ k l q. q) (λ k l b. b)
-      (there_alike (integer_in v) t _ _ one_label))
+      (there_alike (integer_in v) t _ _ one_case_value))
     where
-      one_label : (z : ℤ) →
+      one_case_value : (z : ℤ) →
           SameBody c s kept (some_case_continues cs)
-          (after_switch (run_cases c bound cs (label_if (has_label (Numbered z) cs) z) kept t))
+          (after_switch (run_cases c bound cs (case_value_if (has_case_value (Numbered z) cs) z) kept t))
           (after_switch (follow_groups (words c d) bound (form_cases (naming c n) k [] cs s)
-          (label_if (group_has (Numbered z) (form_cases (naming c n) k [] cs s)) z) names t))
-      one_label z =
+          (case_value_if (group_has (Numbered z) (form_cases (naming c n) k [] cs s)) z) names t))
+      one_case_value z =
           switch_alike
           (subst (λ y. SameBody c s kept (some_case_continues cs)
-          (run_cases c bound cs (label_if (has_label (Numbered z) cs) z) kept t)
+          (run_cases c bound cs (case_value_if (has_case_value (Numbered z) cs) z) kept t)
           (follow_groups (words c d) bound (form_cases (naming c n) k [] cs s)
-          (label_if y z) names t)) (sym (has_all_cases p c n k cs s m (Numbered z)))
-          (cases.searching [] (first_followed_by cs) (label_if (has_label (Numbered z) cs) z)
+          (case_value_if y z) names t)) (sym (has_all_cases p c n k cs s m (Numbered z)))
+          (cases.searching [] (first_followed_by cs) (case_value_if (has_case_value (Numbered z) cs) z)
           refl names kept t r m))
 
   switch_row : (k h : ℕ) (cs : Cases) (s : Handles) → Cases_row k cs s → Row k (Switch h cs) s
   switch_row k h cs s cases names kept t held2 s2 f tail r m next =
       let groups = form_cases (naming c n) k [] cs s in
       let held = some_case_continues cs in
-      let o = or_stuck (used_value c kept h) t (λ v. with_integer v t (λ z. after_switch (run_cases c bound cs (label_if (has_label (Numbered z) cs) z) kept t))) in
+      let o = or_stuck (used_value c kept h) t (λ v. with_integer v t (λ z. after_switch (run_cases c bound cs (case_value_if (has_case_value (Numbered z) cs) z) kept t))) in
       let o' = with_value (value_of (words c d) (value_at (naming c n) s h) names t)
       (λ v t1. closed_outcome names
       (with_integer v t1
       (λ z. after_switch
-      (follow_groups (words c d) bound groups (label_if (group_has (Numbered z) groups) z) names
+      (follow_groups (words c d) bound groups (case_value_if (group_has (Numbered z) groups) z) names
       t1)))) in
       subst (λ x. Same c n s kept (forgotten_if held s s2) (held || held2) (and_then o f)
       (closed_if x names (and_then o' (Follow tail))))

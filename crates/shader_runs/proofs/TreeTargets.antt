@@ -1,5 +1,6 @@
 -- The identifiers and words of an expression's form stand for what is meant by it.
-use Rattle.std.proofs.Common.{◌≡◌, ℕ, zero, suc, ◌<◌, Bool, true, false, List, [], ◌∷◌, ◌++◌, map, length, Option}
+use Rattle.std.proofs.Common.{◌≡◌, ℕ, zero, suc, ◌<◌, Bool, true, false, List, [], ◌∷◌, ◌++◌, map}
+use Rattle.std.proofs.Common.{length, Option}
 use Rattle.std.proofs.Common.{Some, None, refl, sym, ap, ◌∙◌}
 use Rattle.std.proofs.lemmas.List.{map-append}
 use Rattle.shader_runs.specs.Value.{Bytes, MemberNamed, ValueType, PointerType, Selector}
@@ -17,7 +18,8 @@ use Rattle.shader_runs.specs.Form.{constant_forms, global_form, own_form, availa
 use Rattle.shader_runs.specs.Form.{written_below, written_form, value_at, value_if}
 use Rattle.shader_runs.specs.Premises.{EachWord, EachWordOf, EachLeaf, EachLeafOf, IsLiteral}
 use Rattle.shader_runs.specs.Resolution.{Target, ConstantTarget, GlobalTarget, ArgumentTarget}
-use Rattle.shader_runs.specs.Resolution.{LocalTarget, LetTarget, LogicTarget, PartTarget, WordTarget}
+use Rattle.shader_runs.specs.Resolution.{LocalTarget, LetTarget, LogicTarget, PartTarget}
+use Rattle.shader_runs.specs.Resolution.{WordTarget}
 use Rattle.shader_runs.specs.Resolution.{Lookup, word_target, tree_targets}
 use Rattle.shader_runs.specs.Resolution.{trees_targets, tree_targets_if, constant_targets}
 use Rattle.shader_runs.specs.Resolution.{constants_targets, operands_targets, operands_targets_then}
@@ -44,16 +46,16 @@ pub both : {us vs : List (Option Target)} (xs ys : List Target) → us ≡ map S
 both xs ys a b = (λ i. a i ++ b i) ∙ sym (map-append Some xs ys)
 
 -- what stands after a word
-behind : {us vs : List (Option Target)} (t : Target) → us ≡ vs → Some t ∷ us ≡ Some t ∷ vs
-behind t e = ap (λ ts. Some t ∷ ts) e
+following : {us vs : List (Option Target)} (t : Target) → us ≡ vs → Some t ∷ us ≡ Some t ∷ vs
+following t e = ap (λ ts. Some t ∷ ts) e
 
 access_targets : (names : Lookup) (k : ValueType) (b i : Plain) → plain_targets names (access_form k b i) ≡ plain_targets names b ++ plain_targets names i
 access_targets names (PointerType spelling) b i = λ j. place_targets_of names b j ++ value_targets_of names i j
 access_targets names _ b i = λ j. value_targets_of names b j ++ value_targets_of names i j
 
 part_targets : (names : Lookup) (k : ValueType) (x : Selector) (b : Plain) → plain_targets names (part_form k x b) ≡ Some (PartTarget x) ∷ plain_targets names b
-part_targets names (PointerType spelling) x b = behind (PartTarget x) (place_targets_of names b)
-part_targets names _ x b = behind (PartTarget x) (value_targets_of names b)
+part_targets names (PointerType spelling) x b = following (PartTarget x) (place_targets_of names b)
+part_targets names _ x b = following (PartTarget x) (value_targets_of names b)
 
 global_targets : (names : Lookup) (held : Bool) (e : Tree) → plain_targets names (global_form held e) ≡ tree_targets names e
 global_targets names true e = refl
@@ -78,9 +80,9 @@ module _ (n : ModuleNames) (names : Lookup) (count : ℕ) (found : (i : ℕ) →
     constant_resolves (Indexing ty b i) range words =
         both (constant_targets b) (constant_targets i) (constant_resolves b range.0 words.0) (constant_resolves i range.1 words.1)
     constant_resolves (Picking x ty b) range words =
-        behind (PartTarget x) (constant_resolves b range words)
+        following (PartTarget x) (constant_resolves b range words)
     constant_resolves (Joining j ty l r) range words =
-        behind (LogicTarget j)
+        following (LogicTarget j)
         (both (constant_targets l) (constant_targets r) (constant_resolves l range.0 words.0) (constant_resolves r range.1 words.1))
 
     pub constants_resolve : (es : ConstantTrees) → EachLeafOf IsLiteral (λ i. i < count) es → EachWordOf IsWord es → trees_targets names (constant_forms n es) ≡ map Some (constants_targets es)
@@ -139,12 +141,12 @@ module _ (f : Naming) (names : Lookup) where
     own_resolves (Some (Access b i)) named same =
         access_targets names (handle_type f.function b) (operand b) (operand i) ∙ both (like b) (like i) same.0 same.1.0
     own_resolves (Some (AccessIndex x b)) named same =
-        part_targets names (handle_type f.function b) x (operand b) ∙ behind (PartTarget x) same.0
+        part_targets names (handle_type f.function b) x (operand b) ∙ following (PartTarget x) same.0
     own_resolves (Some (Logical j a b)) named same =
-        behind (LogicTarget j)
+        following (LogicTarget j)
         (both (like a) (like b) (value_targets_of names (operand a) ∙ same.0) (value_targets_of names (operand b) ∙ same.1.0))
     own_resolves (Some (Swizzle letters v)) named same =
-        behind (PartTarget (MemberNamed letters)) (value_targets_of names (operand v) ∙ same.0)
+        following (PartTarget (MemberNamed letters)) (value_targets_of names (operand v) ∙ same.0)
     own_resolves (Some (Request word xs es)) named same =
         word_resolves names word named.0
         (operands_then xs (constant_forms f.names.outer es) (constants_targets es) same named.1)

@@ -216,8 +216,8 @@ handle_of p f (suc n) x m =
 abbrev StandsFrom : {A : Type 0} → List A → List A → ℕ → Type 0
 StandsFrom {A} xs ys shift = (i : ℕ) (a : A) → slice_get ys i ≡ Some a → slice_get xs (i + shift) ≡ Some a
 
-stands_behind : {A : Type 0} (xs : List A) (y : A) (ys : List A) (shift : ℕ) → StandsFrom xs (y ∷ ys) shift → StandsFrom xs ys (suc shift)
-stands_behind xs y ys shift at i a e =
+stands_following : {A : Type 0} (xs : List A) (y : A) (ys : List A) (shift : ℕ) → StandsFrom xs (y ∷ ys) shift → StandsFrom xs ys (suc shift)
+stands_following xs y ys shift at i a e =
     let same : suc i + shift ≡ i + suc shift = omega arith in
     subst (λ k. slice_get xs k ≡ Some a) same (at (suc i) a e)
 
@@ -230,7 +230,7 @@ stands_at_start xs i a e =
 spelled_in : (p : Module) (fs : List Function) (shift : ℕ) → StandsFrom p.functions fs shift → (x : Signature) → IsOneOf x (signatures_in p fs) → IsSpelled p x
 spelled_in p [] shift at x m = absurd (no_signature x m)
 spelled_in p (f ∷ fs) shift at x m =
-    go (one_of_either x (signatures_below p f (length f.expressions)) (signatures_in p fs) m) (λ k. spelled_in p fs (suc shift) (stands_behind p.functions f fs shift at) x k)
+    go (one_of_either x (signatures_below p f (length f.expressions)) (signatures_in p fs) m) (λ k. spelled_in p fs (suc shift) (stands_following p.functions f fs shift at) x k)
   where
     go : IsOneOf x (signatures_below p f (length f.expressions)) ⊎ IsOneOf x (signatures_in p fs) → (IsOneOf x (signatures_in p fs) → IsSpelled p x) → IsSpelled p x
     go (inl k) rest =
@@ -256,7 +256,7 @@ initialiser_there p (d ∷ es) (suc i) e q x k =
 initialiser_spelled : (p : Module) (es : List ConstantTree) (shift : ℕ) → StandsFrom p.initialisers es shift → (x : Signature) → IsOneOf x (initialiser_signatures p es) → IsSpelled p x
 initialiser_spelled p [] shift at x k = absurd (no_signature x k)
 initialiser_spelled p (d ∷ es) shift at x k =
-    go (one_of_either x (constant_signatures p d) (initialiser_signatures p es) k) (λ k. initialiser_spelled p es (suc shift) (stands_behind p.initialisers d es shift at) x k)
+    go (one_of_either x (constant_signatures p d) (initialiser_signatures p es) k) (λ k. initialiser_spelled p es (suc shift) (stands_following p.initialisers d es shift at) x k)
   where
     go : IsOneOf x (constant_signatures p d) ⊎ IsOneOf x (initialiser_signatures p es) → (IsOneOf x (initialiser_signatures p es) → IsSpelled p x) → IsSpelled p x
     go (inl k) rest = in_initialiser (0 + shift) d (at 0 d refl) k
@@ -552,7 +552,7 @@ module _ (p : Module) (consistent : IsConsistent p) where
 
   all_typed : (fs : List Function) (shift : ℕ) → StandsFrom p.functions fs shift → AllTypedIn p.parts p m fs
   all_typed [] shift at = tt
-  all_typed (f ∷ fs) shift at = (function_typed (0 + shift) f (at 0 f refl), all_typed fs (suc shift) (stands_behind p.functions f fs shift at))
+  all_typed (f ∷ fs) shift at = (function_typed (0 + shift) f (at 0 f refl), all_typed fs (suc shift) (stands_following p.functions f fs shift at))
 
 pub has_typed_meaning : HasTypedMeaning
 has_typed_meaning p consistent =

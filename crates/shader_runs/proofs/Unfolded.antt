@@ -2,9 +2,9 @@
 -- stand as two blocks. So a module runs as one in which no case falls through.
 --
 -- Throughout, c is a call and n bounds the turns of loops, s is a statement, b and ss are several
--- and cs are cases, x is a label or a selector, kept are the kept values and t the events so far, f
--- is a function and fs are several, g is a function's number, p a module and m the meaning, e an
--- expression or a tree of constants and es are several, and o is an outcome.
+-- and cs are cases, x is a case value or a selector, kept are the kept values and t the events so
+-- far, f is a function and fs are several, g is a function's number, p a module and m the meaning,
+-- e an expression or a tree of constants and es are several, and o is an outcome.
 use Rattle.std.proofs.Common.{◌≡◌, ℕ, zero, suc, Bool, true, false, cond, ◌||◌, List, [], ◌∷◌}
 use Rattle.std.proofs.Common.{length, Option, Some, None, refl, sym, ap, ◌∙◌, subst, nat_eq}
 use Rattle.std.proofs.Common.{option_map}
@@ -16,15 +16,16 @@ use Rattle.shader_runs.specs.Outcome.{ReachedOrHalted, and_then, after_switch, b
 use Rattle.shader_runs.specs.Outcome.{turn, turns, with_integer}
 use Rattle.shader_runs.specs.Program.{ConstantTree, Fixed, NamedConstant, Constructed, Indexing}
 use Rattle.shader_runs.specs.Program.{Picking, Joining, ConstantTrees, no_constant, constant}
-use Rattle.shader_runs.specs.Program.{Expression, Constant, Request, Label, Numbered, Statement}
+use Rattle.shader_runs.specs.Program.{Expression, Constant, Request, CaseValue, Numbered, Statement}
 use Rattle.shader_runs.specs.Program.{Block, If, Switch, Loop, Statements, end, then, Cases}
 use Rattle.shader_runs.specs.Program.{no_case, case, Function, argument_count, function_numbered}
 use Rattle.shader_runs.specs.Program.{Module, constant_count, expression_of, handle_type}
 use Rattle.shader_runs.specs.Program.{operands_of}
-use Rattle.shader_runs.specs.ProgramRun.{Call, KeptValues, has_label, label_if, leave, run, run_all}
+use Rattle.shader_runs.specs.ProgramRun.{Call, KeptValues, has_case_value, case_value_if, leave}
+use Rattle.shader_runs.specs.ProgramRun.{run, run_all}
 use Rattle.shader_runs.specs.ProgramRun.{run_body, run_call, run_cases, run_if_arguments_fit}
 use Rattle.shader_runs.specs.ProgramRun.{run_on}
-use Rattle.shader_runs.specs.ProgramRun.{same_label, used_value}
+use Rattle.shader_runs.specs.ProgramRun.{same_case_value, used_value}
 use Rattle.shader_runs.specs.Constants.{all_found, environment_of, found_after, found_with}
 use Rattle.shader_runs.specs.Constants.{global_values, known_value, run_module}
 use Rattle.shader_runs.specs.Premises.{AllTypedIn, ConstantTyped, ConstantsTyped, IsTyped}
@@ -76,9 +77,9 @@ ended : {S : Type 0} (o : Outcome S) → and_then o (λ s t. Done s t) ≡ o
 ended (Done s t) = refl
 ended _ = refl
 
-labels_stay : (x : Label) (cs : Cases) → has_label x (unfolded_cases cs) ≡ has_label x cs
-labels_stay x no_case = refl
-labels_stay x (case l b falls cs) = ap (λ c. same_label x l || c) (labels_stay x cs)
+case_values_stay : (x : CaseValue) (cs : Cases) → has_case_value x (unfolded_cases cs) ≡ has_case_value x cs
+case_values_stay x no_case = refl
+case_values_stay x (case l b falls cs) = ap (λ c. same_case_value x l || c) (case_values_stay x cs)
 
 module _ (c : Call) (n : ℕ) where
   -- a case, and what it falls to
@@ -105,9 +106,9 @@ module _ (c : Call) (n : ℕ) where
         (λ v. branch_by v t (all_unfolded a kept t i) (all_unfolded b kept t i))
     one_unfolded (Switch h cs) kept t =
         λ i. or_stuck (used_value c kept h) t (λ v. with_integer v t (λ z.
-        after_switch ((ap (λ b. run_cases c n (unfolded_cases cs) (label_if b z) kept t)
-        (labels_stay (Numbered z) cs)
-        ∙ cases_unfolded cs (label_if (has_label (Numbered z) cs) z) kept t) i)))
+        after_switch ((ap (λ b. run_cases c n (unfolded_cases cs) (case_value_if b z) kept t)
+        (case_values_stay (Numbered z) cs)
+        ∙ cases_unfolded cs (case_value_if (has_case_value (Numbered z) cs) z) kept t) i)))
     one_unfolded (Loop b d e) kept t =
         λ i. turns n
         (turn (λ kept t. all_unfolded b kept t i) (λ kept t. all_unfolded d kept t i) (leave c e))
@@ -120,11 +121,11 @@ module _ (c : Call) (n : ℕ) where
     all_unfolded (then s ss) kept t =
         λ i. and_then (one_unfolded s kept t i) (λ kept t. all_unfolded ss kept t i)
 
-    cases_unfolded : (cs : Cases) (x : Label) (kept : KeptValues) (t : List Event) →
+    cases_unfolded : (cs : Cases) (x : CaseValue) (kept : KeptValues) (t : List Event) →
         run_cases c n (unfolded_cases cs) x kept t ≡ run_cases c n cs x kept t
     cases_unfolded no_case x kept t = refl
     cases_unfolded (case l b falls cs) x kept t =
-        λ i. cond (same_label x l)
+        λ i. cond (same_case_value x l)
         ((ended (run_all c n (followed falls (unfolded_all b) (unfolded_on cs)) kept t)
         ∙ followed_on falls b cs (all_unfolded b) (on_unfolded cs) kept t) i)
         (cases_unfolded cs x kept t i)

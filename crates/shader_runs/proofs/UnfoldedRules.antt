@@ -8,7 +8,8 @@ use Rattle.std.proofs.Common.{◌≡◌, ℕ, suc, ◌<◌, Bool, true, false, c
 use Rattle.std.proofs.Common.{Option, Some, None, refl, sym, ap, ◌∙◌, subst}
 use Rattle.std.specs.Prelude.{IsTrue, IsFalse}
 use Rattle.shader_runs.specs.Value.{Bytes, ValueType}
-use Rattle.shader_runs.specs.Program.{Swizzle, Request, Global, Local, Argument, ConstantTree, Fixed, NamedConstant, Constructed, Indexing}
+use Rattle.shader_runs.specs.Program.{Swizzle, Request, Global, Local, Argument, ConstantTree}
+use Rattle.shader_runs.specs.Program.{Fixed, NamedConstant, Constructed, Indexing}
 use Rattle.shader_runs.specs.Program.{Picking, Joining, ConstantTrees, no_constant, constant}
 use Rattle.shader_runs.specs.Program.{Expression, Constant, Load}
 use Rattle.shader_runs.specs.Program.{Statement, Emit, Store}
@@ -24,8 +25,9 @@ use Rattle.shader_runs.specs.ScopeRules.{and_tree, InScope, constant_tree, argum
 use Rattle.shader_runs.specs.ScopeRules.{bound, written_out, result, still, EachInScope, no_handle}
 use Rattle.shader_runs.specs.ScopeRules.{and_handle, InScopeIf, is_unwritten, with_one}
 use Rattle.shader_runs.specs.ScopeRules.{with_emitted, with_statement, with_statements}
-use Rattle.shader_runs.specs.ScopeRules.{statements_before_continue, Point, entry_point, behind_one}
-use Rattle.shader_runs.specs.ScopeRules.{behind, behind_turn, WasIntroduced, in_sight, as_a_tree}
+use Rattle.shader_runs.specs.ScopeRules.{statements_before_continue, Point, entry_point}
+use Rattle.shader_runs.specs.ScopeRules.{following_one}
+use Rattle.shader_runs.specs.ScopeRules.{following, after_turn, WasIntroduced, in_sight, as_a_tree}
 use Rattle.shader_runs.specs.ScopeRules.{MayEmit, MayEmitEach, MayResult, StatementHolds}
 use Rattle.shader_runs.specs.ScopeRules.{StatementsHold, CasesHold, FirstValuesHold, ScopeHolds}
 use Rattle.shader_runs.specs.Premises.{IsRegular, AreRegular, CasesAreRegular, OnlyEmptyFalls}
@@ -174,21 +176,21 @@ module _ (f : Function) (body : Statements) where
           (statement_gives st gs)
           ∙ later (with_statement f st gs)
 
-  behind_alike : (st : Statement) (at : Point) → behind other (unfolded st) at ≡ behind f st at
-  behind_alike st at = λ i. record {
+  after_alike : (st : Statement) (at : Point) → following other (unfolded st) at ≡ following f st at
+  after_alike st at = λ i. record {
     visible = statement_gives st at.visible i;
     passed = statement_gives st at.passed i;
   }
 
   turn_alike : (ss : Statements) (at : Point) →
-      behind_turn other (unfolded_all ss) at ≡ behind_turn f ss at
+      after_turn other (unfolded_all ss) at ≡ after_turn f ss at
   turn_alike ss at = λ i. record {
     visible = first_give ss at.visible i;
     passed = statements_give ss at.passed i;
   }
 
-  one_behind_alike : (h : ℕ) (at : Point) → behind_one other h at ≡ behind_one f h at
-  one_behind_alike h at = λ i. record {
+  one_after_alike : (h : ℕ) (at : Point) → following_one other h at ≡ following_one f h at
+  one_after_alike h at = λ i. record {
     visible = one_alike h at.visible i;
     passed = one_alike h at.passed i;
   }
@@ -214,8 +216,8 @@ module _ (f : Function) (body : Statements) where
   emits_hold at [] may = tt
   emits_hold at (h ∷ hs) may = (
     emit_holds may.0,
-    subst (λ at. MayEmitEach (other f body) at hs) (sym (one_behind_alike f body h at))
-        (emits_hold (behind_one f h at) hs may.1),
+    subst (λ at. MayEmitEach (other f body) at hs) (sym (one_after_alike f body h at))
+        (emits_hold (following_one f h at) hs may.1),
   )
 
   result_holds : (at : Point) (r : Option ℕ) → MayResult f at r → MayResult (other f body) at r
@@ -233,15 +235,15 @@ module _ (f : Function) (body : Statements) where
         (scope_alike f body holds.0, statements_hold at a holds.1, statements_hold at b holds.2)
     statement_holds at (Switch h cs) holds = (scope_alike f body holds.0, cases_hold at cs holds.1)
     statement_holds at (Loop b d e) holds =
-        let continuing = behind_turn f b at in
+        let continuing = after_turn f b at in
         let here = turn_alike f body b at in
         let last =
-        ap (behind_turn (other f body) (unfolded_all d)) here ∙ turn_alike f body d continuing in (
+        ap (after_turn (other f body) (unfolded_all d)) here ∙ turn_alike f body d continuing in (
           statements_hold at b holds.0,
           subst (λ at. StatementsHold (other f body) at (unfolded_all d)) (sym here)
               (statements_hold continuing d holds.1),
           subst (λ at. InScopeIf (other f body) at.visible e) (sym last)
-              (scope_alike_if f body (behind_turn f d continuing).visible e holds.2),
+              (scope_alike_if f body (after_turn f d continuing).visible e holds.2),
         )
     statement_holds at (Jumps (Return v)) holds = scope_alike_if f body at.visible v holds
     statement_holds at (Act a xs r) holds = (each_alike f body holds.0, result_holds at r holds.1)
@@ -253,8 +255,8 @@ module _ (f : Function) (body : Statements) where
     statements_hold at (then st ss) holds = (
       statement_holds at st holds.0,
       subst (λ at. StatementsHold (other f body) at (unfolded_all ss))
-          (sym (behind_alike f body st at))
-          (statements_hold (behind f st at) ss holds.1),
+          (sym (after_alike f body st at))
+          (statements_hold (following f st at) ss holds.1),
     )
 
     cases_hold : (at : Point) (cs : Cases) → CasesHold f at cs →

@@ -8,12 +8,12 @@ use Rattle.shader_runs.specs.Outcome.{Stop, Stuck, Unreturned, OutOfTurns, Disca
 use Rattle.shader_runs.specs.Outcome.{Outcome, Done, Continued, Broke, Returned, Stopped}
 use Rattle.shader_runs.specs.Program.{Statement, Block, If, Switch, Loop, Statements, end, then}
 use Rattle.shader_runs.specs.ProgramRun.{Call, KeptValues, run, run_all}
-use Rattle.shader_runs.specs.Passes.{Point, here, behind, statements_at, Passes}
+use Rattle.shader_runs.specs.Passes.{Point, here, following, statements_at, Passes}
 
 -- the point after the last statement
 abbrev pub end_of : Statements → Point
 end_of end = here
-end_of (then st ss) = behind (end_of ss)
+end_of (then st ss) = following (end_of ss)
 
 -- no statement stands inside this one
 abbrev pub is_simple : Statement → Bool

@@ -3,7 +3,7 @@
 -- Throughout, f is a function with its names, n are names, s the handles in scope (s1 those after
 -- a part), k is how many names have been given, h a handle, e an expression or a
 -- constant tree, st a statement, b a body, i an index, j a short circuit, w a word, x a name, a
--- selector, a variable or a handle, and l a label or a local.
+-- selector, a variable or a handle, and l a case value or a local.
 use Rattle.std.specs.Prelude.{ℕ, zero, suc, Bool, true, false, List, [], ◌∷◌, ◌++◌, length, Option}
 use Rattle.std.specs.Prelude.{Some, None}
 use Rattle.shader_runs.specs.Value.{Bytes, Selector, MemberNamed, ValueType, PointerType}
@@ -13,7 +13,7 @@ use Rattle.shader_runs.specs.Program.{Picking, Joining}
 use Rattle.shader_runs.specs.Program.{ConstantTrees, no_constant, constant, Expression, Constant}
 use Rattle.shader_runs.specs.Program.{Argument, Local, Global, Load, Operator, Access, AccessIndex}
 use Rattle.shader_runs.specs.Program.{Logical, Swizzle, Request, Result, Action, Asked, Called}
-use Rattle.shader_runs.specs.Program.{Label, Statement, Emit, Store, Block, If, Switch, Loop}
+use Rattle.shader_runs.specs.Program.{CaseValue, Statement, Emit, Store, Block, If, Switch, Loop}
 use Rattle.shader_runs.specs.Program.{Barrier, Act, Statements, end, then}
 use Rattle.shader_runs.specs.Program.{Cases, no_case, case, Function, argument_count, local_pointer}
 use Rattle.shader_runs.specs.Program.{expression_of, handle_type, binds, from, VariableShape}
@@ -186,8 +186,8 @@ abbrev mutual
   form_all f k (then st ss) s =
       form f k st s (form_all f (named_by f.function st k) ss (after f k st s))
 
-  -- a case that falls through gives its label to the next one
-  pub form_cases : Naming → ℕ → List Label → Cases → Handles → Groups
+  -- a case that falls through gives its value to the next one
+  pub form_cases : Naming → ℕ → List CaseValue → Cases → Handles → Groups
   form_cases f k labels no_case s = no_group
   form_cases f k labels (case l b true cs) s =
       form_cases f (named_by_all f.function b k) (labels ++ l ∷ []) cs s

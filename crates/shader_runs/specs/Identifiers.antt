@@ -9,7 +9,7 @@ use Rattle.shader_runs.specs.Premises.{FunctionFits}
 use Rattle.shader_runs.specs.Correct.{ItemsFit, ModuleFits}
 use Rattle.shader_runs.specs.Resolution.{text_function_targets, text_names, text_targets}
 use Rattle.shader_runs.specs.Resolution.{function_targets, module_targets}
-use Rattle.shader_runs.specs.Bindings.{lines_lets, text_lets, bound_names}
+use Rattle.shader_runs.specs.NamedLets.{lines_lets, text_lets, bound_names}
 
 -- an argument or a variable that an expression names is one of the function
 abbrev pub LeafStands : Function → Option Expression → Type 0

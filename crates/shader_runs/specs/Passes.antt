@@ -2,19 +2,20 @@
 --
 -- Throughout, c is a call, l is what words do, n the bound on turns, t are the events so far (t1
 -- and t2 are later ones), s is a state (s1 and s2 are later ones), q a point, g a region, h a
--- handle, i the index of a case, j the number of a turn, x a label or a name, z an integer, e a
--- tree or an optional handle, b, d and a are bodies, ss statements, ls lines.
+-- handle, i the index of a case, j the number of a turn, x a case value or a name, z an integer, e
+-- a tree or an optional handle, b, d and a are bodies, ss statements, ls lines.
 use Rattle.std.specs.Prelude.{◌≡◌, ℕ, zero, suc, ℤ, Bool, true, false, cond, ◌||◌, ◌+◌, ◌-◌, ◌<◌}
 use Rattle.std.specs.Prelude.{◌≤◌, List, [], ◌∷◌, length, Option, Some, IsTrue}
 use Rattle.shader_runs.specs.Value.{Bytes, Truth, Whole}
 use Rattle.shader_runs.specs.World.{Event}
 use Rattle.shader_runs.specs.Outcome.{Done, Gives, Next, and_then, and_continue, turn}
 use Rattle.shader_runs.specs.Outcome.{closed_outcome}
-use Rattle.shader_runs.specs.Program.{Label, Numbered, Statement, Emit, Block, If, Switch, Loop}
+use Rattle.shader_runs.specs.Program.{CaseValue, Numbered, Statement, Emit, Block, If, Switch, Loop}
 use Rattle.shader_runs.specs.Program.{Barrier, Statements, end, then, Cases, no_case, case}
 use Rattle.shader_runs.specs.Program.{Function, binds, from}
 use Rattle.shader_runs.specs.ProgramRun.{Call, KeptValues, used_value, emit, leave, barrier_words}
-use Rattle.shader_runs.specs.ProgramRun.{same_label, has_label, label_if, run, run_all}
+use Rattle.shader_runs.specs.ProgramRun.{same_case_value, has_case_value, case_value_if, run}
+use Rattle.shader_runs.specs.ProgramRun.{run_all}
 use Rattle.shader_runs.specs.Text.{Tree, Line, Braces, IfElse, SwitchOn, LoopOf, Lines, last}
 use Rattle.shader_runs.specs.Text.{before, Groups, no_group, group}
 use Rattle.shader_runs.specs.TextRun.{Scope, Words, value_of, break_line, among, group_has, follow}
@@ -36,7 +37,7 @@ pub data Region : Type 0 where
 -- first one, in the rest; in a region of the first one; or inside an Emit, after so many handles
 pub data Point : Type 0 where
   here : Point
-  behind : Point → Point
+  following : Point → Point
   inside : Region → Point → Point
   emitting : (count : ℕ) → Point
 
@@ -83,7 +84,7 @@ statements_in _ _ = end
 abbrev pub statements_at : Statements → Point → Statements
 statements_at ss here = ss
 statements_at end q = end
-statements_at (then st ss) (behind q) = statements_at ss q
+statements_at (then st ss) (following q) = statements_at ss q
 statements_at (then st ss) (inside g q) = statements_at (statements_in st g) q
 statements_at (then (Emit first count) ss) (emitting i) = then (Emit (first + i) (count - i)) ss
 statements_at (then _ ss) (emitting i) = ss
@@ -95,26 +96,26 @@ module_turn c n b d e = turn (run_all c n b) (run_all c n d) (leave c e)
 -- from its first case on, the run comes to the case with this index, by cases that fall through
 pub data FallsTo (c : Call) (n : ℕ) :
     Cases → ℕ → KeptValues → List Event → KeptValues → List Event → Type 0 where
-  this_case : {l : Label} {b : Statements} {falls : Bool} {cs : Cases}
+  this_case : {l : CaseValue} {b : Statements} {falls : Bool} {cs : Cases}
       {kept : KeptValues} {t : List Event} →
       FallsTo c n (case l b falls cs) 0 kept t kept t
-  next_case : {l : Label} {b : Statements} {cs : Cases} {i : ℕ}
+  next_case : {l : CaseValue} {b : Statements} {cs : Cases} {i : ℕ}
       {kept kept1 kept2 : KeptValues} {t t1 t2 : List Event} →
       run_all c n b kept t ≡ Done kept1 t1 →
       FallsTo c n cs i kept1 t1 kept2 t2 →
       FallsTo c n (case l b true cs) (suc i) kept t kept2 t2
 
--- with this label the run comes to the case with this index
-pub data ComesToCase (c : Call) (n : ℕ) (x : Label) :
+-- with this value the run comes to the case with this index
+pub data ComesToCase (c : Call) (n : ℕ) (x : CaseValue) :
     Cases → ℕ → KeptValues → List Event → KeptValues → List Event → Type 0 where
-  own_case : {l : Label} {b : Statements} {falls : Bool} {cs : Cases} {i : ℕ}
+  own_case : {l : CaseValue} {b : Statements} {falls : Bool} {cs : Cases} {i : ℕ}
       {kept kept1 : KeptValues} {t t1 : List Event} →
-      IsTrue (same_label x l) →
+      IsTrue (same_case_value x l) →
       FallsTo c n (case l b falls cs) i kept t kept1 t1 →
       ComesToCase c n x (case l b falls cs) i kept t kept1 t1
-  other_case : {l : Label} {b : Statements} {falls : Bool} {cs : Cases} {i : ℕ}
+  other_case : {l : CaseValue} {b : Statements} {falls : Bool} {cs : Cases} {i : ℕ}
       {kept kept1 : KeptValues} {t t1 : List Event} →
-      same_label x l ≡ false →
+      same_case_value x l ≡ false →
       ComesToCase c n x cs i kept t kept1 t1 →
       ComesToCase c n x (case l b falls cs) (suc i) kept t kept1 t1
 
@@ -132,7 +133,8 @@ pub data Comes (c : Call) (n : ℕ) :
   into_case : {h i : ℕ} {cases : Cases} {spelling : Bytes} {z : ℤ}
       {kept kept1 : KeptValues} {t t1 : List Event} →
       used_value c kept h ≡ Some (Whole spelling z) →
-      ComesToCase c n (label_if (has_label (Numbered z) cases) z) cases i kept t kept1 t1 →
+      ComesToCase c n
+      (case_value_if (has_case_value (Numbered z) cases) z) cases i kept t kept1 t1 →
       Comes c n (Switch h cases) (CaseBody i) kept t kept1 t1
   into_loop : {b d : Statements} {e : Option ℕ} {g : Region}
       {kept kept1 : KeptValues} {t t1 : List Event} →
@@ -144,11 +146,11 @@ pub data Passes (c : Call) (n : ℕ) :
     Statements → Point → KeptValues → List Event → KeptValues → List Event → Type 0 where
   is_here : {ss : Statements} {kept : KeptValues} {t : List Event} →
       Passes c n ss here kept t kept t
-  goes_behind : {st : Statement} {ss : Statements} {q : Point}
+  goes_after : {st : Statement} {ss : Statements} {q : Point}
       {kept kept1 kept2 : KeptValues} {t t1 t2 : List Event} →
       run c n st kept t ≡ Done kept1 t1 →
       Passes c n ss q kept1 t1 kept2 t2 →
-      Passes c n (then st ss) (behind q) kept t kept2 t2
+      Passes c n (then st ss) (following q) kept t kept2 t2
   goes_inside : {st : Statement} {ss : Statements} {g : Region} {q : Point}
       {kept kept1 kept2 : KeptValues} {t t1 t2 : List Event} →
       Comes c n st g kept t kept1 t1 →
@@ -175,12 +177,12 @@ lines_in (LoopOf b d e) (Continuing j) = d
 lines_in _ _ = last
 
 -- the lines after a point of a list
-abbrev pub lines_behind : Lines → Point → Lines
-lines_behind ls here = ls
-lines_behind last q = last
-lines_behind (before x ls) (behind q) = lines_behind ls q
-lines_behind (before x ls) (inside g q) = lines_behind (lines_in x g) q
-lines_behind (before x ls) (emitting i) = ls
+abbrev pub lines_after : Lines → Point → Lines
+lines_after ls here = ls
+lines_after last q = last
+lines_after (before x ls) (following q) = lines_after ls q
+lines_after (before x ls) (inside g q) = lines_after (lines_in x g) q
+lines_after (before x ls) (emitting i) = ls
 
 -- one turn of a text's loop, which leaves the names that it began with
 abbrev pub text_turn : Words → ℕ → (body continuing : Lines) → Option Tree → Next Scope
@@ -188,12 +190,12 @@ text_turn l n b d e names t =
     closed_outcome names
     (turn (follow_in_loop l n b) (follow_in_loop l n d) (break_line l e) names t)
 
--- this label is one of the group with this index, and of no group before it
-pub data GoesToGroup (x : Label) : Groups → ℕ → Type 0 where
-  own_group : {labels : List Label} {b : Lines} {gs : Groups} →
+-- this case value is one of the group with this index, and of no group before it
+pub data GoesToGroup (x : CaseValue) : Groups → ℕ → Type 0 where
+  own_group : {labels : List CaseValue} {b : Lines} {gs : Groups} →
       IsTrue (among x labels) →
       GoesToGroup x (group labels b gs) 0
-  other_group : {labels : List Label} {b : Lines} {gs : Groups} {i : ℕ} →
+  other_group : {labels : List CaseValue} {b : Lines} {gs : Groups} {i : ℕ} →
       among x labels ≡ false → GoesToGroup x gs i →
       GoesToGroup x (group labels b gs) (suc i)
 
@@ -211,7 +213,7 @@ pub data TextComes (l : Words) (n : ℕ) :
   into_group : {e : Tree} {i : ℕ} {gs : Groups} {spelling : Bytes} {z : ℤ}
       {names : Scope} {t t1 : List Event} →
       value_of l e names t ≡ Gives (Whole spelling z) t1 →
-      GoesToGroup (label_if (group_has (Numbered z) gs) z) gs i →
+      GoesToGroup (case_value_if (group_has (Numbered z) gs) z) gs i →
       TextComes l n (SwitchOn e gs) (CaseBody i) names t names t1
   into_loop_line : {b d : Lines} {e : Option Tree} {g : Region}
       {names names1 : Scope} {t t1 : List Event} →
@@ -224,11 +226,11 @@ pub data TextPasses (l : Words) (n : ℕ) :
     Lines → Point → Scope → List Event → Scope → List Event → Type 0 where
   is_here_in_text : {ls : Lines} {names : Scope} {t : List Event} →
       TextPasses l n ls here names t names t
-  goes_behind_line : {x : Line} {ls : Lines} {q : Point}
+  goes_after_line : {x : Line} {ls : Lines} {q : Point}
       {names names1 names2 : Scope} {t t1 t2 : List Event} →
       follow l n x names t ≡ Done names1 t1 →
       TextPasses l n ls q names1 t1 names2 t2 →
-      TextPasses l n (before x ls) (behind q) names t names2 t2
+      TextPasses l n (before x ls) (following q) names t names2 t2
   goes_inside_line : {x : Line} {ls : Lines} {g : Region} {q : Point}
       {names names1 names2 : Scope} {t t1 t2 : List Event} →
       TextComes l n x g names t names1 t1 →
@@ -247,9 +249,9 @@ line_count f (Barrier bits) = length (barrier_words bits)
 line_count f _ = 1
 
 -- after so many lines
-abbrev pub behind_lines : ℕ → Point → Point
-behind_lines zero q = q
-behind_lines (suc m) q = behind (behind_lines m q)
+abbrev pub after_lines : ℕ → Point → Point
+after_lines zero q = q
+after_lines (suc m) q = following (after_lines m q)
 
 -- the group of a case: cases that fall through have theirs together with the next case
 abbrev pub group_of : Cases → ℕ → ℕ
@@ -267,11 +269,11 @@ region_in_text _ g = g
 abbrev pub point_in_text : Function → Statements → Point → Point
 point_in_text f ss here = here
 point_in_text f end q = here
-point_in_text f (then st ss) (behind q) = behind_lines (line_count f st) (point_in_text f ss q)
+point_in_text f (then st ss) (following q) = after_lines (line_count f st) (point_in_text f ss q)
 point_in_text f (then st ss) (inside g q) =
     inside (region_in_text st g) (point_in_text f (statements_in st g) q)
 point_in_text f (then (Emit first count) ss) (emitting i) =
-    behind_lines (let_count f (from first i)) here
+    after_lines (let_count f (from first i)) here
 point_in_text f (then _ ss) (emitting i) = here
 
 -- the case with this index falls through
@@ -289,6 +291,6 @@ region_falls _ _ = false
 abbrev pub falls_at : Statements → Point → Bool
 falls_at ss here = false
 falls_at end q = false
-falls_at (then st ss) (behind q) = falls_at ss q
+falls_at (then st ss) (following q) = falls_at ss q
 falls_at (then st ss) (inside g q) = region_falls st g || falls_at (statements_in st g) q
 falls_at (then st ss) (emitting i) = false

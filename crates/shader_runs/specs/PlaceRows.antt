@@ -21,7 +21,7 @@ use Rattle.shader_runs.specs.WorkedFunctions.{i32, number, numbered_name, row, f
 use Rattle.shader_runs.specs.WorkedFunctions.{bound_row}
 use Rattle.shader_runs.specs.WorkedFunctions.{let_own, return_of, digits, named_by, text_of}
 use Rattle.shader_runs.specs.WorkedFunctions.{row_world, row_meaning, row_vocabulary, follow_text}
-use Rattle.shader_runs.specs.Rows.{x_name, entered_with, stuck_behind_entry}
+use Rattle.shader_runs.specs.Rows.{x_name, entered_with, stuck_after_entry}
 
 -- ---- what types are made of
 
@@ -158,17 +158,17 @@ pub record PartsAreReached : Type 0 where
   pub number_of_vector : follow_part private_vector at_0 ≡ reads_part private_vector (At (pos 0))
   pub number_of_array : follow_part private_array at_2 ≡ reads_part private_array (At (pos 2))
   pub member_of_struct : follow_part private_struct dot_x ≡ reads_part private_struct (Field x_name)
-  pub letter_past_vector : follow_part private_vector dot_w ≡ stuck_behind_entry []
+  pub letter_past_vector : follow_part private_vector dot_w ≡ stuck_after_entry []
   pub letters_of_vector : follow_part private_vector dot_yx ≡ reads_several private_vector
-  pub letters_past_vector : follow_part private_vector dot_xw ≡ stuck_behind_entry []
-  pub letters_of_array : follow_part private_array dot_yx ≡ stuck_behind_entry []
-  pub number_past_array : follow_part private_array at_4 ≡ stuck_behind_entry []
+  pub letters_past_vector : follow_part private_vector dot_xw ≡ stuck_after_entry []
+  pub letters_of_array : follow_part private_array dot_yx ≡ stuck_after_entry []
+  pub number_past_array : follow_part private_array at_4 ≡ stuck_after_entry []
   pub number_of_unsized : follow_part private_unsized at_4 ≡ reads_part private_unsized (At (pos 4))
-  pub letter_of_array : follow_part private_array dot_x ≡ stuck_behind_entry []
-  pub number_of_struct : follow_part private_struct at_0 ≡ stuck_behind_entry []
-  pub letter_of_number : follow_part private_i32 dot_x ≡ stuck_behind_entry []
+  pub letter_of_array : follow_part private_array dot_x ≡ stuck_after_entry []
+  pub number_of_struct : follow_part private_struct at_0 ≡ stuck_after_entry []
+  pub letter_of_number : follow_part private_i32 dot_x ≡ stuck_after_entry []
   pub index_of_array : follow_index private_array ≡ reads_part private_array (At (pos 0))
-  pub index_of_struct : follow_index private_struct ≡ stuck_behind_entry []
+  pub index_of_struct : follow_index private_struct ≡ stuck_after_entry []
   pub member_in_module :
       part_in_module private_struct dot_x
       ≡ Some (Pointer (Part (v_place private_struct) (Field x_name)))

@@ -23,8 +23,8 @@ use Rattle.shader_runs.specs.Form.{functions_of}
 use Rattle.shader_runs.specs.Premises.{IsTyped, SettingsFit}
 use Rattle.shader_runs.specs.Correct.{ModuleFits}
 use Rattle.shader_runs.specs.Passes.{Region, Reject, CaseBody, Continuing, BreakIf, Point, here}
-use Rattle.shader_runs.specs.Passes.{behind, inside, emitting, statements_in, statements_at}
-use Rattle.shader_runs.specs.Passes.{lines_behind, Passes, TextPasses, point_in_text, falls_at}
+use Rattle.shader_runs.specs.Passes.{following, inside, emitting, statements_in, statements_at}
+use Rattle.shader_runs.specs.Passes.{lines_after, Passes, TextPasses, point_in_text, falls_at}
 
 -- a name in scope has the value that the module uses for its handle; and what is written for any
 -- handle in scope makes no event and gives, evaluated now, the value that the module uses
@@ -97,7 +97,7 @@ handles_in f k _ _ s = s
 abbrev pub handles_at : Naming → ℕ → Statements → Point → Handles → Handles
 handles_at f k ss here s = s
 handles_at f k end q s = s
-handles_at f k (then st ss) (behind q) s =
+handles_at f k (then st ss) (following q) s =
     handles_at f (named_by f.function st k) ss q (after f k st s)
 handles_at f k (then st ss) (inside g q) s =
     handles_at f (named_in f.function st g k) (statements_in st g) q (handles_in f k st g s)
@@ -108,7 +108,7 @@ handles_at f k (then _ ss) (emitting i) s = s
 abbrev pub named_at : Function → ℕ → Statements → Point → ℕ
 named_at f k ss here = k
 named_at f k end q = k
-named_at f k (then st ss) (behind q) = named_at f (named_by f st k) ss q
+named_at f k (then st ss) (following q) = named_at f (named_by f st k) ss q
 named_at f k (then st ss) (inside g q) = named_at f (named_in f st g k) (statements_in st g) q
 named_at f k (then (Emit first count) ss) (emitting i) = named_after_all f (from first i) k
 named_at f k (then _ ss) (emitting i) = k
@@ -120,7 +120,7 @@ abbrev pub LinesAreTheForm : Naming → Statements → Point → Type 0
 LinesAreTheForm f body q =
     let start = at_start f.function in
     falls_at body q ≡ false →
-    lines_behind (form_all f 0 body start) (point_in_text f.function body q)
+    lines_after (form_all f 0 body start) (point_in_text f.function body q)
     ≡ form_all f (named_at f.function 0 body q) (statements_at body q) (handles_at f 0 body q start)
 
 -- of a function of a module, after those before it, called with arguments of its types at any

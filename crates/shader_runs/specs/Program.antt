@@ -56,9 +56,9 @@ pub record BarrierBits : Type 0 where
   pub texture : Bool
 
 -- the value of a case
-pub data Label : Type 0 where
-  Numbered : ℤ → Label
-  Default : Label
+pub data CaseValue : Type 0 where
+  Numbered : ℤ → CaseValue
+  Default : CaseValue
 
 -- what goes on elsewhere than after the statement: after the loop or the switch, with the loop's
 -- `continuing`, in the caller, which may be given an A, or nowhere
@@ -99,7 +99,7 @@ mutual
 
   pub data Cases : Type 0 where
     no_case : Cases
-    case : Label → Statements → (falls_through : Bool) → Cases → Cases
+    case : CaseValue → Statements → (falls_through : Bool) → Cases → Cases
 
 -- Types, given names and whether an expression is used as often as a `let` asks are by handle;
 -- first values are the initialisers of the locals, and local pointers the spellings of pointers to

@@ -3,8 +3,8 @@
 -- Throughout, c is a call, n the bound on turns, t are the events so far, h is a handle, e its
 -- expression or a constant tree, m the meaning, w the world or a word, v a value (vs are several),
 -- o one that may be missing, p a place or the handle of a pointer, k a type, z an integer, i an
--- index, j a short circuit, x a selector, a label, a handle or why a run stops, g the number of a
--- function and r a result.
+-- index, j a short circuit, x a selector, a case value, a handle or why a run stops, g the number
+-- of a function and r a result.
 use Rattle.std.specs.Prelude.{ℕ, zero, suc, ℤ, Bool, true, false, cond, nat_eq, List, [], ◌∷◌, ◌++◌}
 use Rattle.std.specs.Prelude.{option_map, option_and_then, length, Option, Some, None, ◌||◌}
 use Rattle.std.specs.Prelude.{slice_get, codes}
@@ -26,7 +26,8 @@ use Rattle.shader_runs.specs.Program.{Picking, Joining}
 use Rattle.shader_runs.specs.Program.{ConstantTrees, no_constant, constant, Expression, Constant}
 use Rattle.shader_runs.specs.Program.{Argument, Local, Global, Load, Operator, Access, AccessIndex}
 use Rattle.shader_runs.specs.Program.{Logical, Swizzle, Request, Action, Asked, Called, BarrierBits}
-use Rattle.shader_runs.specs.Program.{Label, Numbered, Default, Statement, Emit, Store, Block, If}
+use Rattle.shader_runs.specs.Program.{CaseValue, Numbered, Default, Statement, Emit, Store, Block}
+use Rattle.shader_runs.specs.Program.{If}
 use Rattle.shader_runs.specs.Program.{Switch, Loop, Barrier, Act}
 use Rattle.shader_runs.specs.Program.{Statements, end, then, Cases, no_case, case, Function}
 use Rattle.shader_runs.specs.Program.{argument_count, local_pointer, expression_of, handle_type}
@@ -309,20 +310,20 @@ ask_each [] kept t = Done kept t
 ask_each (w ∷ ws) kept t = ask_each ws kept (Ask w [] ∷ t)
 
 -- the same case
-abbrev pub same_label : Label → Label → Bool
-same_label (Numbered y) (Numbered z) = same_integer y z
-same_label Default Default = true
-same_label _ _ = false
+abbrev pub same_case_value : CaseValue → CaseValue → Bool
+same_case_value (Numbered y) (Numbered z) = same_integer y z
+same_case_value Default Default = true
+same_case_value _ _ = false
 
--- some case has this label
-abbrev pub has_label : Label → Cases → Bool
-has_label x no_case = false
-has_label x (case l b falls cs) = same_label x l || has_label x cs
+-- some case has this value
+abbrev pub has_case_value : CaseValue → Cases → Bool
+has_case_value x no_case = false
+has_case_value x (case l b falls cs) = same_case_value x l || has_case_value x cs
 
--- the label that an integer goes to: its own, or else the default
-abbrev pub label_if : Bool → ℤ → Label
-label_if true z = Numbered z
-label_if false z = Default
+-- the case value that an integer goes to: its own, or else the default
+abbrev pub case_value_if : Bool → ℤ → CaseValue
+case_value_if true z = Numbered z
+case_value_if false z = Default
 
 abbrev mutual
   -- each loop makes at most n turns
@@ -337,7 +338,8 @@ abbrev mutual
       (λ v. branch_by v t (run_all c n a kept t) (run_all c n b kept t))
   run c n (Switch h cases) kept t =
       or_stuck (used_value c kept h) t (λ v. with_integer v t (λ z.
-      after_switch (run_cases c n cases (label_if (has_label (Numbered z) cases) z) kept t)))
+      after_switch
+      (run_cases c n cases (case_value_if (has_case_value (Numbered z) cases) z) kept t)))
   run c n (Loop b d e) kept t = turns n (turn (run_all c n b) (run_all c n d) (leave c e)) kept t
   run c n (Jumps j) kept t = jump_outcome (return_outcome c) j kept t
   run c n (Barrier bits) kept t = ask_each (barrier_words bits) kept t
@@ -349,14 +351,14 @@ abbrev mutual
   run_all c n end kept t = Done kept t
   run_all c n (then s ss) kept t = and_then (run c n s kept t) (run_all c n ss)
 
-  -- from the case with this label on
-  pub run_cases : Call → ℕ → Cases → Label → Next KeptValues
+  -- from the case with this value on
+  pub run_cases : Call → ℕ → Cases → CaseValue → Next KeptValues
   run_cases c n no_case x kept t = Done kept t
   run_cases c n (case l b falls cs) x kept t =
       let falling = λ (kept1 : KeptValues) (t1 : List Event).
       cond falls (run_on c n cs kept1 t1) (Done kept1 t1) in
       let own = and_then (run_all c n b kept t) falling in
-      cond (same_label x l) own (run_cases c n cs x kept t)
+      cond (same_case_value x l) own (run_cases c n cs x kept t)
 
   -- on from a case that fell through
   pub run_on : Call → ℕ → Cases → Next KeptValues

@@ -128,10 +128,10 @@ sample_example =
 
 -- its text, with these operands after the layer
 abbrev pub sample_text : List Tree → List TextFunction
-sample_text behind =
+sample_text following =
     let image = Name (codes "image") in
     let filtering = Name (codes "filtering") in
-    let operands = image ∷ filtering ∷ Name (codes "uv") ∷ Name (codes "layer") ∷ behind in
+    let operands = image ∷ filtering ∷ Name (codes "uv") ∷ Name (codes "layer") ∷ following in
     text_of (codes "shade") sample_arguments [] (lines (
     let_own 4 (call_of (codes "textureSampleLevel") operands)
     ∷ return_of (named_by 4) ∷ [])) ∷ []
@@ -142,10 +142,10 @@ sample_values = coordinate ∷ number 1 ∷ []
 
 -- its events, with these operands after the layer
 abbrev pub sampling_events : List Value → List Event
-sampling_events behind =
+sampling_events following =
     let image = Opaque layers_type 400 in
     let filtering = Opaque sampler_type 2 in
-    let operands = image ∷ filtering ∷ coordinate ∷ number 1 ∷ behind in
+    let operands = image ∷ filtering ∷ coordinate ∷ number 1 ∷ following in
     Ask (codes "textureSampleLevel") operands ∷ start_events 0 sample_values []
 
 -- the world's answer is 400 and 1 and 0 and 30

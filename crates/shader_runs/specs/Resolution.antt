@@ -95,32 +95,32 @@ tree_targets_if names (Some e) = tree_targets names e
 
 -- how many `let`s stand before what follows a line
 abbrev mutual
-  pub lets_behind : ℕ → Line → ℕ
-  lets_behind l (Let x e) = suc l
-  lets_behind l (Braces b) = lets_behind_all l b
-  lets_behind l (IfElse e a b) = lets_behind_all (lets_behind_all l a) b
-  lets_behind l (SwitchOn e groups) = lets_behind_groups l groups
-  lets_behind l (LoopOf b d e) = lets_behind_all (lets_behind_all l b) d
-  lets_behind l _ = l
+  pub lets_following : ℕ → Line → ℕ
+  lets_following l (Let x e) = suc l
+  lets_following l (Braces b) = lets_following_all l b
+  lets_following l (IfElse e a b) = lets_following_all (lets_following_all l a) b
+  lets_following l (SwitchOn e groups) = lets_following_groups l groups
+  lets_following l (LoopOf b d e) = lets_following_all (lets_following_all l b) d
+  lets_following l _ = l
 
-  pub lets_behind_all : ℕ → Lines → ℕ
-  lets_behind_all l last = l
-  lets_behind_all l (before x ls) = lets_behind_all (lets_behind l x) ls
+  pub lets_following_all : ℕ → Lines → ℕ
+  lets_following_all l last = l
+  lets_following_all l (before x ls) = lets_following_all (lets_following l x) ls
 
-  pub lets_behind_groups : ℕ → Groups → ℕ
-  lets_behind_groups l no_group = l
-  lets_behind_groups l (group labels b gs) = lets_behind_groups (lets_behind_all l b) gs
+  pub lets_following_groups : ℕ → Groups → ℕ
+  lets_following_groups l no_group = l
+  lets_following_groups l (group labels b gs) = lets_following_groups (lets_following_all l b) gs
 
 -- what is in scope after a line: the name of a `let`, from there on
-abbrev pub names_behind : ℕ → Line → Lookup → Lookup
-names_behind l (Let x e) names = bind names x (Some (LetTarget l))
-names_behind l _ names = names
+abbrev pub names_following : ℕ → Line → Lookup → Lookup
+names_following l (Let x e) names = bind names x (Some (LetTarget l))
+names_following l _ names = names
 
 -- what a list leaves to its loop's `continuing`: no name from the first line with a `continue` on
 abbrev pub names_left : ℕ → Lines → Lookup → Lookup
 names_left l last names = names
 names_left l (before x ls) names =
-    cond (has_continue x) names (names_left (lets_behind l x) ls (names_behind l x names))
+    cond (has_continue x) names (names_left (lets_following l x) ls (names_following l x names))
 
 abbrev mutual
   -- those of a line
@@ -130,10 +130,10 @@ abbrev mutual
   line_targets l names (Braces b) = lines_targets l names b
   line_targets l names (IfElse e a b) =
       tree_targets names e
-      ++ (lines_targets l names a ++ lines_targets (lets_behind_all l a) names b)
+      ++ (lines_targets l names a ++ lines_targets (lets_following_all l a) names b)
   line_targets l names (SwitchOn e groups) = tree_targets names e ++ groups_targets l names groups
   line_targets l names (LoopOf b d e) =
-      let l1 = lets_behind_all l b in
+      let l1 = lets_following_all l b in
       let inside = names_left l b names in
       lines_targets l names b
       ++ (lines_targets l1 inside d ++ tree_targets_if (names_left l1 d inside) e)
@@ -145,12 +145,12 @@ abbrev mutual
   pub lines_targets : ℕ → Lookup → Lines → List (Option Target)
   lines_targets l names last = []
   lines_targets l names (before x ls) =
-      line_targets l names x ++ lines_targets (lets_behind l x) (names_behind l x names) ls
+      line_targets l names x ++ lines_targets (lets_following l x) (names_following l x names) ls
 
   pub groups_targets : ℕ → Lookup → Groups → List (Option Target)
   groups_targets l names no_group = []
   groups_targets l names (group labels b gs) =
-      lines_targets l names b ++ groups_targets (lets_behind_all l b) names gs
+      lines_targets l names b ++ groups_targets (lets_following_all l b) names gs
 
 -- items under these names, from the number i on
 abbrev pub with_items : (ℕ → Target) → ℕ → List Bytes → Lookup → Lookup

@@ -11,7 +11,7 @@ use Rattle.shader_runs.specs.Outcome.{Stop, Unreturned, ReachedOrHalted, Gives, 
 use Rattle.shader_runs.specs.Program.{Default, Statement, Block, If, Switch, Loop, Break}
 use Rattle.shader_runs.specs.Program.{Return, Statements, end, then, Cases, no_case, case}
 use Rattle.shader_runs.specs.Program.{Function, function_numbered, Module, Jumps}
-use Rattle.shader_runs.specs.ProgramRun.{has_label}
+use Rattle.shader_runs.specs.ProgramRun.{has_case_value}
 use Rattle.shader_runs.specs.Constants.{run_module}
 use Rattle.shader_runs.specs.Scope.{Naming}
 use Rattle.shader_runs.specs.Form.{functions_of}
@@ -34,7 +34,7 @@ abbrev mutual
   pub may_end : Statement → Bool
   may_end (Block b) = may_end_all b
   may_end (If c a b) = may_end_all a || may_end_all b
-  may_end (Switch h cases) = not (has_label Default cases) || some_case_ends cases
+  may_end (Switch h cases) = not (has_case_value Default cases) || some_case_ends cases
   may_end (Loop b d e) = any_break b || is_some e
   may_end (Jumps j) = false
   may_end _ = true

@@ -406,8 +406,8 @@ abbrev pub breaking_body : Statements
 breaking_body = then (If 0 (then (Jumps Break) end) end) end
 
 -- whether a run may come to the end of a body of one statement
-abbrev pub ends_behind : Statement → Bool
-ends_behind st = may_end_all (then st end)
+abbrev pub ends_after : Statement → Bool
+ends_after st = may_end_all (then st end)
 
 -- the first case is empty or returns, and the default returns
 abbrev pub with_default : Statement
@@ -419,13 +419,13 @@ without_default = Switch 0 (case (Numbered (pos 1)) returning_body false no_case
 
 -- where a run may come to the end of a body
 pub record EndsAreDistinguished : Type 0 where
-  pub both_return : ends_behind (If 0 returning_body returning_body) ≡ false
-  pub one_returns : ends_behind (If 0 returning_body end) ≡ true
-  pub loop_without_break : ends_behind (Loop end end None) ≡ false
-  pub loop_with_break : ends_behind (Loop breaking_body end None) ≡ true
-  pub loop_with_break_if : ends_behind (Loop end end (Some 0)) ≡ true
-  pub with_default : ends_behind with_default ≡ false
-  pub without_default : ends_behind without_default ≡ true
+  pub both_return : ends_after (If 0 returning_body returning_body) ≡ false
+  pub one_returns : ends_after (If 0 returning_body end) ≡ true
+  pub loop_without_break : ends_after (Loop end end None) ≡ false
+  pub loop_with_break : ends_after (Loop breaking_body end None) ≡ true
+  pub loop_with_break_if : ends_after (Loop end end (Some 0)) ≡ true
+  pub with_default : ends_after with_default ≡ false
+  pub without_default : ends_after without_default ≡ true
 
 -- ---- switches, and a loop that a condition leaves
 
@@ -450,7 +450,7 @@ SwitchRow =
     IsShownAlone naming (switch_text []) (number 1 ∷ []) (
     Gives None (entered_with (number 1 ∷ []) []))
 
--- the joined case runs for each of its labels
+-- the joined case runs for each of its values
 abbrev pub JoinedRow : Type 0
 JoinedRow =
     let function = switch_function (Some i32) (Jumps (Return (Some 0)) ∷ []) in
@@ -621,8 +621,8 @@ pub record AreRefused : Type 0 where
 -- ---- what other writers would give for these functions, and what it does
 
 -- stuck after the entry
-abbrev pub stuck_behind_entry : List Value → ReachedOrHalted (Option Value)
-stuck_behind_entry vs = Halts Stuck (entered_with vs [])
+abbrev pub stuck_after_entry : List Value → ReachedOrHalted (Option Value)
+stuck_after_entry vs = Halts Stuck (entered_with vs [])
 
 -- what [store] reads is written out after the store
 abbrev pub load_inlined_text : TextFunction
@@ -679,21 +679,21 @@ pub record AreDistinguished : Type 0 where
       Gives (Some (number 2)) (Write a_place (number 2) ∷ Read a_place ∷ entered_with_one))
   pub name_used_in_sibling_block :
       let vs = Truth false ∷ number 4 ∷ [] in
-      Follows used_in_sibling_text vs (stuck_behind_entry vs)
+      Follows used_in_sibling_text vs (stuck_after_entry vs)
   pub name_of_sibling_copied :
       let vs = Truth false ∷ number 4 ∷ [] in
-      Follows copied_in_sibling_text vs (stuck_behind_entry vs)
+      Follows copied_in_sibling_text vs (stuck_after_entry vs)
   pub continuing_uses_skipped_constant_name :
       let vs = Truth true ∷ [] in
       Follows (folded_text (named_by 3)) vs (Halts Stuck (entered_with vs (None ∷ [])))
   pub loop_names_kept_after_loop :
       let vs = Truth true ∷ number 4 ∷ [] in
-      Follows after_loop_text vs (stuck_behind_entry vs)
+      Follows after_loop_text vs (stuck_after_entry vs)
   pub function_hidden_by_local :
       follow_row hidden_texts (codes "run") [] ≡ Halts Stuck (Entry 1 [] (None ∷ []) ∷ [])
   pub pointer_argument_not_dereferenced :
       let vs = Pointer a_place ∷ [] in
-      Follows not_dereferenced_text vs (stuck_behind_entry vs)
+      Follows not_dereferenced_text vs (stuck_after_entry vs)
   pub select_accept_first :
       Follows (select_text (codes "a") (codes "b")) select_values (
       Gives (Some (number 2)) (entered_with select_values []))
@@ -725,9 +725,9 @@ pub record UnknownWordsAreStuck : Type 0 where
   pub written :
       IsShownAlone (only (codes "f") [] [] one_function) (one_text []) []
       (Gives (Some (number 1)) (entered_with [] []))
-  pub line : Follows (one_text (unknown_line ∷ [])) [] (stuck_behind_entry [])
-  pub value : Follows (one_text (let_own 0 unknown_call ∷ [])) [] (stuck_behind_entry [])
-  pub operator : Follows (one_text (operator_line ∷ [])) [] (stuck_behind_entry [])
+  pub line : Follows (one_text (unknown_line ∷ [])) [] (stuck_after_entry [])
+  pub value : Follows (one_text (let_own 0 unknown_call ∷ [])) [] (stuck_after_entry [])
+  pub operator : Follows (one_text (operator_line ∷ [])) [] (stuck_after_entry [])
 
 -- ---- the rows together
 

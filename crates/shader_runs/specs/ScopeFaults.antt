@@ -7,12 +7,12 @@
 use Rattle.std.specs.Prelude.{◌≡◌, ℕ, ◌+◌, ◌<◌, Bool, List, Option, Some, ◌↔◌, slice_get}
 use Rattle.std.specs.Prelude.{IsTrue, IsFalse}
 use Rattle.shader_runs.specs.Program.{Statement, Emit, Store, Block, If, Switch, Loop, Return, Act}
-use Rattle.shader_runs.specs.Program.{Action, Statements, then, Cases, case, Label, Function}
+use Rattle.shader_runs.specs.Program.{Action, Statements, then, Cases, case, CaseValue, Function}
 use Rattle.shader_runs.specs.Program.{expression_of, operands_of, binds}
 use Rattle.shader_runs.specs.Program.{is_emittable, Jumps}
 use Rattle.shader_runs.specs.Scope.{before_local}
 use Rattle.shader_runs.specs.ScopeRules.{IntroducedHandle, Emitted, AsResult, handle_of, InScope}
-use Rattle.shader_runs.specs.ScopeRules.{Point, entry_point, behind, behind_turn, WasIntroduced}
+use Rattle.shader_runs.specs.ScopeRules.{Point, entry_point, following, after_turn, WasIntroduced}
 use Rattle.shader_runs.specs.ScopeRules.{ScopeHolds}
 use Rattle.shader_runs.specs.Premises.{AllBelow}
 
@@ -22,7 +22,7 @@ IsOutOfScopeAt f at h = InScope f at.visible h → ⊥
 
 -- the point inside an Emit after its first i handles
 abbrev pub after_some : Function → (first i : ℕ) → Point → Point
-after_some f first i at = behind f (Emit first i) at
+after_some f first i at = following f (Emit first i) at
 
 -- A statement that stands at the first point uses the handle, at the second point. What a `let`
 -- binds is written at its Emit, and its operands are used there. `break if` stands after the loop's
@@ -36,7 +36,7 @@ pub data UsesAt (f : Function) (at : Point) : Statement → Point → ℕ → Ty
   condition : {c : ℕ} {a b : Statements} → UsesAt f at (If c a b) at c
   selector : {h : ℕ} {cs : Cases} → UsesAt f at (Switch h cs) at h
   break_if : {b d : Statements} {h : ℕ} →
-      UsesAt f at (Loop b d (Some h)) (behind_turn f d (behind_turn f b at)) h
+      UsesAt f at (Loop b d (Some h)) (after_turn f d (after_turn f b at)) h
   returned : {h : ℕ} → UsesAt f at (Jumps (Return (Some h))) at h
   operand : {act : Action} {xs : List ℕ} {result : Option ℕ} {h : ℕ} (k : ℕ) →
       slice_get xs k ≡ Some h → UsesAt f at (Act act xs result) at h
@@ -64,8 +64,8 @@ pub data BreaksScope (f : Function) (at : Point) (st : Statement) : Type 0 where
 
 -- the list is the body of one of these cases
 pub data IsCaseBody (a : Statements) : Cases → Type 0 where
-  this_case : {l : Label} {falls : Bool} {cs : Cases} → IsCaseBody a (case l a falls cs)
-  later_case : {l : Label} {b : Statements} {falls : Bool} {cs : Cases} → IsCaseBody a cs →
+  this_case : {l : CaseValue} {falls : Bool} {cs : Cases} → IsCaseBody a (case l a falls cs)
+  later_case : {l : CaseValue} {b : Statements} {falls : Bool} {cs : Cases} → IsCaseBody a cs →
       IsCaseBody a (case l b falls cs)
 
 -- in a list that stands at the first point this statement stands at the second one, maybe in a
@@ -73,7 +73,7 @@ pub data IsCaseBody (a : Statements) : Cases → Type 0 where
 pub data StandsIn (f : Function) : Point → Statements → Point → Statement → Type 0 where
   stands_first : {at : Point} {st : Statement} {ss : Statements} → StandsIn f at (then st ss) at st
   later : {at there : Point} {st0 st : Statement} {ss : Statements} →
-      StandsIn f (behind f st0 at) ss there st → StandsIn f at (then st0 ss) there st
+      StandsIn f (following f st0 at) ss there st → StandsIn f at (then st0 ss) there st
   in_block : {at there : Point} {st : Statement} {b ss : Statements} →
       StandsIn f at b there st → StandsIn f at (then (Block b) ss) there st
   in_accept : {at there : Point} {st : Statement} {c : ℕ} {a b ss : Statements} →
@@ -85,7 +85,7 @@ pub data StandsIn (f : Function) : Point → Statements → Point → Statement 
   in_loop : {at there : Point} {st : Statement} {b d ss : Statements} {e : Option ℕ} →
       StandsIn f at b there st → StandsIn f at (then (Loop b d e) ss) there st
   in_continuing : {at there : Point} {st : Statement} {b d ss : Statements} {e : Option ℕ} →
-      StandsIn f (behind_turn f b at) d there st → StandsIn f at (then (Loop b d e) ss) there st
+      StandsIn f (after_turn f b at) d there st → StandsIn f at (then (Loop b d e) ss) there st
 
 -- the function breaks a rule of scope: the first value of this local is out of scope at its
 -- declaration, or this statement of the body breaks one where it stands

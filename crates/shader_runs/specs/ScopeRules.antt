@@ -136,17 +136,17 @@ abbrev pub entry_point : Point
 entry_point = record { visible = []; passed = [] }
 
 -- after an emitted handle
-abbrev pub behind_one : Function → ℕ → Point → Point
-behind_one f h at = record { visible = with_one f h at.visible; passed = with_one f h at.passed }
+abbrev pub following_one : Function → ℕ → Point → Point
+following_one f h at = record { visible = with_one f h at.visible; passed = with_one f h at.passed }
 
 -- after a statement
-abbrev pub behind : Function → Statement → Point → Point
-behind f st at =
+abbrev pub following : Function → Statement → Point → Point
+following f st at =
     record { visible = with_statement f st at.visible; passed = with_statement f st at.passed }
 
 -- where `continuing` stands after a loop's body, and `break if` after both
-abbrev pub behind_turn : Function → Statements → Point → Point
-behind_turn f ss at =
+abbrev pub after_turn : Function → Statements → Point → Point
+after_turn f ss at =
     record {
       visible = with_statements f (statements_before_continue ss) at.visible;
       passed = with_statements f ss at.passed;
@@ -169,7 +169,7 @@ pub record MayEmit (f : Function) (at : Point) (h : ℕ) : Type 0 where
 -- an Emit may give these handles, one after the other
 abbrev pub MayEmitEach : Function → Point → List ℕ → Type 0
 MayEmitEach f at [] = Unit {0}
-MayEmitEach f at (h ∷ hs) = MayEmit f at h × MayEmitEach f (behind_one f h at) hs
+MayEmitEach f at (h ∷ hs) = MayEmit f at h × MayEmitEach f (following_one f h at) hs
 
 -- a statement may give its result, if it has one: it was not given before
 abbrev pub MayResult : Function → Point → Option ℕ → Type 0
@@ -187,8 +187,8 @@ abbrev mutual
       InScope f at.visible c × StatementsHold f at a × StatementsHold f at b
   StatementHolds f at (Switch h cases) = InScope f at.visible h × CasesHold f at cases
   StatementHolds f at (Loop b d e) =
-      let continuing = behind_turn f b at in
-      let break_if = behind_turn f d continuing in
+      let continuing = after_turn f b at in
+      let break_if = after_turn f d continuing in
       StatementsHold f at b × StatementsHold f continuing d × InScopeIf f break_if.visible e
   StatementHolds f at (Jumps (Return v)) = InScopeIf f at.visible v
   StatementHolds f at (Act a xs r) = EachInScope f at.visible xs × MayResult f at r
@@ -196,7 +196,8 @@ abbrev mutual
 
   pub StatementsHold : Function → Point → Statements → Type 0
   StatementsHold f at end = Unit {0}
-  StatementsHold f at (then st ss) = StatementHolds f at st × StatementsHold f (behind f st at) ss
+  StatementsHold f at (then st ss) =
+      StatementHolds f at st × StatementsHold f (following f st at) ss
 
   pub CasesHold : Function → Point → Cases → Type 0
   CasesHold f at no_case = Unit {0}

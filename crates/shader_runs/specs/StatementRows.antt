@@ -28,7 +28,7 @@ use Rattle.shader_runs.specs.RequestRows.{AtomicRow, level_zero, sample_example,
 use Rattle.shader_runs.specs.RequestRows.{sample_values, sampling_events, SampleRow, TexelRow}
 use Rattle.shader_runs.specs.RequestRows.{UnusedRequestsRow, EdgeRow, TogetherRow}
 use Rattle.shader_runs.specs.WorkedFunctions.{i32, local_i32, i32_pointer, number, literal}
-use Rattle.shader_runs.specs.WorkedFunctions.{LabelledBody, named_by, sum_of, product_of, text_of}
+use Rattle.shader_runs.specs.WorkedFunctions.{ValuedBody, named_by, sum_of, product_of, text_of}
 use Rattle.shader_runs.specs.WorkedFunctions.{row, statements, cases, function_with, lines, call_of}
 use Rattle.shader_runs.specs.WorkedFunctions.{bound_row}
 use Rattle.shader_runs.specs.WorkedFunctions.{perform, let_own, return_of, digits, pointer_of}
@@ -111,9 +111,9 @@ n_place = Rooted (LocalRoot local_i32 0 1)
 -- the switch, and one returns
 abbrev pub jumps_function : Function
 jumps_function =
-    let zero : LabelledBody = (Numbered (pos 0), Store 0 3 ∷ Jumps Continue ∷ []) in
-    let others : LabelledBody = (Default, Jumps Break ∷ []) in
-    let one : LabelledBody = (Numbered (pos 1), Emit 6 1 ∷ Jumps (Return (Some 6)) ∷ []) in
+    let zero : ValuedBody = (Numbered (pos 0), Store 0 3 ∷ Jumps Continue ∷ []) in
+    let others : ValuedBody = (Default, Jumps Break ∷ []) in
+    let one : ValuedBody = (Numbered (pos 1), Emit 6 1 ∷ Jumps (Return (Some 6)) ∷ []) in
     let body = Emit 5 1 ∷ Switch 5 (cases (zero ∷ others ∷ one ∷ [])) ∷ Store 0 4 ∷ [] in
     let continuing = Emit 7 2 ∷ Store 1 8 ∷ [] in
     function_with [] (Some i32) ((local_i32, Some 2) ∷ (local_i32, Some 2) ∷ []) (
@@ -185,14 +185,14 @@ block_example =
 
 -- its text, with these lines after the block
 abbrev pub block_text : List Line → List TextFunction
-block_text behind =
+block_text following =
     let a = Name (codes "a") in
     let zero = call_of (codes "i32") [] in
     let inner = let_own 3 x_plus_x ∷ Assign a (named_by 3) ∷ [] in
     let product = return_of (product_of (named_by 3) (named_by 4)) in
     let variables = variable (codes "a") local_i32 (Some zero) ∷ [] in
     text_of (codes "nest") (codes "x" ∷ []) variables (lines (
-    Braces (lines inner) ∷ (behind ++ let_own 4 a ∷ product ∷ []))) ∷ []
+    Braces (lines inner) ∷ (following ++ let_own 4 a ∷ product ∷ []))) ∷ []
 
 -- its events after the block
 abbrev pub block_events : List Event
@@ -479,7 +479,7 @@ pub record StatementsAreDistinguished : Type 0 where
       ≡ Gives (Some (texel 400)) (sampling_events (level_zero ∷ []))
   pub read_on_the_right : ReadOnTheRight
   -- a name of a block is used after it
-  pub name_behind_block :
+  pub name_after_block :
       follow_example block_example (block_text []) 0 3 (number 3 ∷ []) ≡ Halts Stuck block_events
   -- a pointer that is passed on by its address
   pub address_of_pointer :

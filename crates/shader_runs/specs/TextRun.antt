@@ -4,7 +4,7 @@
 -- the parts of types.
 --
 -- Throughout, l is what words do, n the bound on turns, names are the scope and t the events so far
--- (t1 and t2 are later ones), e is a tree, x a name, a selector, a line, a label or why a run
+-- (t1 and t2 are later ones), e is a tree, x a name, a selector, a line, a case value or why a run
 -- stops, v a value (vs are several), p a place, z an integer, m the meaning, w the world or a word,
 -- d what a name stands for, q what is reached, f the text of a function, g its number, k the number
 -- of entries, and i an index.
@@ -22,9 +22,10 @@ use Rattle.shader_runs.specs.Outcome.{reach, unless, Returned, Stopped, ReachedO
 use Rattle.shader_runs.specs.Outcome.{Halts}
 use Rattle.shader_runs.specs.Outcome.{answer, Next, and_then, turn, turns, after_switch, branch_by}
 use Rattle.shader_runs.specs.Outcome.{with_integer, closed_outcome, closed_if, jump_outcome}
-use Rattle.shader_runs.specs.Program.{Label, Numbered, is_continue}
-use Rattle.shader_runs.specs.ProgramRun.{run_if_arguments_fit, decides, undecided_value, same_label}
-use Rattle.shader_runs.specs.ProgramRun.{label_if}
+use Rattle.shader_runs.specs.Program.{CaseValue, Numbered, is_continue}
+use Rattle.shader_runs.specs.ProgramRun.{run_if_arguments_fit, decides, undecided_value}
+use Rattle.shader_runs.specs.ProgramRun.{same_case_value}
+use Rattle.shader_runs.specs.ProgramRun.{case_value_if}
 use Rattle.shader_runs.specs.Text.{Tree, Name, LiteralOf, Apply, Deref, AddressOf, Index, PartOf}
 use Rattle.shader_runs.specs.Text.{LogicalOf, Trees, no_more, more, Line, Let, Assign, Braces}
 use Rattle.shader_runs.specs.Text.{IfElse, SwitchOn, LoopOf}
@@ -231,13 +232,13 @@ abbrev pub return_line : Words → Option Tree → Next Scope
 return_line l None names t = Returned None t
 return_line l (Some e) names t = with_value (value_of l e names t) (λ v t1. Returned (Some v) t1)
 
--- a label among those of a group
-abbrev pub among : Label → List Label → Bool
+-- a case value among those of a group
+abbrev pub among : CaseValue → List CaseValue → Bool
 among x [] = false
-among x (l ∷ ls) = same_label x l || among x ls
+among x (l ∷ ls) = same_case_value x l || among x ls
 
--- some group has this label
-abbrev pub group_has : Label → Groups → Bool
+-- some group has this case value
+abbrev pub group_has : CaseValue → Groups → Bool
 group_has x no_group = false
 group_has x (group labels b gs) = among x labels || group_has x gs
 
@@ -254,7 +255,7 @@ abbrev mutual
       closed_outcome names (branch_by v t1 (follow_all l n a names t1) (follow_all l n b names t1)))
   follow l n (SwitchOn e groups) names t =
       with_value (value_of l e names t) (λ v t1. closed_outcome names (with_integer v t1 (λ z.
-      let label = label_if (group_has (Numbered z) groups) z in
+      let label = case_value_if (group_has (Numbered z) groups) z in
       after_switch (follow_groups l n groups label names t1))))
   follow l n (LoopOf b d e) names t =
       turns n (λ names1 t1.
@@ -276,8 +277,8 @@ abbrev mutual
   follow_in_loop l n (before x ls) names t =
       closed_if (has_continue x) names (and_then (follow l n x names t) (follow_in_loop l n ls))
 
-  -- the first group with this label
-  pub follow_groups : Words → ℕ → Groups → Label → Next Scope
+  -- the first group with this case value
+  pub follow_groups : Words → ℕ → Groups → CaseValue → Next Scope
   follow_groups l n no_group x names t = Done names t
   follow_groups l n (group labels b gs) x names t =
       cond (among x labels) (follow_all l n b names t) (follow_groups l n gs x names t)

@@ -13,7 +13,7 @@ use Rattle.shader_runs.specs.World.{Event, Entry, Ask, Read, Write, Discard, Wor
 use Rattle.shader_runs.specs.World.{Settings, Vocabulary}
 use Rattle.shader_runs.specs.Outcome.{ReachedOrHalted}
 use Rattle.shader_runs.specs.Program.{Fixed, Module, Expression, Constant, Statements, end, then}
-use Rattle.shader_runs.specs.Program.{no_case, case, Function, Label, Statement, Cases, Return}
+use Rattle.shader_runs.specs.Program.{no_case, case, Function, CaseValue, Statement, Cases, Return}
 use Rattle.shader_runs.specs.Text.{Tree, Name, LiteralOf, Apply, AddressOf, no_more, more, Let}
 use Rattle.shader_runs.specs.Text.{Perform, Lines, last, before, Variable, TextFunction}
 use Rattle.shader_runs.specs.Text.{TextModule, Trees, Line, JumpLine}
@@ -63,12 +63,12 @@ abbrev pub statements : List Statement → Statements
 statements [] = end
 statements (s ∷ ss) = then s (statements ss)
 
--- a case's label and statements
-abbrev pub LabelledBody : Type 0
-LabelledBody = Label × List Statement
+-- a case's value and statements
+abbrev pub ValuedBody : Type 0
+ValuedBody = CaseValue × List Statement
 
 -- cases, none of which falls through
-abbrev pub cases : List LabelledBody → Cases
+abbrev pub cases : List ValuedBody → Cases
 cases [] = no_case
 cases (c ∷ cs) = case c.0 (statements c.1) false (cases cs)
 

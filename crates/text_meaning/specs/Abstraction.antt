@@ -9,8 +9,9 @@ use Rattle.wgsl_text.specs.Expressions.{Name as NameExpression, Binary, Unary, C
 use Rattle.wgsl_text.specs.Expressions.{IndexAt, AddressOf as Address, Dereference, NoArguments}
 use Rattle.wgsl_text.specs.Expressions.{Argument, NumberArgument, ZeroArgument, binary_pieces}
 use Rattle.wgsl_text.specs.Expressions.{unary_mark}
-use Rattle.wgsl_text.specs.Statements.{DefaultLabel, SignedLabel, UnsignedLabel, LastLabel}
-use Rattle.wgsl_text.specs.Statements.{MoreLabels, TypedLet, CallStatement, ReturnValue, Discard}
+use Rattle.wgsl_text.specs.Statements.{DefaultCase, SignedCase, UnsignedCase, LastCaseValue}
+use Rattle.wgsl_text.specs.Statements.{MoreCaseValues, TypedLet, CallStatement, ReturnValue}
+use Rattle.wgsl_text.specs.Statements.{Discard}
 use Rattle.wgsl_text.specs.Statements.{If, Loop, LoopBreakIf, Switch, NoStatements, Then, NoBlock}
 use Rattle.wgsl_text.specs.Statements.{SomeBlock, NoCases}
 use Rattle.wgsl_text.specs.Statements.{Case}
@@ -23,7 +24,7 @@ use Rattle.wgsl_text.specs.Text.{text, mark_text}
 use Rattle.wgsl_text.specs.Reading.{type_layout}
 use Rattle.shader_runs.specs.Value.{Bytes, MemberNamed, ElementAt, Opaque, ShortCircuitAnd}
 use Rattle.shader_runs.specs.Value.{ShortCircuitOr}
-use Rattle.shader_runs.specs.Program.{Label, Numbered, Default, Break, Continue, Return, Kill}
+use Rattle.shader_runs.specs.Program.{CaseValue, Numbered, Default, Break, Continue, Return, Kill}
 use Rattle.shader_runs.specs.Text.{Tree, Name, LiteralOf, Apply, Deref, AddressOf, Index, PartOf}
 use Rattle.shader_runs.specs.Text.{LogicalOf as Logical, Trees, no_more, more, Line, Let, Assign}
 use Rattle.shader_runs.specs.Text.{Braces, IfElse, SwitchOn, LoopOf}
@@ -66,14 +67,14 @@ abbrev mutual
   arguments_read (ZeroArgument whole rest) =
       more (LiteralOf (Opaque (codes "f32") 0)) (arguments_read rest)
 
-abbrev pub label_read : tree.Label → Label
-label_read DefaultLabel = Default
-label_read (SignedLabel negative n) = Numbered (integer_of_sign negative n)
-label_read (UnsignedLabel n) = Numbered (pos n)
+abbrev pub case_value_read : tree.CaseValue → CaseValue
+case_value_read DefaultCase = Default
+case_value_read (SignedCase negative n) = Numbered (integer_of_sign negative n)
+case_value_read (UnsignedCase n) = Numbered (pos n)
 
-abbrev pub labels_read : tree.Labels → List Label
-labels_read (LastLabel l) = label_read l ∷ []
-labels_read (MoreLabels l rest) = label_read l ∷ labels_read rest
+abbrev pub case_values_read : tree.CaseValues → List CaseValue
+case_values_read (LastCaseValue l) = case_value_read l ∷ []
+case_values_read (MoreCaseValues l rest) = case_value_read l ∷ case_values_read rest
 
 -- An annotation doesn't matter to a run.
 abbrev mutual
@@ -107,7 +108,7 @@ abbrev mutual
   pub cases_read : tree.Cases → Groups
   cases_read NoCases = no_group
   cases_read (Case labels body rest) =
-      group (labels_read labels) (statements_read body) (cases_read rest)
+      group (case_values_read labels) (statements_read body) (cases_read rest)
 
 -- the spelling of a pointer to a local of the declared type, and to a module-level variable by its
 -- space; what is declared without a space is held, whatever its type, and no pointer leads to it

@@ -48,29 +48,29 @@ plain_location n =
     }
 
 -- what stands after the interpolation of a location, after its source, and after its number
-abbrev pub behind_interpolation_read : LocationBinding → List Attribute → StageBinding
-behind_interpolation_read l [] = AtLocation l
-behind_interpolation_read l (Plain PerPrimitive ∷ []) =
+abbrev pub after_interpolation_read : LocationBinding → List Attribute → StageBinding
+after_interpolation_read l [] = AtLocation l
+after_interpolation_read l (Plain PerPrimitive ∷ []) =
     AtLocation (record l { per_primitive = true })
-behind_interpolation_read l others = NotBound others
+after_interpolation_read l others = NotBound others
 
-abbrev pub behind_source_read : LocationBinding → List Attribute → StageBinding
-behind_source_read l (Worded Interpolate i ∷ more) =
-    behind_interpolation_read (record l { interpolation = i }) more
-behind_source_read l (Interpolated i s ∷ more) =
-    behind_interpolation_read (record l { interpolation = i; sampling = s }) more
-behind_source_read l more = behind_interpolation_read l more
+abbrev pub after_source_read : LocationBinding → List Attribute → StageBinding
+after_source_read l (Worded Interpolate i ∷ more) =
+    after_interpolation_read (record l { interpolation = i }) more
+after_source_read l (Interpolated i s ∷ more) =
+    after_interpolation_read (record l { interpolation = i; sampling = s }) more
+after_source_read l more = after_interpolation_read l more
 
-abbrev pub behind_location_read : LocationBinding → List Attribute → StageBinding
-behind_location_read l (Numbered BlendSource n ∷ more) =
-    behind_source_read (record l { blend_source = Some n }) more
-behind_location_read l more = behind_source_read l more
+abbrev pub after_location_read : LocationBinding → List Attribute → StageBinding
+after_location_read l (Numbered BlendSource n ∷ more) =
+    after_source_read (record l { blend_source = Some n }) more
+after_location_read l more = after_source_read l more
 
 -- how an argument, a result or a member passes
 abbrev pub stage_binding_read : List Attribute → StageBinding
 stage_binding_read (Worded Builtin w ∷ []) = BuiltinValue (Some w) false
 stage_binding_read (Worded Builtin w ∷ Plain Invariant ∷ []) = BuiltinValue (Some w) true
-stage_binding_read (Numbered Location n ∷ more) = behind_location_read (plain_location n) more
+stage_binding_read (Numbered Location n ∷ more) = after_location_read (plain_location n) more
 stage_binding_read others = NotBound others
 
 -- ---- members
@@ -80,17 +80,17 @@ abbrev pub size_read : List Attribute → Option ℕ
 size_read (Numbered Size n ∷ more) = Some n
 size_read _ = None
 
-abbrev pub behind_size : List Attribute → List Attribute
-behind_size (Numbered Size n ∷ more) = more
-behind_size more = more
+abbrev pub after_size : List Attribute → List Attribute
+after_size (Numbered Size n ∷ more) = more
+after_size more = more
 
 abbrev pub alignment_read : List Attribute → Option ℕ
 alignment_read (Numbered Align n ∷ more) = Some n
 alignment_read _ = None
 
-abbrev pub behind_alignment : List Attribute → List Attribute
-behind_alignment (Numbered Align n ∷ more) = more
-behind_alignment more = more
+abbrev pub after_alignment : List Attribute → List Attribute
+after_alignment (Numbered Align n ∷ more) = more
+after_alignment more = more
 
 -- ---- overrides and variables
 -- the number by which a pipeline names an override
@@ -108,7 +108,7 @@ resource_binding_read (Numbered Group g ∷ Numbered Binding b ∷ more) =
     Some (record { group = g; binding = b })
 resource_binding_read _ = None
 
--- it has every write made visible to other invocations, or may change behind the shader's back
+-- it has every write made visible to other invocations, or may be changed by others than the shader
 abbrev pub is_coherent : Attribute → Bool
 is_coherent (Plain Coherent) = true
 is_coherent _ = false

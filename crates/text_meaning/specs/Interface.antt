@@ -17,11 +17,11 @@ use Rattle.shader_runs.specs.Value.{PartTypes, Value}
 use Rattle.shader_runs.specs.World.{World, Meaning, Settings}
 use Rattle.shader_runs.specs.Constants.{text_initialiser_value}
 use Rattle.text_meaning.specs.Abstraction.{expression_read, program_read}
-use Rattle.text_meaning.specs.Attributes.{StageBinding, stage_binding_read, size_read, behind_size}
-use Rattle.text_meaning.specs.Attributes.{alignment_read, behind_alignment, id_read}
+use Rattle.text_meaning.specs.Attributes.{StageBinding, stage_binding_read, size_read, after_size}
+use Rattle.text_meaning.specs.Attributes.{alignment_read, after_alignment, id_read}
 use Rattle.text_meaning.specs.Attributes.{ResourceBinding, resource_binding_read, is_coherent}
 use Rattle.text_meaning.specs.Attributes.{is_volatile, Stage, stage_read}
-use Rattle.text_meaning.specs.Switches.{LabelInterface, statements_switches}
+use Rattle.text_meaning.specs.Switches.{CaseValueInterface, statements_switches}
 use Rattle.text_meaning.specs.Vocabulary.{vocabulary_read}
 
 -- a member of a struct: how it passes in or out of a stage, the size and the alignment that it is
@@ -69,14 +69,14 @@ pub record PassedValue : Type 0 where
 
 -- A function by its name, the types of its arguments and that of its result. The types of its
 -- locals, in their order, are told too, since no run looks at the type that a local is declared
--- with; and so are the labels of each switch of its body, case by case, since a run sees a label
--- only where it is taken.
+-- with; and so are the values of each switch of its body, case by case, since a run sees a case
+-- value only where it is taken.
 pub record FunctionInterface : Type 0 where
   pub name : List ℕ
   pub arguments : List PassedValue
   pub result : Option PassedValue
   pub locals : List (List ℕ)
-  pub switches : List (List LabelInterface)
+  pub switches : List (List CaseValueInterface)
 
 pub record EntryPointInterface : Type 0 where
   pub stage : Stage
@@ -95,12 +95,12 @@ pub record Interface : Type 0 where
 -- ---- of a syntax tree
 abbrev pub member_interface_read : StructMember → MemberInterface
 member_interface_read m =
-    let behind = behind_size m.attributes in
+    let following = after_size m.attributes in
     record {
       name = m.name;
-      binding = stage_binding_read (behind_alignment behind);
+      binding = stage_binding_read (after_alignment following);
       size = size_read m.attributes;
-      alignment = alignment_read behind;
+      alignment = alignment_read following;
       type = type_layout m.type;
     }
 

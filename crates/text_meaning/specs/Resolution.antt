@@ -17,7 +17,7 @@ use Rattle.wgsl_text.specs.Types.{TypeSpecifier, Named, Template, TemplateArgume
 use Rattle.wgsl_text.specs.Types.{NoTemplateArguments, TemplateRule, TakesElements, TakesPointee}
 use Rattle.wgsl_text.specs.Types.{rule_among, type_templates, plain_type_words}
 use Rattle.wgsl_text.specs.Words.{stands_in}
-use Rattle.shader_runs.specs.Bindings.{lines_lets}
+use Rattle.shader_runs.specs.NamedLets.{lines_lets}
 use Rattle.shader_runs.specs.Text.{TextFunction}
 use Rattle.shader_runs.specs.Resolution.{Target, Lookup, text_names, tree_targets_if}
 use Rattle.text_meaning.specs.Abstraction.{expression_read, program_read}

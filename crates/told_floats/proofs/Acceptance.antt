@@ -33,9 +33,9 @@ use Rattle.module_meaning.specs.acceptance.AgreeingOperators.{expression_use, fu
 use Rattle.module_meaning.specs.acceptance.AgreeingOperators.{Group}
 use Rattle.module_meaning.specs.acceptance.AgreeingOperators.{function_groups}
 use Rattle.module_meaning.specs.acceptance.AgreeingOperators.{module_operators_agree, uses_of}
-use Rattle.module_meaning.specs.acceptance.ExpressionTypes.{has_its_type, is_wanted}
+use Rattle.module_meaning.specs.acceptance.ExpressionTypes.{has_its_type, is_expected}
 use Rattle.module_meaning.specs.acceptance.ExpressionTypes.{LikeThis, only, result_type}
-use Rattle.module_meaning.specs.acceptance.ExpressionTypes.{wanted_type}
+use Rattle.module_meaning.specs.acceptance.ExpressionTypes.{expected_type}
 use Rattle.module_meaning.specs.acceptance.InfoSizes.{all_known, entry_point_size_fits}
 use Rattle.module_meaning.specs.acceptance.InfoSizes.{function_size_fits}
 use Rattle.module_meaning.specs.acceptance.InfoSizes.{sizes_fit, type_is_fit}
@@ -268,12 +268,12 @@ module _ (m new : Module) (all : IsToldModule m new) where
       m.functions fs functions f
 
   wanted_same : (f : Option Function) (known : List TypeResolution) (e : Expression) →
-      wanted_type n f known e ≡ wanted_type m f known e
+      expected_type n f known e ≡ expected_type m f known e
   wanted_same f known (expression.CallResult callee) = ap only (result_type_same callee)
   wanted_same f known _ = refl
 
   type_same : (f : Option Function) (known : List TypeResolution) (e d : Expression) →
-      IsToldExpression e d → wanted_type n f known d ≡ wanted_type m f known e
+      IsToldExpression e d → expected_type n f known d ≡ expected_type m f known e
   type_same f known _ _ (same e) = wanted_same f known e
   type_same f known _ _ (told v w r) =
       ap (λ s. LikeThis (type_of.Value (inner.Scalar s))) (told_scalar v w r)
@@ -283,7 +283,7 @@ module _ (m new : Module) (all : IsToldModule m new) where
       expressions_are_sound n f known ys ≡ expressions_are_sound m f known xs
   expressions_same f known xs ys h = λ i.
       placed_same IsToldExpression (has_its_type m f known) (has_its_type n f known)
-      (λ k e d r. ap (λ w. option_map_or (is_wanted m.types w) (slice_get known k) false)
+      (λ k e d r. ap (λ w. option_map_or (is_expected m.types w) (slice_get known k) false)
       (type_same f known e d r)) 0 xs ys h i &&
       all_same IsToldExpression (operands_fit m.types known) (operands_fit m.types known)
       (along (operands_fit m.types known) (λ v w r. refl)) xs ys h i

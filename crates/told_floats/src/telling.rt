@@ -8,7 +8,7 @@ ghost use Rattle.told_floats.specs.Told.{IsToldEntryPoint, IsToldExpression, IsT
 ghost use Rattle.told_floats.specs.Told.{IsToldLiteral, IsToldModule};
 
 use float_numerals::{double_decimal, half_decimal, single_decimal};
-use naga_ir::{Arena, EntryPoint, Expression, Function, Literal, Module, Place};
+use naga_ir::{Arena, EntryPoint, Expression, Function, ItemIndex, Literal, Module};
 use std::alloc::{AllocError, Global};
 
 /// Gives each float literal of the module that is held as bits a decimal numeral: in its functions,
@@ -72,7 +72,7 @@ fn tell_functions(alloc: Global, functions: &mut Arena<Function>) -> Result<(), 
     ensures { AllZip IsToldFunction functions.old functions.new }
 {
     for index in 0..functions.len() {
-        tell_function(alloc, functions.get_mut(Place::from_index(index)))?;
+        tell_function(alloc, functions.get_mut(ItemIndex::from_index(index)))?;
     }
     Ok(())
 }
@@ -87,7 +87,7 @@ fn tell_expressions(alloc: Global, expressions: &mut Arena<Expression>) -> Resul
     ensures { AllZip IsToldExpression expressions.old expressions.new }
 {
     for index in 0..expressions.len() {
-        tell_expression(alloc, expressions.get_mut(Place::from_index(index)))?;
+        tell_expression(alloc, expressions.get_mut(ItemIndex::from_index(index)))?;
     }
     Ok(())
 }

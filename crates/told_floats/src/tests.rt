@@ -2,7 +2,7 @@
 
 use crate::{tell_floats, told_literal};
 use float_numerals::Decimal;
-use naga_ir::{Arena, EntryPoint, Expression, Function, Literal, Module, Place, ShaderStage};
+use naga_ir::{Arena, EntryPoint, Expression, Function, ItemIndex, Literal, Module, ShaderStage};
 use std::alloc::{AllocError, Global};
 use std::process::Abort;
 
@@ -105,11 +105,11 @@ fn add_entry_point(alloc: Global, entry_points: &mut Vec<EntryPoint>) -> Result<
 /// Whether the first is told, and the second as it was.
 fn assert_told(rt: &impl Abort, expressions: &Arena<Expression>) {
     assert_eq!(rt; expressions.len(), 2);
-    match &expressions[Place::from_index(0)] {
+    match &expressions[ItemIndex::from_index(0)] {
         Expression::Literal(literal) => assert_eq!(rt; *literal, Literal::DecimalF32(HALF)),
         _ => panic!(rt; "a literal stands there"),
     }
-    match &expressions[Place::from_index(1)] {
+    match &expressions[ItemIndex::from_index(1)] {
         Expression::Literal(literal) => assert_eq!(rt; *literal, Literal::F32(0x7f80_0000)),
         _ => panic!(rt; "a literal stands there"),
     }

@@ -23,7 +23,7 @@ use Rattle.module_meaning.specs.AlikeTypes.{is_spelled}
 use Rattle.module_meaning.specs.ExpressionContexts.{declared}
 use Rattle.module_meaning.specs.Names.{name_in}
 use Rattle.module_meaning.specs.PlaceParts.{member_part, member_taken, members_taken, own_types}
-use Rattle.module_meaning.specs.PlaceParts.{parts_at, parts_behind, place_parts, place_spaces}
+use Rattle.module_meaning.specs.PlaceParts.{parts_at, pointee_parts, place_parts, place_spaces}
 use Rattle.module_meaning.specs.PlaceParts.{pointer_spelled, pointer_to_member, pointer_types}
 use Rattle.module_meaning.specs.PlaceParts.{pointers_in}
 use Rattle.module_meaning.specs.TypeIdentity.{vector_number}
@@ -144,17 +144,17 @@ module _ (m new : Module) (all : IsToldModule m new) (info : ModuleInfo) where
       (map (λ p. member_parts_same i whole at base p.0 p.1.ty) (enumerate_from 0 members.items))
   parts_at_same whole at base _ = refl
 
-  parts_behind_same : (whole : List ℕ) (it : TypeInner) →
-      parts_behind n info whole it ≡ parts_behind m info whole it
-  parts_behind_same whole (inner.Pointer base at) = λ i.
+  pointee_parts_same : (whole : List ℕ) (it : TypeInner) →
+      pointee_parts n info whole it ≡ pointee_parts m info whole it
+  pointee_parts_same whole (inner.Pointer base at) = λ i.
       option_map_or (λ it. parts_at_same whole at base it i) (inner_at m.types base) NoParts
-  parts_behind_same whole (inner.ValuePointer (Some size) s at) = λ i.
+  pointee_parts_same whole (inner.ValuePointer (Some size) s at) = λ i.
       Components (vector_number size)
       (words_same m new all i (Value (inner.ValuePointer None s at)))
-  parts_behind_same whole _ = refl
+  pointee_parts_same whole _ = refl
 
   pub places_same : place_parts n info ≡ place_parts m info
   places_same = λ i whole.
       option_map_or
-      (λ r. option_map_or (λ it. parts_behind_same whole it i) (inner_of r m.types) NoParts)
+      (λ r. option_map_or (λ it. pointee_parts_same whole it i) (inner_of r m.types) NoParts)
       (spelled_same i whole) NoParts

@@ -92,20 +92,20 @@ named_same named h (x ∷ xs) [] r = absurd r
 named_same named h (x ∷ xs) (y ∷ ys) r =
     ap (λ bs. list_any (nat_eq h) named ∷ bs) (named_same named (h + 1) xs ys r.1)
 
-bound_behind_same : (known : List ExpressionInfo) (n : ℕ) (xs ys : List ir.Expression) →
+bound_after_same : (known : List ExpressionInfo) (n : ℕ) (xs ys : List ir.Expression) →
     AllZip IsToldExpression xs ys →
     map (λ p. is_bound_by_uses p.1 (uses_of known p.0)) (enumerate_from n ys) ≡
     map (λ p. is_bound_by_uses p.1 (uses_of known p.0)) (enumerate_from n xs)
-bound_behind_same known n [] [] r = refl
-bound_behind_same known n [] (y ∷ ys) r = absurd r
-bound_behind_same known n (x ∷ xs) [] r = absurd r
-bound_behind_same known n (x ∷ xs) (y ∷ ys) r =
+bound_after_same known n [] [] r = refl
+bound_after_same known n [] (y ∷ ys) r = absurd r
+bound_after_same known n (x ∷ xs) [] r = absurd r
+bound_after_same known n (x ∷ xs) (y ∷ ys) r =
     λ i. along (λ e. is_bound_by_uses e (uses_of known n)) (λ v w r. refl) x y r.0 i
-    ∷ bound_behind_same known (n + 1) xs ys r.1 i
+    ∷ bound_after_same known (n + 1) xs ys r.1 i
 
 bound_same : (xs ys : List ir.Expression) (es : List ExpressionInfo) →
     AllZip IsToldExpression xs ys → are_bound_by_uses ys es ≡ are_bound_by_uses xs es
-bound_same xs ys es r = bound_behind_same es 0 xs ys r
+bound_same xs ys es r = bound_after_same es 0 xs ys r
 
 -- ---- functions
 module _ (m new : ir_module.Module) (all : IsToldModule m new) (info : ModuleInfo) where

@@ -96,7 +96,7 @@ class Place(Form):
 
     def tell(self, r):
         index = r.choice([0, 1, r.randrange(20), r.randrange(20), 4294967294])
-        return Told(str(index), f"Place {{ index: {index}, mark: PhantomData<_> }}")
+        return Told(str(index), f"ItemIndex {{ index: {index}, mark: PhantomData<_> }}")
 
 
 class Maybe(Form):
@@ -174,7 +174,7 @@ class Numbered(Form):
     def tell(self, r):
         keys = r.sample([0, 1, 2, 3, 9, 10, 11, 20, 100, 4294967294], r.randint(0, 5))
         items = {key: self.form.tell(r) for key in keys}
-        inner = ", ".join(f"Place {{ index: {key}, mark: PhantomData<_> }}: {items[key].debug}" for key in sorted(keys))
+        inner = ", ".join(f"ItemIndex {{ index: {key}, mark: PhantomData<_> }}: {items[key].debug}" for key in sorted(keys))
         return Told(object_of((str(key), items[key].json) for key in keys), "{" + inner + "}")
 
 

@@ -17,8 +17,8 @@ from test_runs import faults  # noqa: E402
 
 CRATE = Path(__file__).resolve().parent.parent
 LATE, SIBLING, SWITCH = "sum of earlier read", "sum in both branches", "joined cases"
-TAIL, FOLDED, CALL = "sum in continuing", "constant sum behind continue", "call with pointer"
-POINTED = "what a pointer pointed to is given behind a store"
+TAIL, FOLDED, CALL = "sum in continuing", "constant sum after continue", "call with pointer"
+POINTED = "what a pointer pointed to is given after a store"
 
 # in how many worlds a wrong text runs
 MANY = 16
@@ -36,7 +36,7 @@ WRONG = {
         CALL, "    inc((&a));\n    let _e1 = a;", "    let _e1 = a;\n    inc((&a));", OTHER_EVENTS),
     "a name without its let in continuing": (
         TAIL, "        let _e2 = (x + x);\n        a = _e2;", "        a = (x + x);", NO_NAME),
-    "a name behind its loop": (TAIL, "        }\n    }\n}", "        }\n    }\n    a = _e2;\n}", NO_NAME),
+    "a name after its loop": (TAIL, "        }\n    }\n}", "        }\n    }\n    a = _e2;\n}", NO_NAME),
     "a name in continuing that a continue skips": (FOLDED, "a = (1i + 1i);", "a = _e3;", NO_NAME),
     "a case that is not joined": (
         SWITCH, "case 1, 2, ", "case 1, 2: {\n            discard;\n        }\n        ", OTHER_EVENTS)}

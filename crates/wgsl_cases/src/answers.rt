@@ -5,7 +5,7 @@ ghost use Rattle.module_meaning.specs.acceptance.Accepted.{is_accepted};
 
 use bitflags::Flags;
 use json::{Scratch, Value};
-use module_answers::JsonRefusalPlace;
+use module_answers::JsonRefusalPosition;
 use naga_json::{Known, known_of, parse};
 use naga_wgsl_out::info::{Unaccepted, count, explain, unaccepted};
 use naga_wgsl_out::wgsl::{Writer, WriterFlags, unwritable};
@@ -153,7 +153,7 @@ fn push_place(
     requires { IsTrue (is_accepted known.now.module known.now.info) }
 {
     if let Some(refusal) = unwritable(alloc, &known.module, &known.info, flags)? {
-        let place = JsonRefusalPlace(refusal.place);
+        let place = JsonRefusalPosition(refusal.place);
         let told = format!(in alloc; "at: {place}\n")?;
         text.push_str(told.as_str())?;
     }

@@ -14,7 +14,7 @@ use std::process::ExitCode;
 fn main(rt: HostRuntime) -> ExitCode {
     let mut out = rt.stdout();
     let mut err = rt.stderr();
-    let status = match words::words_behind_name(&rt) {
+    let status = match words::words_after_name(&rt) {
         Ok(words) => run(rt.alloc(), &words, &mut out, &mut err),
         Err(_) => program::refuse("out of memory", &mut err),
     };

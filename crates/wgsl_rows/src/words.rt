@@ -5,7 +5,7 @@ use std::env::FillError;
 use std::rt::Env;
 
 /// The words after the program's name. One that is not UTF-8 is the empty text.
-pub fn words_behind_name<R: Env + AllocGlobal>(rt: &R) -> Result<Vec<String>, AllocError> {
+pub fn words_after_name<R: Env + AllocGlobal>(rt: &R) -> Result<Vec<String>, AllocError> {
     let mut words = Vec::new(rt.alloc());
     for index in 1..usize::MAX {
         match word_at(rt, index)? {

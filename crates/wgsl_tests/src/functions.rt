@@ -9,7 +9,7 @@ ghost use Rattle.naga_wgsl_fns.specs.Items.{HasNamedItemsOf};
 use crate::modules::read;
 use naga_json::Known;
 use naga_wgsl_out::back::FunctionType;
-use naga_wgsl_out::ir::Place;
+use naga_wgsl_out::ir::ItemIndex;
 use naga_wgsl_out::namer::{NameKey, Namer};
 use naga_wgsl_out::wgsl::{names_of, no_flags, write_function, write_string};
 use std::alloc::Global;
@@ -102,8 +102,8 @@ fn a_function_is_written_by_itself(rt: HostRuntime) {
     let known = read(&rt, alloc, MODULE);
     assert!(rt; write_string(alloc, &known.module, &known.info, no_flags()).is_err());
     let (names, mut namer) = names_of(alloc, &known.module).expect(&rt, "names");
-    let e = Place::from_index(0);
-    let h = Place::from_index(1);
+    let e = ItemIndex::from_index(0);
+    let h = ItemIndex::from_index(1);
     is_written(
         &rt,
         alloc,

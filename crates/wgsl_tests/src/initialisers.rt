@@ -6,7 +6,7 @@ ghost use Rattle.naga_names.specs.Keys.{names_in};
 
 use crate::modules::read;
 use naga_wgsl_out::info::ModuleInfo;
-use naga_wgsl_out::ir::{Expression, Handle, Module, Place};
+use naga_wgsl_out::ir::{Expression, Handle, ItemIndex, Module};
 use naga_wgsl_out::namer::NameKey;
 use naga_wgsl_out::wgsl::{Error, names_of, write_global_expression};
 use std::alloc::Global;
@@ -50,7 +50,7 @@ const VECTOR: &str = r#"{
 #[test]
 fn an_initialiser_is_written(rt: HostRuntime) {
     let known = read(&rt, rt.alloc(), VECTOR);
-    let vector = Place::from_index(2);
+    let vector = ItemIndex::from_index(2);
     assert!(rt; vector.index() < known.module.global_expressions.len());
     let (names, _namer) = names_of(rt.alloc(), &known.module).expect(&rt, "names");
     let text = text_of(rt.alloc(), &known.module, &known.info, &names, vector);

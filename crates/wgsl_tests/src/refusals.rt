@@ -1,8 +1,8 @@
 //! Where a construct stands for which a module is refused.
 use crate::modules::{IDENTITY, read};
-use naga_wgsl_out::ir::Place;
+use naga_wgsl_out::ir::ItemIndex;
 use naga_wgsl_out::wgsl::{
-    Construct, FunctionPart, Refusal, RefusalPlace, ScopeFault, no_flags, unwritable,
+    Construct, FunctionPart, Refusal, RefusalPosition, ScopeFault, no_flags, unwritable,
 };
 
 /// `return (x + x);`, where no `Emit` gave the sum.
@@ -30,11 +30,11 @@ fn a_refusal_tells_where(rt: HostRuntime) {
     let found = unwritable(alloc, &known.module, &known.info, no_flags());
     let fault = ScopeFault::Operand {
         statement: 0,
-        operand: Place::from_index(1),
+        operand: ItemIndex::from_index(1),
     };
     let wanted = Refusal {
         construct: Construct::OutOfScope,
-        place: RefusalPlace::Function(Place::from_index(0), FunctionPart::Scope(fault)),
+        place: RefusalPosition::Function(ItemIndex::from_index(0), FunctionPart::Scope(fault)),
     };
     assert_eq!(rt; found.expect(&rt, "memory"), Some(wanted));
     let known = read(&rt, alloc, IDENTITY);

@@ -15,9 +15,9 @@ use Rattle.wgsl_text.specs.Declarations.{StructMember, Program}
 use Rattle.wgsl_text.specs.Functions.{Parameter}
 use Rattle.wgsl_text.specs.Token.{At, Fixed}
 use Rattle.wgsl_text.specs.Words.{is_builtin, IsWord, is_reserved}
-use Rattle.wgsl_text.proofs.Machine.{Stack, State, Want, step, InProgram, InParameters, InResult}
-use Rattle.wgsl_text.proofs.Machine.{InMembers, WantParameter, WantResult, AttributeName}
-use Rattle.wgsl_text.proofs.Machine.{WantMemberName, PlainKind, NumberedKind, WordedKind, kind_of}
+use Rattle.wgsl_text.proofs.Machine.{Stack, State, Expect, step, InProgram, InParameters, InResult}
+use Rattle.wgsl_text.proofs.Machine.{InMembers, ExpectParameter, ExpectResult, AttributeName}
+use Rattle.wgsl_text.proofs.Machine.{ExpectMemberName, PlainKind, NumberedKind, WordedKind, kind_of}
 use Rattle.wgsl_text.proofs.Machine.{attribute_named, turned, add_attribute}
 use Rattle.wgsl_text.proofs.Chain.{◌$◌}
 use Rattle.wgsl_text.proofs.Closing.{Closed, none, gap, tok, free, size, sign, ◌then◌}
@@ -68,28 +68,28 @@ attribute_runs (Worded a w) {s = s} e = reads $ as_state e $ reads $ as_state (a
 attribute_runs (Interpolated i w) e = reads $ as_state e at_end
 attribute_runs (WorkgroupSize x y z) e = reads $ as_state e at_end
 
-pub attributes_run : (list attributes : List Attribute) (p : Program) → Runs (attributes_pieces list) (Want (InProgram attributes p)) (Want (InProgram (turned list attributes) p))
+pub attributes_run : (list attributes : List Attribute) (p : Program) → Runs (attributes_pieces list) (Expect (InProgram attributes p)) (Expect (InProgram (turned list attributes) p))
 attributes_run [] attributes p = at_end
 attributes_run (a ∷ more) attributes p = attribute_runs a refl onward attributes_run more (a ∷ attributes) p
 
 pub member_attributes_run : (list : List Attribute) (w : List ℕ) (done : List StructMember)
     (attributes : List Attribute) (s : Stack) →
-    Runs (attributes_pieces list) (WantMemberName (InMembers w done attributes s))
-    (WantMemberName (InMembers w done (turned list attributes) s))
+    Runs (attributes_pieces list) (ExpectMemberName (InMembers w done attributes s))
+    (ExpectMemberName (InMembers w done (turned list attributes) s))
 member_attributes_run [] w done attributes s = at_end
 member_attributes_run (a ∷ more) w done attributes s = attribute_runs a refl onward member_attributes_run more w done (a ∷ attributes) s
 
 pub parameter_attributes_run : (list : List Attribute) (f : List ℕ) (done : List Parameter)
     (attributes : List Attribute) (s : Stack) →
-    Runs (attributes_pieces list) (WantParameter (InParameters f done attributes s))
-    (WantParameter (InParameters f done (turned list attributes) s))
+    Runs (attributes_pieces list) (ExpectParameter (InParameters f done attributes s))
+    (ExpectParameter (InParameters f done (turned list attributes) s))
 parameter_attributes_run [] f done attributes s = at_end
 parameter_attributes_run (a ∷ more) f done attributes s = attribute_runs a refl onward parameter_attributes_run more f done (a ∷ attributes) s
 
 pub result_attributes_run : (list : List Attribute) (f : List ℕ) (ps : List Parameter)
     (attributes : List Attribute) (s : Stack) →
-    Runs (attributes_pieces list) (WantResult (InResult f ps attributes s))
-    (WantResult (InResult f ps (turned list attributes) s))
+    Runs (attributes_pieces list) (ExpectResult (InResult f ps attributes s))
+    (ExpectResult (InResult f ps (turned list attributes) s))
 result_attributes_run [] f ps attributes s = at_end
 result_attributes_run (a ∷ more) f ps attributes s = attribute_runs a refl onward result_attributes_run more f ps (a ∷ attributes) s
 

@@ -9,7 +9,7 @@ use Rattle.wgsl_text.specs.Declarations.{StructMember, Struct, NamedConstant, Ov
 use Rattle.wgsl_text.specs.Declarations.{NoSpace, SpaceAlone, SpaceAndAccess, Global, Program}
 use Rattle.wgsl_text.specs.Declarations.{no_declarations, enables_pieces, members_pieces}
 use Rattle.wgsl_text.specs.Declarations.{structs_pieces, constants_pieces, overrides_pieces}
-use Rattle.wgsl_text.specs.Declarations.{behind_attribute, global_attributes_pieces, space_pieces}
+use Rattle.wgsl_text.specs.Declarations.{after_attribute, global_attributes_pieces, space_pieces}
 use Rattle.wgsl_text.specs.Declarations.{globals_pieces, program_pieces, IsMember, IsStruct}
 use Rattle.wgsl_text.specs.Declarations.{IsNamedConstant, IsOverride, is_space, IsGlobal, IsEnable}
 use Rattle.wgsl_text.specs.Declarations.{IsProgram}
@@ -19,8 +19,8 @@ use Rattle.wgsl_text.specs.Functions.{entry_points_pieces, IsValue, Each}
 use Rattle.wgsl_text.specs.Token.{KeywordVar, Piece, Blank, mark, word}
 use Rattle.wgsl_text.specs.Types.{TypeSpecifier}
 use Rattle.wgsl_text.specs.Words.{stands_in, is_reserved}
-use Rattle.wgsl_text.proofs.Machine.{Stack, State, Want, GotType, InProgram, InMembers}
-use Rattle.wgsl_text.proofs.Machine.{InOverrideType, InGlobalType, WantMemberName, AfterVar}
+use Rattle.wgsl_text.proofs.Machine.{Stack, State, Expect, GotType, InProgram, InMembers}
+use Rattle.wgsl_text.proofs.Machine.{InOverrideType, InGlobalType, ExpectMemberName, AfterVar}
 use Rattle.wgsl_text.proofs.Machine.{AfterGlobalName, turned, add_global, add_override}
 use Rattle.wgsl_text.proofs.Chain.{◌$◌}
 use Rattle.wgsl_text.proofs.Attributes.{attribute_runs, attributes_run, member_attributes_run}
@@ -29,7 +29,7 @@ use Rattle.wgsl_text.proofs.Closing.{Closed, none, line, gap, indent, free, sign
 use Rattle.wgsl_text.proofs.Closing.{◌then◌}
 use Rattle.wgsl_text.proofs.Expressions.{expression_runs, expression_spaced}
 use Rattle.wgsl_text.proofs.Functions.{group_end_runs, functions_run, entry_points_run}
-use Rattle.wgsl_text.proofs.Functions.{value_behind, group_end_closed, functions_closed}
+use Rattle.wgsl_text.proofs.Functions.{value_after, group_end_closed, functions_closed}
 use Rattle.wgsl_text.proofs.Functions.{entry_points_closed}
 use Rattle.wgsl_text.proofs.Runs.{Runs, ◌onward◌, reads, over_gap, over_line, over_indent, as_state}
 use Rattle.wgsl_text.proofs.Runs.{at_end, to_state, turned_back}
@@ -43,41 +43,41 @@ use Rattle.wgsl_text.specs.Tables.{address_space_words, access_words, enable_wor
 use Rattle.wgsl_text.specs.Text.{text}
 use Rattle.wgsl_text.specs.Reading.{type_layout, expression_layout, layout}
 
-behind_runs : (a : Attribute) (s : State) → Runs (behind_attribute a) s s
-behind_runs (Numbered Binding n) s = at_end
-behind_runs (Numbered Location n) s = at_end
-behind_runs _ s = at_end
+after_runs : (a : Attribute) (s : State) → Runs (after_attribute a) s s
+after_runs (Numbered Binding n) s = at_end
+after_runs (Numbered Location n) s = at_end
+after_runs _ s = at_end
 
-global_attributes_run : (list attributes : List Attribute) (p : Program) → Runs (global_attributes_pieces list) (Want (InProgram attributes p)) (Want (InProgram (turned list attributes) p))
+global_attributes_run : (list attributes : List Attribute) (p : Program) → Runs (global_attributes_pieces list) (Expect (InProgram attributes p)) (Expect (InProgram (turned list attributes) p))
 global_attributes_run [] attributes p = at_end
-global_attributes_run (a ∷ more) attributes p = attribute_runs a refl onward behind_runs a _ onward global_attributes_run more (a ∷ attributes) p
+global_attributes_run (a ∷ more) attributes p = attribute_runs a refl onward after_runs a _ onward global_attributes_run more (a ∷ attributes) p
 
 -- declarations
 
-enables_run : (list : List (List ℕ)) (p : Program) → Runs (enables_pieces list) (Want (InProgram [] p)) (Want (InProgram [] (record p { enables = turned list p.enables })))
+enables_run : (list : List (List ℕ)) (p : Program) → Runs (enables_pieces list) (Expect (InProgram [] p)) (Expect (InProgram [] (record p { enables = turned list p.enables })))
 enables_run [] p = at_end
 enables_run (w ∷ more) p = reads $ over_gap $ reads $ reads $ over_line $ enables_run more (record p { enables = w ∷ p.enables })
 
 members_run : (ms : List StructMember) → Each IsMember ms →
     (w : List ℕ) (done : List StructMember) (s : Stack) →
-    Runs (members_pieces ms) (WantMemberName (InMembers w done [] s))
-    (WantMemberName (InMembers w (turned ms done) [] s))
+    Runs (members_pieces ms) (ExpectMemberName (InMembers w done [] s))
+    (ExpectMemberName (InMembers w (turned ms done) [] s))
 members_run [] is w done s = at_end
 members_run (m ∷ more) is w done s =
     over_indent $ member_attributes_run m.attributes w done [] s onward reads $ reads $ over_gap $ type_runs m.type is.0.type.part _ onward reads $
-    as_state (ap (λ v. WantMemberName (InMembers w (record m { attributes = v } ∷ done) [] s)) (turned_back m.attributes [])) $
+    as_state (ap (λ v. ExpectMemberName (InMembers w (record m { attributes = v } ∷ done) [] s)) (turned_back m.attributes [])) $
     over_line $ members_run more is.1 w (m ∷ done) s
 
-structs_run : (list : List Struct) → Each IsStruct list → (p : Program) → Runs (structs_pieces list) (Want (InProgram [] p)) (Want (InProgram [] (record p { structs = turned list p.structs })))
+structs_run : (list : List Struct) → Each IsStruct list → (p : Program) → Runs (structs_pieces list) (Expect (InProgram [] p)) (Expect (InProgram [] (record p { structs = turned list p.structs })))
 structs_run [] is p = at_end
 structs_run (d ∷ more) is p =
     reads $ over_gap $ reads $ over_gap $ reads $ over_line $ members_run d.members is.0.members d.name [] _ onward reads $
-    as_state (ap (λ v. Want (InProgram [] (record p { structs = record d { members = v } ∷ p.structs }))) (turned_back d.members [])) $
+    as_state (ap (λ v. Expect (InProgram [] (record p { structs = record d { members = v } ∷ p.structs }))) (turned_back d.members [])) $
     over_line $ over_line $ structs_run more is.1 (record p { structs = d ∷ p.structs })
 
 constants_run : (list : List NamedConstant) → Each IsNamedConstant list →
-    (p : Program) → Runs (constants_pieces list) (Want (InProgram [] p))
-    (Want (InProgram [] (record p { constants = turned list p.constants })))
+    (p : Program) → Runs (constants_pieces list) (Expect (InProgram [] p))
+    (Expect (InProgram [] (record p { constants = turned list p.constants })))
 constants_run [] is p = at_end
 constants_run (d ∷ more) is p =
     reads $ over_gap $ reads $ reads $ over_gap $ type_runs d.type is.0.type.part _ onward over_gap $ reads $ over_gap $ expression_runs d.value is.0.value _ onward reads $ over_line $
@@ -88,13 +88,13 @@ override_value_runs None is w t s = at_end
 override_value_runs (Some e) is w t s = over_gap $ reads $ over_gap $ expression_runs e is _ onward at_end
 
 overrides_run : (list : List Override) → Each IsOverride list →
-    (p : Program) → Runs (overrides_pieces list) (Want (InProgram [] p))
-    (Want (InProgram [] (record p { overrides = turned list p.overrides })))
+    (p : Program) → Runs (overrides_pieces list) (Expect (InProgram [] p))
+    (Expect (InProgram [] (record p { overrides = turned list p.overrides })))
 overrides_run [] is p = at_end
 overrides_run (d ∷ more) is p =
     attributes_run d.attributes [] p onward reads $ over_gap $ reads $ reads $ over_gap $ type_runs d.type is.0.type.part _ onward
     to_state (override_value_runs d.value is.0.value d.name d.type _)
-    (ap (λ v. Want
+    (ap (λ v. Expect
     (InProgram [] (record p { overrides = record d { attributes = v } ∷ p.overrides })))
     (turned_back d.attributes [])) onward
     overrides_run more is.1 (record p { overrides = d ∷ p.overrides })
@@ -110,12 +110,12 @@ global_value_runs : (value : Option Expression) → IsValue value →
 global_value_runs None is space w t s = at_end
 global_value_runs (Some e) is space w t s = over_gap $ reads $ over_gap $ expression_runs e is _ onward at_end
 
-globals_run : (list : List Global) → Each IsGlobal list → (p : Program) → Runs (globals_pieces list) (Want (InProgram [] p)) (Want (InProgram [] (record p { globals = turned list p.globals })))
+globals_run : (list : List Global) → Each IsGlobal list → (p : Program) → Runs (globals_pieces list) (Expect (InProgram [] p)) (Expect (InProgram [] (record p { globals = turned list p.globals })))
 globals_run [] is p = at_end
 globals_run (d ∷ more) is p =
     global_attributes_run d.attributes [] p onward reads $ space_runs d.space d.name $ reads $ over_gap $ type_runs d.type is.0.type.part _ onward
     to_state (global_value_runs d.value is.0.value d.space d.name d.type _)
-    (ap (λ v. Want
+    (ap (λ v. Expect
     (InProgram [] (record p { globals = record d { attributes = v } ∷ p.globals })))
     (turned_back d.attributes [])) onward
     globals_run more is.1 (record p { globals = d ∷ p.globals })
@@ -132,7 +132,7 @@ newest_first p = record {
   entry_points = turned p.entry_points [];
 }
 
-pub program_runs : (p : Program) → IsProgram p → Runs (program_pieces p) (Want (InProgram [] no_declarations)) (Want (InProgram [] (newest_first p)))
+pub program_runs : (p : Program) → IsProgram p → Runs (program_pieces p) (Expect (InProgram [] no_declarations)) (Expect (InProgram [] (newest_first p)))
 program_runs p is =
     enables_run p.enables _ onward group_end_runs p.enables _ onward structs_run p.structs is.structs _ onward
     constants_run p.constants is.constants _ onward group_end_runs p.constants _ onward
@@ -176,14 +176,14 @@ newest_twice p =
 
 -- In their pieces no token runs into the next.
 
-behind_closed : (a : Attribute) → Closed (behind_attribute a)
-behind_closed (Numbered Binding n) = line none
-behind_closed (Numbered Location n) = none
-behind_closed _ = none
+after_closed : (a : Attribute) → Closed (after_attribute a)
+after_closed (Numbered Binding n) = line none
+after_closed (Numbered Location n) = none
+after_closed _ = none
 
 global_attributes_closed : (list : List Attribute) → IsAttributes list → Closed (global_attributes_pieces list)
 global_attributes_closed [] is = none
-global_attributes_closed (a ∷ more) is = attribute_closed a is.0 then behind_closed a then global_attributes_closed more is.1
+global_attributes_closed (a ∷ more) is = attribute_closed a is.0 then after_closed a then global_attributes_closed more is.1
 
 -- declarations
 
@@ -212,7 +212,7 @@ overrides_closed : (list : List Override) → Each IsOverride list → Closed (o
 overrides_closed [] is = none
 overrides_closed (d ∷ more) is =
     attributes_closed d.attributes is.0.attributes then sign (λ _. refl) $ gap $ free is.0.name.word (λ _. refl) $ sign (λ _. refl) $ gap $
-    value_behind d.type is.0.type d.value is.0.value $ overrides_closed more is.1
+    value_after d.type is.0.type d.value is.0.value $ overrides_closed more is.1
 
 storage_free : all_words is_free (codes "storage" ∷ []) ≡ true
 unfolding is_reserved
@@ -232,7 +232,7 @@ globals_closed : (list : List Global) → Each IsGlobal list → Closed (globals
 globals_closed [] is = none
 globals_closed (d ∷ more) is =
     global_attributes_closed d.attributes is.0.attributes then var_closed d.space is.0.space $ free is.0.name.word (λ _. refl) $ sign (λ _. refl) $ gap $
-    value_behind d.type is.0.type d.value is.0.value $ globals_closed more is.1
+    value_after d.type is.0.type d.value is.0.value $ globals_closed more is.1
 
 pub program_closed : (p : Program) → IsProgram p → Closed (program_pieces p)
 program_closed p is =

@@ -30,7 +30,7 @@ use Rattle.wgsl_text.proofs.Types.{template_of, parts_of_fit, takes_none, fits_n
 use Rattle.wgsl_text.proofs.Types.{parts_spaced}
 use Rattle.wgsl_text.proofs.Words.{passes}
 use Rattle.wgsl_text.proofs.Machine.{Stack, InParens, InRight, InUnary, InArguments, InCallee}
-use Rattle.wgsl_text.proofs.Machine.{State, Want, Got, GotNumberArgument, AfterArgument}
+use Rattle.wgsl_text.proofs.Machine.{State, Expect, Got, GotNumberArgument, AfterArgument}
 use Rattle.wgsl_text.proofs.Machine.{unwind_arguments}
 use Rattle.std.specs.Prelude.{⊤, codes, IsTrue, cond}
 use Rattle.std.proofs.lemmas.Bool.{false≢true}
@@ -40,20 +40,20 @@ use Rattle.wgsl_text.specs.Text.{mark_text, text}
 use Rattle.std.proofs.lemmas.List.{append-nil}
 use Rattle.wgsl_text.specs.Reading.{type_layout, expression_layout}
 
-less_runs : (a : Expression) → IsExpression a → (s : Stack) → Runs (mark LessThan ∷ []) (Got a (InParens s)) (Want (InRight a Less s))
+less_runs : (a : Expression) → IsExpression a → (s : Stack) → Runs (mark LessThan ∷ []) (Got a (InParens s)) (Expect (InRight a Less s))
 less_runs (Name w) is s = record { to = when_false _ is.own }
 less_runs _ is s = at_end
 
-operator_runs : (op : BinaryOperator) (a : Expression) → IsExpression a → (s : Stack) → Runs (binary_pieces op) (Got a (InParens s)) (Want (InRight a op s))
+operator_runs : (op : BinaryOperator) (a : Expression) → IsExpression a → (s : Stack) → Runs (binary_pieces op) (Got a (InParens s)) (Expect (InRight a op s))
 operator_runs Less a is s = less_runs a is s
 operator_runs _ a is s = at_end
 
-unary_runs : (op : UnaryOperator) (s : Stack) → Runs (mark (unary_mark op) ∷ mark OpenParen ∷ []) (Want s) (Want (InUnary op s))
+unary_runs : (op : UnaryOperator) (s : Stack) → Runs (mark (unary_mark op) ∷ mark OpenParen ∷ []) (Expect s) (Expect (InUnary op s))
 unary_runs Negate s = at_end
 unary_runs _ s = at_end
 
 -- the base of a member or an index, in parentheses where it is unary
-base_runs : (e : Expression) (s : Stack) → ((s : Stack) → Runs (expression_pieces e) (Want s) (Got e s)) → Runs (base_pieces e (expression_pieces e)) (Want s) (Got e s)
+base_runs : (e : Expression) (s : Stack) → ((s : Stack) → Runs (expression_pieces e) (Expect s) (Got e s)) → Runs (base_pieces e (expression_pieces e)) (Expect s) (Got e s)
 base_runs (Unary op e) s a = reads $ a _ onward at_end
 base_runs (Constant l) s a = a s
 base_runs _ s a = a s
@@ -85,33 +85,33 @@ zero_done _ (NumberArgument n done) is a = record { to = a.to }
 zero_done _ (ZeroArgument whole done) is a = record { to = a.to }
 
 -- A plain number that stands after others is a level, and the first one is none.
-abbrev StandBehind : Arguments → Type 0
-StandBehind NoArguments = ⊤
-StandBehind (Argument e more) = StandBehind more
-StandBehind (NumberArgument n more) = ⊥
-StandBehind (ZeroArgument whole more) = StandBehind more
+abbrev StandAfter : Arguments → Type 0
+StandAfter NoArguments = ⊤
+StandAfter (Argument e more) = StandAfter more
+StandAfter (NumberArgument n more) = ⊥
+StandAfter (ZeroArgument whole more) = StandAfter more
 
 abbrev pub StandFirst : Arguments → Type 0
 StandFirst NoArguments = ⊤
-StandFirst (Argument e more) = StandBehind more
-StandFirst (NumberArgument n more) = StandBehind more
+StandFirst (Argument e more) = StandAfter more
+StandFirst (NumberArgument n more) = StandAfter more
 StandFirst (ZeroArgument whole more) = ⊥
 
-expressions_behind : (args : Arguments) → are_expressions args ≡ true → StandBehind args
-expressions_behind NoArguments is = tt
-expressions_behind (Argument e more) is = expressions_behind more is
-expressions_behind (NumberArgument n more) is = absurd (false≢true is)
-expressions_behind (ZeroArgument whole more) is = absurd (false≢true is)
+expressions_after : (args : Arguments) → are_expressions args ≡ true → StandAfter args
+expressions_after NoArguments is = tt
+expressions_after (Argument e more) is = expressions_after more is
+expressions_after (NumberArgument n more) is = absurd (false≢true is)
+expressions_after (ZeroArgument whole more) is = absurd (false≢true is)
 
-zero_behind : (args : Arguments) → have_a_zero args ≡ true → StandBehind args
-zero_behind NoArguments is = absurd (false≢true is)
-zero_behind (Argument e more) is = zero_behind more is
-zero_behind (NumberArgument n more) is = absurd (false≢true is)
-zero_behind (ZeroArgument whole more) is = expressions_behind more is
+zero_after : (args : Arguments) → have_a_zero args ≡ true → StandAfter args
+zero_after NoArguments is = absurd (false≢true is)
+zero_after (Argument e more) is = zero_after more is
+zero_after (NumberArgument n more) is = absurd (false≢true is)
+zero_after (ZeroArgument whole more) is = expressions_after more is
 
 expressions_first : (args : Arguments) → are_expressions args ≡ true → StandFirst args
 expressions_first NoArguments is = tt
-expressions_first (Argument e more) is = expressions_behind more is
+expressions_first (Argument e more) is = expressions_after more is
 expressions_first (NumberArgument n more) is = absurd (false≢true is)
 expressions_first (ZeroArgument whole more) is = absurd (false≢true is)
 
@@ -119,18 +119,18 @@ right_of : (a b : Bool) → (a && b) ≡ true → b ≡ true
 right_of true b is = is
 right_of false b is = absurd (false≢true is)
 
-one_behind : (args : Arguments) (word expressions : Bool) → are_expressions args ≡ expressions →
-    (expressions || (word && have_a_zero args)) ≡ true → StandBehind args
-one_behind args word true is holds = expressions_behind args is
-one_behind args word false is holds = zero_behind args (right_of word (have_a_zero args) holds)
+one_after : (args : Arguments) (word expressions : Bool) → are_expressions args ≡ expressions →
+    (expressions || (word && have_a_zero args)) ≡ true → StandAfter args
+one_after args word true is holds = expressions_after args is
+one_after args word false is holds = zero_after args (right_of word (have_a_zero args) holds)
 
 -- so it is in what a call may take
 pub stand_first : (t : TypeSpecifier) (args : Arguments) → IsTrue (may_take t args) → StandFirst args
 stand_first (Named w) NoArguments is = tt
 stand_first (Named w) (Argument e more) is =
-    one_behind more (stands_in level_words w) (are_expressions more) refl is
+    one_after more (stands_in level_words w) (are_expressions more) refl is
 stand_first (Named w) (NumberArgument n more) is =
-    expressions_behind more
+    expressions_after more
     (right_of (nat_lt n 4) (are_expressions more)
     (right_of (stands_in gather_words w) (nat_lt n 4 && are_expressions more) is))
 stand_first (Named w) (ZeroArgument whole more) is =
@@ -150,14 +150,14 @@ call_template w parts fit = template_of w (row_word is_template call_templates w
 
 -- what stands in front of the parenthesis of a call
 pub callee_runs : (t : TypeSpecifier) → IsCallee t → (ps : List Piece) (s : Stack) (s' : State) →
-    Runs ps (Want (InArguments t NoArguments s)) s' →
-    Runs (type_pieces t ++ (mark OpenParen ∷ ps)) (Want s) s'
+    Runs ps (Expect (InArguments t NoArguments s)) s' →
+    Runs (type_pieces t ++ (mark OpenParen ∷ ps)) (Expect s) s'
 callee_runs (Named w) is ps s s' a = record { to = a.to }
 callee_runs (Template w parts) is ps s s' a =
     reads $ reads $ as_state (when_true _ (call_template w parts is.0).builtin) $ parts_run parts is.1 (has_gaps w) w (InCallee s) onward reads a
 
 mutual
-  pub expression_runs : (e : Expression) → IsExpression e → (s : Stack) → Runs (expression_pieces e) (Want s) (Got e s)
+  pub expression_runs : (e : Expression) → IsExpression e → (s : Stack) → Runs (expression_pieces e) (Expect s) (Got e s)
   expression_runs (Constant l) is s = literal_runs l is s
   expression_runs (Name w) is s = at_end
   expression_runs (Binary a op b) is s =
@@ -172,21 +172,21 @@ mutual
 
   pub arguments_run : (args : Arguments) → IsArguments args → StandFirst args →
       (t : TypeSpecifier) (s : Stack) →
-      Runs (arguments_pieces args) (Want (InArguments t NoArguments s)) (Got (Call t args) s)
+      Runs (arguments_pieces args) (Expect (InArguments t NoArguments s)) (Got (Call t args) s)
   arguments_run NoArguments is first t s = at_end
   arguments_run (Argument e more) is first t s = expression_runs e is.0 _ onward argument_done more (more_arguments_run more is.1 first (Argument e NoArguments) tt t s)
   arguments_run (NumberArgument n more) is first t s = reads $ number_done more is.1 (more_arguments_run more is.2 first (NumberArgument n NoArguments) tt t s)
   arguments_run (ZeroArgument whole more) is first t s = absurd first
 
-  pub more_arguments_run : (args : Arguments) → IsArguments args → StandBehind args →
+  pub more_arguments_run : (args : Arguments) → IsArguments args → StandAfter args →
       (done : Arguments) → IsSome done → (t : TypeSpecifier) (s : Stack) →
       Runs (more_arguments_pieces args) (AfterArgument t done s)
       (Got (Call t (unwind_arguments done args)) s)
-  more_arguments_run NoArguments is behind done some t s = at_end
-  more_arguments_run (Argument e more) is behind done some t s = reads $ over_gap $ expression_runs e is.0 _ onward argument_done more (more_arguments_run more is.1 behind (Argument e done) tt t s)
-  more_arguments_run (NumberArgument n more) is behind done some t s = absurd behind
-  more_arguments_run (ZeroArgument false more) is behind done some t s = reads $ over_gap $ reads $ more_arguments_run more is behind (ZeroArgument false done) tt t s
-  more_arguments_run (ZeroArgument true more) is behind done some t s = reads $ over_gap $ reads $ zero_done more done some (more_arguments_run more is behind (ZeroArgument true done) tt t s)
+  more_arguments_run NoArguments is following done some t s = at_end
+  more_arguments_run (Argument e more) is following done some t s = reads $ over_gap $ expression_runs e is.0 _ onward argument_done more (more_arguments_run more is.1 following (Argument e done) tt t s)
+  more_arguments_run (NumberArgument n more) is following done some t s = absurd following
+  more_arguments_run (ZeroArgument false more) is following done some t s = reads $ over_gap $ reads $ more_arguments_run more is following (ZeroArgument false done) tt t s
+  more_arguments_run (ZeroArgument true more) is following done some t s = reads $ over_gap $ reads $ zero_done more done some (more_arguments_run more is following (ZeroArgument true done) tt t s)
 
 -- Words that take parts.
 

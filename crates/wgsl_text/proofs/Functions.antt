@@ -17,9 +17,11 @@ use Rattle.wgsl_text.specs.Functions.{Each, IsFunction, IsEntryPoint}
 use Rattle.wgsl_text.specs.Statements.{NoStatements, statements_pieces}
 use Rattle.wgsl_text.specs.Token.{OpenBrace, Colon, Piece, Blank, LineEnd, mark, word}
 use Rattle.wgsl_text.specs.Types.{TypeSpecifier, Named, Template, type_pieces, IsType}
-use Rattle.wgsl_text.proofs.Machine.{Stack, State, Want, WantType, GotType, InStatements, InProgram}
+use Rattle.wgsl_text.proofs.Machine.{Stack, State, Expect, ExpectType, GotType, InStatements}
+use Rattle.wgsl_text.proofs.Machine.{InProgram}
 use Rattle.wgsl_text.proofs.Machine.{InParameters, InParameterType, InLocals, InLocalType}
-use Rattle.wgsl_text.proofs.Machine.{WantParameter, AfterParameters, WantResult, turned, add_local}
+use Rattle.wgsl_text.proofs.Machine.{ExpectParameter, AfterParameters, ExpectResult, turned}
+use Rattle.wgsl_text.proofs.Machine.{add_local}
 use Rattle.wgsl_text.proofs.Machine.{function_added, close_parameters}
 use Rattle.wgsl_text.proofs.Chain.{◌$◌}
 use Rattle.wgsl_text.proofs.Attributes.{attributes_run, parameter_attributes_run}
@@ -40,7 +42,7 @@ use Rattle.wgsl_text.specs.Reading.{type_layout, expression_layout}
 -- a parameter, up to its type
 parameter_runs : (p : Parameter) → IsParameter p →
     (f : List ℕ) (done : List Parameter) (s : Stack) →
-    Runs (parameter_pieces p) (WantParameter (InParameters f done [] s))
+    Runs (parameter_pieces p) (ExpectParameter (InParameters f done [] s))
     (GotType p.type (InParameterType f done (turned p.attributes []) p.name s))
 parameter_runs p is f done s = parameter_attributes_run p.attributes f done [] s onward reads $ reads $ over_gap $ type_runs p.type is.type.part _
 
@@ -58,26 +60,26 @@ more_parameters_run : (ps : List Parameter) → Each IsParameter ps →
     (AfterParameters f (turned (p ∷ done) ps) s)
 more_parameters_run [] is p f done s = reads $ as_state (ap close_parameters (kept p f done s)) at_end
 more_parameters_run (q ∷ more) is p f done s =
-    reads $ as_state (ap WantParameter (kept p f done s)) $ over_gap $ parameter_runs q is.0 f (p ∷ done) s onward more_parameters_run more is.1 q f (p ∷ done) s
+    reads $ as_state (ap ExpectParameter (kept p f done s)) $ over_gap $ parameter_runs q is.0 f (p ∷ done) s onward more_parameters_run more is.1 q f (p ∷ done) s
 
-parameters_run : (ps : List Parameter) → Each IsParameter ps → (f : List ℕ) (s : Stack) → Runs (parameters_pieces ps) (WantParameter (InParameters f [] [] s)) (AfterParameters f ps s)
+parameters_run : (ps : List Parameter) → Each IsParameter ps → (f : List ℕ) (s : Stack) → Runs (parameters_pieces ps) (ExpectParameter (InParameters f [] [] s)) (AfterParameters f ps s)
 parameters_run [] is f s = at_end
 parameters_run (p ∷ more) is f s = parameter_runs p is.0 f [] s onward more_parameters_run more is.1 p f [] s
 
 -- a type after the attributes of a result
-result_type : (t : TypeSpecifier) {s : Stack} {s' : State} → Runs (type_pieces t) (WantType s) s' → Runs (type_pieces t) (WantResult s) s'
+result_type : (t : TypeSpecifier) {s : Stack} {s' : State} → Runs (type_pieces t) (ExpectType s) s' → Runs (type_pieces t) (ExpectResult s) s'
 result_type (Named w) a = record { to = a.to }
 result_type (Template w parts) a = record { to = a.to }
 
 -- what stands between the parameters and the body
 result_runs : (r : Result) → IsResult r →
     (f : List ℕ) (ps : List Parameter) (s : Stack) {qs : List Piece} {s' : State} →
-    Runs qs (Want (InStatements NoStatements (InLocals f ps r [] s))) s' →
+    Runs qs (Expect (InStatements NoStatements (InLocals f ps r [] s))) s' →
     Runs (result_pieces r ++ (Blank ∷ mark OpenBrace ∷ qs)) (AfterParameters f ps s) s'
 result_runs NoResult is f ps s b = over_gap $ reads b
 result_runs (ResultOf attributes t) is f ps s b =
     over_gap $ reads $ reads $ over_gap $ (result_attributes_run attributes f ps [] s onward result_type t (type_runs t is.2.part _)) onward over_gap $ reads $
-    as_state (ap (λ v. Want (InStatements NoStatements (InLocals f ps (ResultOf v t) [] s))) (turned_back attributes [])) b
+    as_state (ap (λ v. Expect (InStatements NoStatements (InLocals f ps (ResultOf v t) [] s))) (turned_back attributes [])) b
 
 value_runs : (value : Option Expression) → IsValue value → (w : List ℕ) (t : TypeSpecifier) (s : Stack) → Runs (value_pieces value) (GotType t (InLocalType w s)) (add_local w t value s)
 value_runs None is w t s = at_end
@@ -85,8 +87,8 @@ value_runs (Some e) is w t s = over_gap $ reads $ over_gap $ expression_runs e i
 
 locals_run : (locals : List Local) → Each IsLocal locals →
     (f : List ℕ) (ps : List Parameter) (r : Result) (done : List Local) (s : Stack) →
-    Runs (locals_pieces locals) (Want (InStatements NoStatements (InLocals f ps r done s)))
-    (Want (InStatements NoStatements (InLocals f ps r (turned locals done) s)))
+    Runs (locals_pieces locals) (Expect (InStatements NoStatements (InLocals f ps r done s)))
+    (Expect (InStatements NoStatements (InLocals f ps r (turned locals done) s)))
 locals_run [] is f ps r done s = at_end
 locals_run (l ∷ more) is f ps r done s =
     over_indent $ reads $ over_gap $ reads $ reads $ over_gap $ type_runs l.type is.0.type.part _ onward value_runs l.value is.0.value l.name l.type _ onward locals_run more is.1 f ps r (l ∷ done) s
@@ -96,16 +98,16 @@ group_end_runs [] s = at_end
 group_end_runs (x ∷ more) s = at_end
 
 pub function_runs : (f : Function) → IsFunction f → (attributes : List Attribute) (p : Program) →
-    Runs (function_pieces f) (Want (InProgram attributes p))
-    (Want (InProgram [] (function_added (turned attributes []) f p)))
+    Runs (function_pieces f) (Expect (InProgram attributes p))
+    (Expect (InProgram [] (function_added (turned attributes []) f p)))
 function_runs f is attributes p =
     reads $ over_gap $ reads $ reads $ parameters_run f.parameters is.parameters f.name _ onward result_runs f.result is.result f.name f.parameters _ (over_line (
     locals_run f.locals is.locals f.name f.parameters f.result [] _ onward (group_end_runs f.locals _ onward (statements_run f.body is.body 1 NoStatements _ onward closes f.body (over_line (
-    as_state (ap (λ l. Want (InProgram [] (function_added (turned attributes []) (record f { locals = l }) p))) (turned_back f.locals [])) at_end))))))
+    as_state (ap (λ l. Expect (InProgram [] (function_added (turned attributes []) (record f { locals = l }) p))) (turned_back f.locals [])) at_end))))))
 
 pub functions_run : (list : List Function) → Each IsFunction list →
-    (p : Program) → Runs (functions_pieces list) (Want (InProgram [] p))
-    (Want (InProgram [] (record p { functions = turned list p.functions })))
+    (p : Program) → Runs (functions_pieces list) (Expect (InProgram [] p))
+    (Expect (InProgram [] (record p { functions = turned list p.functions })))
 functions_run [] is p = at_end
 functions_run (f ∷ more) is p = function_runs f is.0 [] p onward over_line $ functions_run more is.1 (record p { functions = f ∷ p.functions })
 
@@ -117,20 +119,20 @@ entry_added : (stage : List Attribute) → IsTrue (is_stage stage) → (f : Func
 entry_added [] is f p = absurd (false≢true is)
 entry_added (a ∷ more) is f p = refl
 
-pub entry_point_runs : (e : EntryPoint) → IsEntryPoint e → (p : Program) → Runs (entry_point_pieces e) (Want (InProgram [] p)) (Want (InProgram [] (record p { entry_points = e ∷ p.entry_points })))
+pub entry_point_runs : (e : EntryPoint) → IsEntryPoint e → (p : Program) → Runs (entry_point_pieces e) (Expect (InProgram [] p)) (Expect (InProgram [] (record p { entry_points = e ∷ p.entry_points })))
 entry_point_runs e is p =
     attributes_run e.stage [] p onward over_line $ to_state (function_runs e.function is.function _ p)
-    (ap (λ v. Want (InProgram [] (function_added v e.function p))) (turned_back e.stage []) ∙ ap (λ v. Want (InProgram [] v)) (entry_added e.stage is.stage e.function p))
+    (ap (λ v. Expect (InProgram [] (function_added v e.function p))) (turned_back e.stage []) ∙ ap (λ v. Expect (InProgram [] v)) (entry_added e.stage is.stage e.function p))
 
 more_entry_points_run : (list : List EntryPoint) → Each IsEntryPoint list →
-    (p : Program) → Runs (more_entry_points_pieces list) (Want (InProgram [] p))
-    (Want (InProgram [] (record p { entry_points = turned list p.entry_points })))
+    (p : Program) → Runs (more_entry_points_pieces list) (Expect (InProgram [] p))
+    (Expect (InProgram [] (record p { entry_points = turned list p.entry_points })))
 more_entry_points_run [] is p = at_end
 more_entry_points_run (e ∷ more) is p = over_line $ entry_point_runs e is.0 p onward more_entry_points_run more is.1 (record p { entry_points = e ∷ p.entry_points })
 
 pub entry_points_run : (list : List EntryPoint) → Each IsEntryPoint list →
-    (p : Program) → Runs (entry_points_pieces list) (Want (InProgram [] p))
-    (Want (InProgram [] (record p { entry_points = turned list p.entry_points })))
+    (p : Program) → Runs (entry_points_pieces list) (Expect (InProgram [] p))
+    (Expect (InProgram [] (record p { entry_points = turned list p.entry_points })))
 entry_points_run [] is p = at_end
 entry_points_run (e ∷ more) is p = entry_point_runs e is.0 p onward more_entry_points_run more is.1 (record p { entry_points = e ∷ p.entry_points })
 
@@ -143,9 +145,9 @@ value_closed None is = stop
 value_closed (Some e) is = gap $ sign (λ _. refl) $ gap $ part (expression_spaced e is) (λ _. refl) stop
 
 -- a type, a value and what stands after them
-pub value_behind : (t : TypeSpecifier) → IsType t → (value : Option Expression) → IsValue value → {qs : List Piece} → Closed qs → Closed (type_pieces t ++ (value_pieces value ++ qs))
-value_behind t is None at b = part (type_spaced t is.part) (λ _. refl) $ stop then b
-value_behind t is (Some e) at b = part (type_spaced t is.part) (λ _. refl) $ value_closed (Some e) at then b
+pub value_after : (t : TypeSpecifier) → IsType t → (value : Option Expression) → IsValue value → {qs : List Piece} → Closed qs → Closed (type_pieces t ++ (value_pieces value ++ qs))
+value_after t is None at b = part (type_spaced t is.part) (λ _. refl) $ stop then b
+value_after t is (Some e) at b = part (type_spaced t is.part) (λ _. refl) $ value_closed (Some e) at then b
 
 -- pieces that end in a type, and those after them
 before_type : (ps qs rest : List Piece) → Closed (ps ++ (qs ++ rest)) → Closed ((ps ++ qs) ++ rest)
@@ -180,7 +182,7 @@ result_closed (ResultOf attributes t) is {qs} a =
 locals_closed : (locals : List Local) → Each IsLocal locals → Closed (locals_pieces locals)
 locals_closed [] is = none
 locals_closed (l ∷ more) is =
-    indent $ sign (λ _. refl) $ gap $ free is.0.name.word (λ _. refl) $ sign (λ _. refl) $ gap $ value_behind l.type is.0.type l.value is.0.value $ locals_closed more is.1
+    indent $ sign (λ _. refl) $ gap $ free is.0.name.word (λ _. refl) $ sign (λ _. refl) $ gap $ value_after l.type is.0.type l.value is.0.value $ locals_closed more is.1
 
 pub group_end_closed : {A : Type 0} (list : List A) → Closed (group_end list)
 group_end_closed [] = none

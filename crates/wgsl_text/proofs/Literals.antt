@@ -13,16 +13,16 @@ use Rattle.wgsl_text.proofs.Runs.{Runs, at_end}
 use Rattle.wgsl_text.proofs.Spacing.{Spaced, end, tok, free, gap, close, Opens, number_opens}
 use Rattle.wgsl_text.proofs.Spacing.{decimal_opens}
 use Rattle.wgsl_text.proofs.Text.{IsNumber}
-use Rattle.wgsl_text.proofs.Machine.{Stack, Want, Got}
+use Rattle.wgsl_text.proofs.Machine.{Stack, Expect, Got}
 use Rattle.std.specs.Prelude.{codes, ◌<◌, ◌^◌}
 
 suffixed_runs : (suffix : Suffix) (negative : Bool) (n : ℕ) → IsSuffixed suffix negative n →
-    (s : Stack) → Runs (TokenPiece (Number negative n suffix) ∷ []) (Want s)
+    (s : Stack) → Runs (TokenPiece (Number negative n suffix) ∷ []) (Expect s)
     (Got (Constant (Suffixed negative n suffix)) s)
 suffixed_runs NoSuffix negative n is s = absurd is
 suffixed_runs _ negative n is s = at_end
 
-pub literal_runs : (l : Literal) → IsLiteral l → (s : Stack) → Runs (literal_pieces l) (Want s) (Got (Constant l) s)
+pub literal_runs : (l : Literal) → IsLiteral l → (s : Stack) → Runs (literal_pieces l) (Expect s) (Got (Constant l) s)
 literal_runs (Truth true) is s = at_end
 literal_runs (Truth false) is s = at_end
 literal_runs (Suffixed negative n suffix) is s = suffixed_runs suffix negative n is s

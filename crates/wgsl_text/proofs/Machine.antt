@@ -29,8 +29,9 @@ use Rattle.wgsl_text.specs.Expressions.{ShiftLeft, ShiftRight, UnaryOperator, Ne
 use Rattle.wgsl_text.specs.Expressions.{BitwiseNot, Expression, Constant, Name, Binary, Unary, Call}
 use Rattle.wgsl_text.specs.Expressions.{Member, Index, IndexAt, AddressOf, Dereference, Arguments}
 use Rattle.wgsl_text.specs.Expressions.{NoArguments, Argument, NumberArgument, ZeroArgument}
-use Rattle.wgsl_text.specs.Statements.{Label, DefaultLabel, SignedLabel, UnsignedLabel, Labels}
-use Rattle.wgsl_text.specs.Statements.{LastLabel, MoreLabels, Statement, Let, TypedLet, Assign}
+use Rattle.wgsl_text.specs.Statements.{CaseValue, DefaultCase, SignedCase, UnsignedCase, CaseValues}
+use Rattle.wgsl_text.specs.Statements.{LastCaseValue, MoreCaseValues, Statement, Let, TypedLet}
+use Rattle.wgsl_text.specs.Statements.{Assign}
 use Rattle.wgsl_text.specs.Statements.{CallStatement, Return, ReturnValue, Discard, Break, Continue}
 use Rattle.wgsl_text.specs.Statements.{If, Loop, LoopBreakIf, Switch, Block, NoBlock, SomeBlock}
 use Rattle.wgsl_text.specs.Statements.{Statements}
@@ -67,7 +68,7 @@ pub data Stack : Type 0 where
   InReject : Expression → Statements → Stack → Stack
   InLoop : Stack → Stack
   InContinuing : Statements → Stack → Stack
-  InCase : Expression → Cases → Labels → Stack → Stack
+  InCase : Expression → Cases → CaseValues → Stack → Stack
   -- parts of a statement
   InLetType : List ℕ → Stack → Stack
   InLet : List ℕ → Stack → Stack
@@ -110,53 +111,53 @@ pub data AttributePart : Type 0 where
 -- what is wanted next, or what has just been read
 pub data State : Type 0 where
   Failed : State
-  Want : Stack → State
+  Expect : Stack → State
   Got : Expression → Stack → State
-  WantOperand : UnaryOperator → Stack → State
-  WantMember : Expression → Stack → State
+  ExpectOperand : UnaryOperator → Stack → State
+  ExpectMember : Expression → Stack → State
   GotIndex : Expression → ℕ → Stack → State
   GotNumberArgument : TypeSpecifier → Arguments → Bool → ℕ → Stack → State
   AfterArgument : TypeSpecifier → Arguments → Stack → State
   InLeastLong : Stack → State
-  WantType : Stack → State
+  ExpectType : Stack → State
   GotType : TypeSpecifier → Stack → State
   AfterPart : List ℕ → TemplateArguments → Stack → State
   LetName : Stack → State
   AfterLetName : List ℕ → Stack → State
-  WantBrace : Stack → State
-  WantEnd : Statement → Stack → State
+  ExpectBrace : Stack → State
+  ExpectEnd : Statement → Stack → State
   AfterBreak : Stack → State
   CloseTwice : Statement → Stack → State
   CloseOnce : Statement → Stack → State
   AtCase : Expression → Cases → Stack → State
-  WantLabel : Expression → Cases → List Label → Stack → State
-  AfterLabel : Expression → Cases → List Label → Label → Stack → State
+  ExpectCaseValue : Expression → Cases → List CaseValue → Stack → State
+  AfterCaseValue : Expression → Cases → List CaseValue → CaseValue → Stack → State
   FunctionName : Stack → State
   AfterFunctionName : List ℕ → Stack → State
-  WantParameter : Stack → State
+  ExpectParameter : Stack → State
   AfterParameterName : List ℕ → Stack → State
   AfterParameters : List ℕ → List Parameter → Stack → State
-  WantResult : Stack → State
+  ExpectResult : Stack → State
   LocalName : Stack → State
   AfterLocalName : List ℕ → Stack → State
   AttributeName : Stack → State
   AttributeOpen : AttributeKind → Stack → State
-  WantAttributePart : AttributeKind → List AttributePart → Stack → State
+  ExpectAttributePart : AttributeKind → List AttributePart → Stack → State
   AfterAttributePart : AttributeKind → List AttributePart → Stack → State
   EnableName : Stack → State
   AfterEnable : List ℕ → Stack → State
   StructName : Stack → State
   AfterStructName : List ℕ → Stack → State
-  WantMemberName : Stack → State
+  ExpectMemberName : Stack → State
   AfterMemberName : List ℕ → Stack → State
   ConstantName : Stack → State
   AfterConstantName : List ℕ → Stack → State
   OverrideName : Stack → State
   AfterOverrideName : List ℕ → Stack → State
   AfterVar : Stack → State
-  WantSpace : Stack → State
+  ExpectSpace : Stack → State
   AfterSpace : List ℕ → Stack → State
-  WantAccess : List ℕ → Stack → State
+  ExpectAccess : List ℕ → Stack → State
   AfterAccess : List ℕ → List ℕ → Stack → State
   GlobalName : Space → Stack → State
   AfterGlobalName : Space → List ℕ → Stack → State
@@ -181,13 +182,13 @@ abbrev pub unwind_cases : Cases → Cases → Cases
 unwind_cases NoCases more = more
 unwind_cases (Case labels body done) more = unwind_cases done (Case labels body more)
 
-abbrev pub unwind_labels : List Label → Labels → Labels
-unwind_labels [] labels = labels
-unwind_labels (l ∷ done) labels = unwind_labels done (MoreLabels l labels)
+abbrev pub unwind_case_values : List CaseValue → CaseValues → CaseValues
+unwind_case_values [] labels = labels
+unwind_case_values (l ∷ done) labels = unwind_case_values done (MoreCaseValues l labels)
 
 -- a statement has been read
 abbrev pub add_statement : Statement → Stack → State
-add_statement st (InStatements done s) = Want (InStatements (Then st done) s)
+add_statement st (InStatements done s) = Expect (InStatements (Then st done) s)
 add_statement st _ = Failed
 
 -- the first, turned round, in front of the second
@@ -201,51 +202,51 @@ function_added [] f p = record p { functions = f ∷ p.functions }
 function_added (a ∷ attributes) f p = let e : EntryPoint = record { stage = a ∷ attributes; function = f } in record p { entry_points = e ∷ p.entry_points }
 
 abbrev pub add_function : Function → Stack → State
-add_function f (InProgram attributes p) = Want (InProgram [] (function_added (turned attributes []) f p))
+add_function f (InProgram attributes p) = Expect (InProgram [] (function_added (turned attributes []) f p))
 add_function f _ = Failed
 
 abbrev pub add_local : List ℕ → TypeSpecifier → Option Expression → Stack → State
 add_local w t value (InLocals f parameters result done s) =
-    let l : Local = record { name = w; type = t; value = value } in Want (InStatements NoStatements (InLocals f parameters result (l ∷ done) s))
+    let l : Local = record { name = w; type = t; value = value } in Expect (InStatements NoStatements (InLocals f parameters result (l ∷ done) s))
 add_local w t value _ = Failed
 
 abbrev pub add_enable : List ℕ → Stack → State
-add_enable w (InProgram attributes p) = Want (InProgram [] (record p { enables = w ∷ p.enables }))
+add_enable w (InProgram attributes p) = Expect (InProgram [] (record p { enables = w ∷ p.enables }))
 add_enable w _ = Failed
 
 abbrev pub add_struct : List ℕ → List StructMember → Stack → State
 add_struct w members (InProgram attributes p) =
-    let d : Struct = record { name = w; members = members } in Want (InProgram [] (record p { structs = d ∷ p.structs }))
+    let d : Struct = record { name = w; members = members } in Expect (InProgram [] (record p { structs = d ∷ p.structs }))
 add_struct w members _ = Failed
 
 abbrev pub add_constant : List ℕ → TypeSpecifier → Expression → Stack → State
 add_constant w t e (InProgram attributes p) =
-    let d : NamedConstant = record { name = w; type = t; value = e } in Want (InProgram [] (record p { constants = d ∷ p.constants }))
+    let d : NamedConstant = record { name = w; type = t; value = e } in Expect (InProgram [] (record p { constants = d ∷ p.constants }))
 add_constant w t e _ = Failed
 
 abbrev pub add_global : Space → List ℕ → TypeSpecifier → Option Expression → Stack → State
 add_global space w t value (InProgram attributes p) =
     let d : Global = record { attributes = turned attributes []; space = space; name = w; type = t; value = value } in
-    Want (InProgram [] (record p { globals = d ∷ p.globals }))
+    Expect (InProgram [] (record p { globals = d ∷ p.globals }))
 add_global space w t value _ = Failed
 
 abbrev pub add_override : List ℕ → TypeSpecifier → Option Expression → Stack → State
 add_override w t value (InProgram attributes p) =
     let d : Override = record { attributes = turned attributes []; name = w; type = t; value = value } in
-    Want (InProgram [] (record p { overrides = d ∷ p.overrides }))
+    Expect (InProgram [] (record p { overrides = d ∷ p.overrides }))
 add_override w t value _ = Failed
 
 -- an attribute has been read: of a declaration, a member, a parameter or a result
 abbrev pub add_attribute : Attribute → Stack → State
-add_attribute a (InProgram attributes p) = Want (InProgram (a ∷ attributes) p)
-add_attribute a (InMembers w done attributes s) = WantMemberName (InMembers w done (a ∷ attributes) s)
-add_attribute a (InParameters f done attributes s) = WantParameter (InParameters f done (a ∷ attributes) s)
-add_attribute a (InResult f parameters attributes s) = WantResult (InResult f parameters (a ∷ attributes) s)
+add_attribute a (InProgram attributes p) = Expect (InProgram (a ∷ attributes) p)
+add_attribute a (InMembers w done attributes s) = ExpectMemberName (InMembers w done (a ∷ attributes) s)
+add_attribute a (InParameters f done attributes s) = ExpectParameter (InParameters f done (a ∷ attributes) s)
+add_attribute a (InResult f parameters attributes s) = ExpectResult (InResult f parameters (a ∷ attributes) s)
 add_attribute a _ = Failed
 
 abbrev pub add_member : List ℕ → TypeSpecifier → Stack → State
 add_member w t (InMembers name done attributes s) =
-    let m : StructMember = record { attributes = turned attributes []; name = w; type = t } in WantMemberName (InMembers name (m ∷ done) [] s)
+    let m : StructMember = record { attributes = turned attributes []; name = w; type = t } in ExpectMemberName (InMembers name (m ∷ done) [] s)
 add_member w t _ = Failed
 
 abbrev pub close_struct : Stack → State
@@ -264,117 +265,117 @@ close_block body (InLocals f parameters result locals s) =
     add_function (record { name = f; parameters = parameters; result = result; locals = turned locals []; body = body }) s
 close_block body _ = Failed
 
-abbrev pub want_close_brace : Stack → State
-want_close_brace (InStatements done s) = close_block (unwind_statements done NoStatements) s
-want_close_brace _ = Failed
+abbrev pub expect_close_brace : Stack → State
+expect_close_brace (InStatements done s) = close_block (unwind_statements done NoStatements) s
+expect_close_brace _ = Failed
 
-abbrev pub want_semicolon : Stack → State
-want_semicolon (InReturn s) = add_statement Return s
-want_semicolon _ = Failed
+abbrev pub expect_semicolon : Stack → State
+expect_semicolon (InReturn s) = add_statement Return s
+expect_semicolon _ = Failed
 
 -- `else` after an `if` that has been read without one
 abbrev pub else_of : Statements → Stack → State
-else_of (Then (If e accept NoBlock) done) s = WantBrace (InReject e accept (InStatements done s))
+else_of (Then (If e accept NoBlock) done) s = ExpectBrace (InReject e accept (InStatements done s))
 else_of _ s = Failed
 
-abbrev pub want_else : Stack → State
-want_else (InStatements done s) = else_of done s
-want_else _ = Failed
+abbrev pub expect_else : Stack → State
+expect_else (InStatements done s) = else_of done s
+expect_else _ = Failed
 
 abbrev pub continuing_of : Statements → Stack → State
-continuing_of body (InLoop s) = WantBrace (InContinuing body s)
+continuing_of body (InLoop s) = ExpectBrace (InContinuing body s)
 continuing_of body _ = Failed
 
-abbrev pub want_continuing : Stack → State
-want_continuing (InStatements done s) = continuing_of (unwind_statements done NoStatements) s
-want_continuing _ = Failed
+abbrev pub expect_continuing : Stack → State
+expect_continuing (InStatements done s) = continuing_of (unwind_statements done NoStatements) s
+expect_continuing _ = Failed
 
-abbrev pub want_var : Stack → State
-want_var (InStatements done s) = LocalName s
-want_var (InProgram attributes p) = AfterVar (InProgram attributes p)
-want_var _ = Failed
+abbrev pub expect_var : Stack → State
+expect_var (InStatements done s) = LocalName s
+expect_var (InProgram attributes p) = AfterVar (InProgram attributes p)
+expect_var _ = Failed
 
 -- a parenthesis opened where an expression is wanted: what stands in it
-abbrev pub want_star : Stack → State
-want_star (InParens s) = Want (InDeref s)
-want_star _ = Failed
+abbrev pub expect_star : Stack → State
+expect_star (InParens s) = Expect (InDeref s)
+expect_star _ = Failed
 
-abbrev pub want_and : Stack → State
-want_and (InParens s) = Want (InAddress s)
-want_and _ = Failed
+abbrev pub expect_and : Stack → State
+expect_and (InParens s) = Expect (InAddress s)
+expect_and _ = Failed
 
 -- the second sign of `>=` and `>>`
-abbrev pub want_equals : Stack → State
-want_equals (InRight a Greater s) = Want (InRight a GreaterEqual s)
-want_equals _ = Failed
+abbrev pub expect_equals : Stack → State
+expect_equals (InRight a Greater s) = Expect (InRight a GreaterEqual s)
+expect_equals _ = Failed
 
-abbrev pub want_greater : Stack → State
-want_greater (InRight a Greater s) = Want (InRight a ShiftRight s)
-want_greater _ = Failed
+abbrev pub expect_greater : Stack → State
+expect_greater (InRight a Greater s) = Expect (InRight a ShiftRight s)
+expect_greater _ = Failed
 
 -- the end of an empty list of arguments
-abbrev pub want_close : Stack → State
-want_close (InArguments t done s) = Got (Call t (unwind_arguments done NoArguments)) s
-want_close _ = Failed
+abbrev pub expect_close : Stack → State
+expect_close (InArguments t done s) = Got (Call t (unwind_arguments done NoArguments)) s
+expect_close _ = Failed
 
-abbrev pub want_mark : Mark → Stack → State
-want_mark OpenParen s = Want (InParens s)
-want_mark CloseParen s = want_close s
-want_mark Minus s = WantOperand Negate s
-want_mark Not s = WantOperand LogicalNot s
-want_mark Tilde s = WantOperand BitwiseNot s
-want_mark Star s = want_star s
-want_mark Ampersand s = want_and s
-want_mark Equals s = want_equals s
-want_mark GreaterThan s = want_greater s
-want_mark KeywordTrue s = Got (Constant (Truth true)) s
-want_mark KeywordFalse s = Got (Constant (Truth false)) s
-want_mark Semicolon s = want_semicolon s
-want_mark OpenBrace s = Want (InStatements NoStatements (InBlock s))
-want_mark CloseBrace s = want_close_brace s
-want_mark KeywordLet s = LetName s
-want_mark KeywordVar s = want_var s
-want_mark KeywordReturn s = Want (InReturn s)
-want_mark KeywordIf s = Want (InCondition s)
-want_mark KeywordElse s = want_else s
-want_mark KeywordLoop s = WantBrace (InLoop s)
-want_mark KeywordContinuing s = want_continuing s
-want_mark KeywordBreak s = AfterBreak s
-want_mark KeywordContinue s = WantEnd Continue s
-want_mark KeywordDiscard s = WantEnd Discard s
-want_mark KeywordSwitch s = Want (InSelector s)
-want_mark KeywordFn s = FunctionName s
-want_mark At s = AttributeName s
-want_mark KeywordEnable s = EnableName s
-want_mark KeywordOverride s = OverrideName s
-want_mark KeywordStruct s = StructName s
-want_mark KeywordConst s = ConstantName s
-want_mark _ s = Failed
+abbrev pub expect_mark : Mark → Stack → State
+expect_mark OpenParen s = Expect (InParens s)
+expect_mark CloseParen s = expect_close s
+expect_mark Minus s = ExpectOperand Negate s
+expect_mark Not s = ExpectOperand LogicalNot s
+expect_mark Tilde s = ExpectOperand BitwiseNot s
+expect_mark Star s = expect_star s
+expect_mark Ampersand s = expect_and s
+expect_mark Equals s = expect_equals s
+expect_mark GreaterThan s = expect_greater s
+expect_mark KeywordTrue s = Got (Constant (Truth true)) s
+expect_mark KeywordFalse s = Got (Constant (Truth false)) s
+expect_mark Semicolon s = expect_semicolon s
+expect_mark OpenBrace s = Expect (InStatements NoStatements (InBlock s))
+expect_mark CloseBrace s = expect_close_brace s
+expect_mark KeywordLet s = LetName s
+expect_mark KeywordVar s = expect_var s
+expect_mark KeywordReturn s = Expect (InReturn s)
+expect_mark KeywordIf s = Expect (InCondition s)
+expect_mark KeywordElse s = expect_else s
+expect_mark KeywordLoop s = ExpectBrace (InLoop s)
+expect_mark KeywordContinuing s = expect_continuing s
+expect_mark KeywordBreak s = AfterBreak s
+expect_mark KeywordContinue s = ExpectEnd Continue s
+expect_mark KeywordDiscard s = ExpectEnd Discard s
+expect_mark KeywordSwitch s = Expect (InSelector s)
+expect_mark KeywordFn s = FunctionName s
+expect_mark At s = AttributeName s
+expect_mark KeywordEnable s = EnableName s
+expect_mark KeywordOverride s = OverrideName s
+expect_mark KeywordStruct s = StructName s
+expect_mark KeywordConst s = ConstantName s
+expect_mark _ s = Failed
 
 -- a number without a suffix stands in an index or among arguments
-abbrev pub want_plain : Bool → ℕ → Stack → State
-want_plain negative n (InIndex e s) = GotIndex e n s
-want_plain negative n (InArguments t done s) = GotNumberArgument t done negative n s
-want_plain negative n _ = Failed
+abbrev pub expect_plain : Bool → ℕ → Stack → State
+expect_plain negative n (InIndex e s) = GotIndex e n s
+expect_plain negative n (InArguments t done s) = GotNumberArgument t done negative n s
+expect_plain negative n _ = Failed
 
-abbrev pub want_number : Suffix → Bool → ℕ → Stack → State
-want_number NoSuffix negative n s = want_plain negative n s
-want_number suffix negative n s = Got (Constant (Suffixed negative n suffix)) s
+abbrev pub expect_number : Suffix → Bool → ℕ → Stack → State
+expect_number NoSuffix negative n s = expect_plain negative n s
+expect_number suffix negative n s = Got (Constant (Suffixed negative n suffix)) s
 
-abbrev pub want_zero : Stack → State
-want_zero (InArguments t done s) = AfterArgument t (ZeroArgument false done) s
-want_zero _ = Failed
+abbrev pub expect_zero : Stack → State
+expect_zero (InArguments t done s) = AfterArgument t (ZeroArgument false done) s
+expect_zero _ = Failed
 
 abbrev pub want : Token → Stack → State
-want (Fixed m) s = want_mark m s
+want (Fixed m) s = expect_mark m s
 want (Word w) s = Got (Name w) s
-want (Number negative n suffix) s = want_number suffix negative n s
+want (Number negative n suffix) s = expect_number suffix negative n s
 want (Decimal negative whole fraction precision) s = Got (Constant (Floating negative whole fraction precision)) s
-want ZeroPointZero s = want_zero s
+want ZeroPointZero s = expect_zero s
 want (Foreign b) s = Failed
 
 abbrev pub after_argument_mark : Mark → TypeSpecifier → Arguments → Stack → State
-after_argument_mark Comma t done s = Want (InArguments t done s)
+after_argument_mark Comma t done s = Expect (InArguments t done s)
 after_argument_mark CloseParen t done s = Got (Call t (unwind_arguments done NoArguments)) s
 after_argument_mark _ t done s = Failed
 
@@ -396,21 +397,21 @@ got_close_bracket i (InIndex e s) = Got (Index e i) s
 got_close_bracket i _ = Failed
 
 abbrev pub got_operator : BinaryOperator → Expression → Stack → State
-got_operator op a (InParens s) = Want (InRight a op s)
+got_operator op a (InParens s) = Expect (InRight a op s)
 got_operator op a _ = Failed
 
 -- arguments follow a word
 abbrev pub got_open : Expression → Stack → State
-got_open (Name w) s = Want (InArguments (Named w) NoArguments s)
+got_open (Name w) s = Expect (InArguments (Named w) NoArguments s)
 got_open _ s = Failed
 
 -- Is this the word of a type, or of a call that takes a type?
 abbrev pub got_less : (List ℕ → Bool) → Expression → Stack → State
-got_less takes_types (Name w) s = cond (takes_types w) (WantType (InTemplate w NoTemplateArguments (InCallee s))) (got_operator Less (Name w) s)
+got_less takes_types (Name w) s = cond (takes_types w) (ExpectType (InTemplate w NoTemplateArguments (InCallee s))) (got_operator Less (Name w) s)
 got_less takes_types e s = got_operator Less e s
 
 abbrev pub call_statement : Expression → Statements → Stack → State
-call_statement (Call t args) done s = Want (InStatements (Then (CallStatement t args) done) s)
+call_statement (Call t args) done s = Expect (InStatements (Then (CallStatement t args) done) s)
 call_statement _ done s = Failed
 
 abbrev pub break_if_in : Expression → Statements → Stack → State
@@ -435,11 +436,11 @@ got_semicolon e (InGlobal space w t s) = add_global space w t (Some e) s
 got_semicolon e _ = Failed
 
 abbrev pub got_equals : Expression → Stack → State
-got_equals e (InStatements done s) = Want (InAssign e (InStatements done s))
+got_equals e (InStatements done s) = Expect (InAssign e (InStatements done s))
 got_equals e _ = Failed
 
 abbrev pub got_open_brace : Expression → Stack → State
-got_open_brace e (InCondition s) = Want (InStatements NoStatements (InAccept e s))
+got_open_brace e (InCondition s) = Expect (InStatements NoStatements (InAccept e s))
 got_open_brace e (InSelector s) = AtCase e NoCases s
 got_open_brace e _ = Failed
 
@@ -447,8 +448,8 @@ abbrev pub got_mark : (List ℕ → Bool) → Mark → Expression → Stack → 
 got_mark b CloseParen e s = got_close e s
 got_mark b CloseBracket e s = got_close_bracket e s
 got_mark b Comma e s = got_comma e s
-got_mark b Dot e s = WantMember e s
-got_mark b OpenBracket e s = Want (InIndex e s)
+got_mark b Dot e s = ExpectMember e s
+got_mark b OpenBracket e s = Expect (InIndex e s)
 got_mark b OpenParen e s = got_open e s
 got_mark b Semicolon e s = got_semicolon e s
 got_mark b Equals e s = got_equals e s
@@ -471,9 +472,9 @@ got_mark b BarBar e s = got_operator LogicalOr e s
 got_mark b LessLess e s = got_operator ShiftLeft e s
 got_mark b _ e s = Failed
 
-abbrev pub want_operand : Mark → UnaryOperator → Stack → State
-want_operand OpenParen op s = Want (InUnary op s)
-want_operand _ op s = Failed
+abbrev pub expect_operand : Mark → UnaryOperator → Stack → State
+expect_operand OpenParen op s = Expect (InUnary op s)
+expect_operand _ op s = Failed
 
 abbrev pub got_index : Mark → Expression → ℕ → Stack → State
 got_index CloseBracket e n s = Got (IndexAt e n) s
@@ -498,7 +499,7 @@ close_number NoArguments t negative n s = wrapped t negative n s
 close_number done t negative n s = Got (Call t (unwind_arguments (number_then done n) NoArguments)) s
 
 abbrev pub got_number_argument : Mark → TypeSpecifier → Arguments → Bool → ℕ → Stack → State
-got_number_argument Comma t done negative n s = Want (InArguments t (number_then done n) s)
+got_number_argument Comma t done negative n s = Expect (InArguments t (number_then done n) s)
 got_number_argument CloseParen t done negative n s = close_number done t negative n s
 got_number_argument Minus t done negative n s = InLeastLong s
 got_number_argument _ t done negative n s = Failed
@@ -509,31 +510,31 @@ in_least_long (Fixed CloseParen) s = Got (Constant LeastLong) s
 in_least_long _ s = Failed
 
 abbrev pub after_part : Mark → List ℕ → TemplateArguments → Stack → State
-after_part Comma w done s = WantType (InTemplate w done s)
+after_part Comma w done s = ExpectType (InTemplate w done s)
 after_part GreaterThan w done s = GotType (Template w (unwind_parts done NoTemplateArguments)) s
 after_part _ w done s = Failed
 
-abbrev pub want_size : ℕ → Stack → State
-want_size n (InTemplate w done s) = AfterPart w (SizeArgument n done) s
-want_size n _ = Failed
+abbrev pub expect_size : ℕ → Stack → State
+expect_size n (InTemplate w done s) = AfterPart w (SizeArgument n done) s
+expect_size n _ = Failed
 
-abbrev pub want_type_greater : Stack → State
-want_type_greater (InTemplate w done s) =
+abbrev pub expect_type_greater : Stack → State
+expect_type_greater (InTemplate w done s) =
     GotType (Template w (unwind_parts done NoTemplateArguments)) s
-want_type_greater _ = Failed
+expect_type_greater _ = Failed
 
-abbrev pub want_type : Token → Stack → State
-want_type (Word w) s = GotType (Named w) s
-want_type (Number negative n suffix) s = want_size n s
-want_type (Fixed GreaterThan) s = want_type_greater s
-want_type _ s = Failed
+abbrev pub expect_type : Token → Stack → State
+expect_type (Word w) s = GotType (Named w) s
+expect_type (Number negative n suffix) s = expect_size n s
+expect_type (Fixed GreaterThan) s = expect_type_greater s
+expect_type _ s = Failed
 
 abbrev pub got_type_less : TypeSpecifier → Stack → State
-got_type_less (Named w) s = WantType (InTemplate w NoTemplateArguments s)
+got_type_less (Named w) s = ExpectType (InTemplate w NoTemplateArguments s)
 got_type_less _ s = Failed
 
 abbrev pub got_type_open : TypeSpecifier → Stack → State
-got_type_open t (InCallee s) = Want (InArguments t NoArguments s)
+got_type_open t (InCallee s) = Expect (InArguments t NoArguments s)
 got_type_open t _ = Failed
 
 abbrev pub add_parameter : List ℕ → TypeSpecifier → Stack → Stack
@@ -546,33 +547,33 @@ close_parameters (InParameters f done attributes s) = AfterParameters f (turned 
 close_parameters _ = Failed
 
 abbrev pub after_parameter : Mark → Stack → State
-after_parameter Comma s = WantParameter s
+after_parameter Comma s = ExpectParameter s
 after_parameter CloseParen s = close_parameters s
 after_parameter _ s = Failed
 
 abbrev pub after_local_type : Mark → List ℕ → TypeSpecifier → Stack → State
 after_local_type Semicolon w t s = add_local w t None s
-after_local_type Equals w t s = Want (InLocalValue w t s)
+after_local_type Equals w t s = Expect (InLocalValue w t s)
 after_local_type _ w t s = Failed
 
 abbrev pub after_override_type : Mark → List ℕ → TypeSpecifier → Stack → State
 after_override_type Semicolon w t s = add_override w t None s
-after_override_type Equals w t s = Want (InOverride w t s)
+after_override_type Equals w t s = Expect (InOverride w t s)
 after_override_type _ w t s = Failed
 
 abbrev pub after_global_type : Mark → Space → List ℕ → TypeSpecifier → Stack → State
 after_global_type Semicolon space w t s = add_global space w t None s
-after_global_type Equals space w t s = Want (InGlobal space w t s)
+after_global_type Equals space w t s = Expect (InGlobal space w t s)
 after_global_type _ space w t s = Failed
 
 abbrev pub got_type_in : Mark → TypeSpecifier → Stack → State
 got_type_in m t (InTemplate w done s) = after_part m w (TypeArgument t done) s
-got_type_in m t (InLetType w s) = Want (InTypedLet w t s)
+got_type_in m t (InLetType w s) = Expect (InTypedLet w t s)
 got_type_in m t (InParameterType f done attributes w s) = after_parameter m (add_parameter w t (InParameters f done attributes s))
-got_type_in m t (InResult f parameters attributes s) = Want (InStatements NoStatements (InLocals f parameters (ResultOf (turned attributes []) t) [] s))
+got_type_in m t (InResult f parameters attributes s) = Expect (InStatements NoStatements (InLocals f parameters (ResultOf (turned attributes []) t) [] s))
 got_type_in m t (InLocalType w s) = after_local_type m w t s
 got_type_in m t (InMemberType w s) = add_member w t s
-got_type_in m t (InConstantType w s) = Want (InConstant w t s)
+got_type_in m t (InConstantType w s) = Expect (InConstant w t s)
 got_type_in m t (InOverrideType w s) = after_override_type m w t s
 got_type_in m t (InGlobalType space w s) = after_global_type m space w t s
 got_type_in m t _ = Failed
@@ -587,71 +588,71 @@ abbrev pub at_mark : (Mark → State) → Token → State
 at_mark f (Fixed m) = f m
 at_mark f _ = Failed
 
-abbrev pub want_member : Token → Expression → Stack → State
-want_member (Word w) e s = Got (Member e w) s
-want_member _ e s = Failed
+abbrev pub expect_member : Token → Expression → Stack → State
+expect_member (Word w) e s = Got (Member e w) s
+expect_member _ e s = Failed
 
 abbrev pub let_name : Token → Stack → State
 let_name (Word w) s = AfterLetName w s
 let_name _ s = Failed
 
 abbrev pub after_let_name : Mark → List ℕ → Stack → State
-after_let_name Colon w s = WantType (InLetType w s)
-after_let_name Equals w s = Want (InLet w s)
+after_let_name Colon w s = ExpectType (InLetType w s)
+after_let_name Equals w s = Expect (InLet w s)
 after_let_name _ w s = Failed
 
-abbrev pub want_brace : Mark → Stack → State
-want_brace OpenBrace s = Want (InStatements NoStatements s)
-want_brace _ s = Failed
+abbrev pub expect_brace : Mark → Stack → State
+expect_brace OpenBrace s = Expect (InStatements NoStatements s)
+expect_brace _ s = Failed
 
-abbrev pub want_end : Mark → Statement → Stack → State
-want_end Semicolon st s = add_statement st s
-want_end _ st s = Failed
+abbrev pub expect_end : Mark → Statement → Stack → State
+expect_end Semicolon st s = add_statement st s
+expect_end _ st s = Failed
 
 abbrev pub after_break : Mark → Stack → State
 after_break Semicolon s = add_statement Break s
-after_break KeywordIf s = Want (InBreakIf s)
+after_break KeywordIf s = Expect (InBreakIf s)
 after_break _ s = Failed
 
 abbrev pub at_case : Mark → Expression → Cases → Stack → State
-at_case KeywordCase e done s = WantLabel e done [] s
-at_case KeywordDefault e done s = AfterLabel e done [] DefaultLabel s
+at_case KeywordCase e done s = ExpectCaseValue e done [] s
+at_case KeywordDefault e done s = AfterCaseValue e done [] DefaultCase s
 at_case CloseBrace e done s = add_statement (Switch e (unwind_cases done NoCases)) s
 at_case _ e done s = Failed
 
-abbrev pub number_label : Suffix → Bool → ℕ → Label
-number_label SuffixU negative n = UnsignedLabel n
-number_label _ negative n = SignedLabel negative n
+abbrev pub number_case_value : Suffix → Bool → ℕ → CaseValue
+number_case_value SuffixU negative n = UnsignedCase n
+number_case_value _ negative n = SignedCase negative n
 
-abbrev pub want_label : Token → Expression → Cases → List Label → Stack → State
-want_label (Fixed KeywordDefault) e done labels s = AfterLabel e done labels DefaultLabel s
-want_label (Number negative n suffix) e done labels s = AfterLabel e done labels (number_label suffix negative n) s
-want_label _ e done labels s = Failed
+abbrev pub expect_case_value : Token → Expression → Cases → List CaseValue → Stack → State
+expect_case_value (Fixed KeywordDefault) e done labels s = AfterCaseValue e done labels DefaultCase s
+expect_case_value (Number negative n suffix) e done labels s = AfterCaseValue e done labels (number_case_value suffix negative n) s
+expect_case_value _ e done labels s = Failed
 
-abbrev pub after_label : Mark → Expression → Cases → List Label → Label → Stack → State
-after_label Comma e done labels l s = WantLabel e done (l ∷ labels) s
-after_label Colon e done labels l s = WantBrace (InCase e done (unwind_labels labels (LastLabel l)) s)
-after_label _ e done labels l s = Failed
+abbrev pub after_case_value : Mark → Expression → Cases → List CaseValue → CaseValue → Stack → State
+after_case_value Comma e done labels l s = ExpectCaseValue e done (l ∷ labels) s
+after_case_value Colon e done labels l s = ExpectBrace (InCase e done (unwind_case_values labels (LastCaseValue l)) s)
+after_case_value _ e done labels l s = Failed
 
 abbrev pub after_parameters : Mark → List ℕ → List Parameter → Stack → State
-after_parameters OpenBrace f ps s = Want (InStatements NoStatements (InLocals f ps NoResult [] s))
+after_parameters OpenBrace f ps s = Expect (InStatements NoStatements (InLocals f ps NoResult [] s))
 after_parameters Minus f ps s = AfterParameters f ps s
-after_parameters GreaterThan f ps s = WantResult (InResult f ps [] s)
+after_parameters GreaterThan f ps s = ExpectResult (InResult f ps [] s)
 after_parameters _ f ps s = Failed
 
 abbrev pub after_parameter_name : List ℕ → Stack → State
-after_parameter_name w (InParameters f done attributes s) = WantType (InParameterType f done attributes w s)
+after_parameter_name w (InParameters f done attributes s) = ExpectType (InParameterType f done attributes w s)
 after_parameter_name w _ = Failed
 
-abbrev pub want_parameter : Token → Stack → State
-want_parameter (Word w) s = AfterParameterName w s
-want_parameter (Fixed At) s = AttributeName s
-want_parameter (Fixed CloseParen) s = close_parameters s
-want_parameter _ s = Failed
+abbrev pub expect_parameter : Token → Stack → State
+expect_parameter (Word w) s = AfterParameterName w s
+expect_parameter (Fixed At) s = AttributeName s
+expect_parameter (Fixed CloseParen) s = close_parameters s
+expect_parameter _ s = Failed
 
-abbrev pub want_result : Token → Stack → State
-want_result (Fixed At) s = AttributeName s
-want_result t s = want_type t s
+abbrev pub expect_result : Token → Stack → State
+expect_result (Fixed At) s = AttributeName s
+expect_result t s = expect_type t s
 
 -- the attribute of a word
 abbrev pub plain_among : List PlainAttribute → List ℕ → AttributeKind → AttributeKind
@@ -681,10 +682,10 @@ abbrev pub attribute_name : Token → Stack → State
 attribute_name (Word w) s = attribute_named (kind_of w) s
 attribute_name _ s = Failed
 
-abbrev pub want_attribute_part : Token → AttributeKind → List AttributePart → Stack → State
-want_attribute_part (Word w) kind done s = AfterAttributePart kind (WordPart w ∷ done) s
-want_attribute_part (Number negative n suffix) kind done s = AfterAttributePart kind (NumberPart n ∷ done) s
-want_attribute_part _ kind done s = Failed
+abbrev pub expect_attribute_part : Token → AttributeKind → List AttributePart → Stack → State
+expect_attribute_part (Word w) kind done s = AfterAttributePart kind (WordPart w ∷ done) s
+expect_attribute_part (Number negative n suffix) kind done s = AfterAttributePart kind (NumberPart n ∷ done) s
+expect_attribute_part _ kind done s = Failed
 
 -- an attribute of these parts, the newest first
 abbrev pub close_attribute : AttributeKind → List AttributePart → Stack → State
@@ -695,7 +696,7 @@ close_attribute SizeKind (NumberPart z ∷ NumberPart y ∷ NumberPart x ∷ [])
 close_attribute kind parts s = Failed
 
 abbrev pub after_attribute_part : Mark → AttributeKind → List AttributePart → Stack → State
-after_attribute_part Comma kind done s = WantAttributePart kind done s
+after_attribute_part Comma kind done s = ExpectAttributePart kind done s
 after_attribute_part CloseParen kind done s = close_attribute kind done s
 after_attribute_part _ kind done s = Failed
 
@@ -704,75 +705,75 @@ abbrev pub at_word : (List ℕ → State) → Token → State
 at_word f (Word w) = f w
 at_word f _ = Failed
 
-abbrev pub want_member_name : Token → Stack → State
-want_member_name (Word w) s = AfterMemberName w s
-want_member_name (Fixed At) s = AttributeName s
-want_member_name (Fixed CloseBrace) s = close_struct s
-want_member_name _ s = Failed
+abbrev pub expect_member_name : Token → Stack → State
+expect_member_name (Word w) s = AfterMemberName w s
+expect_member_name (Fixed At) s = AttributeName s
+expect_member_name (Fixed CloseBrace) s = close_struct s
+expect_member_name _ s = Failed
 
 abbrev pub after_var : Token → Stack → State
 after_var (Word w) s = AfterGlobalName NoSpace w s
-after_var (Fixed LessThan) s = WantSpace s
+after_var (Fixed LessThan) s = ExpectSpace s
 after_var _ s = Failed
 
 abbrev pub after_space : Mark → List ℕ → Stack → State
-after_space Comma a s = WantAccess a s
+after_space Comma a s = ExpectAccess a s
 after_space GreaterThan a s = GlobalName (SpaceAlone a) s
 after_space _ a s = Failed
 
 -- takes_types: is this the word of a type, or of a call that takes a type?
 abbrev pub step : (List ℕ → Bool) → State → Token → State
 step takes_types Failed t = Failed
-step takes_types (Want s) t = want t s
+step takes_types (Expect s) t = want t s
 step takes_types (Got e s) t = at_mark (λ m. got_mark takes_types m e s) t
-step takes_types (WantOperand op s) t = at_mark (λ m. want_operand m op s) t
-step takes_types (WantMember e s) t = want_member t e s
+step takes_types (ExpectOperand op s) t = at_mark (λ m. expect_operand m op s) t
+step takes_types (ExpectMember e s) t = expect_member t e s
 step takes_types (GotIndex e n s) t = at_mark (λ m. got_index m e n s) t
 step takes_types (GotNumberArgument c done negative n s) t = at_mark (λ m. got_number_argument m c done negative n s) t
 step takes_types (AfterArgument c done s) t = at_mark (λ m. after_argument_mark m c done s) t
 step takes_types (InLeastLong s) t = in_least_long t s
-step takes_types (WantType s) t = want_type t s
+step takes_types (ExpectType s) t = expect_type t s
 step takes_types (GotType c s) t = at_mark (λ m. got_type m c s) t
 step takes_types (AfterPart w done s) t = at_mark (λ m. after_part m w done s) t
 step takes_types (LetName s) t = let_name t s
 step takes_types (AfterLetName w s) t = at_mark (λ m. after_let_name m w s) t
-step takes_types (WantBrace s) t = at_mark (λ m. want_brace m s) t
-step takes_types (WantEnd st s) t = at_mark (λ m. want_end m st s) t
+step takes_types (ExpectBrace s) t = at_mark (λ m. expect_brace m s) t
+step takes_types (ExpectEnd st s) t = at_mark (λ m. expect_end m st s) t
 step takes_types (AfterBreak s) t = at_mark (λ m. after_break m s) t
 step takes_types (CloseTwice st s) t = CloseOnce st s
 step takes_types (CloseOnce st s) t = add_statement st s
 step takes_types (AtCase e done s) t = at_mark (λ m. at_case m e done s) t
-step takes_types (WantLabel e done labels s) t = want_label t e done labels s
-step takes_types (AfterLabel e done labels l s) t = at_mark (λ m. after_label m e done labels l s) t
+step takes_types (ExpectCaseValue e done labels s) t = expect_case_value t e done labels s
+step takes_types (AfterCaseValue e done labels l s) t = at_mark (λ m. after_case_value m e done labels l s) t
 step takes_types (FunctionName s) t = at_word (λ w. AfterFunctionName w s) t
-step takes_types (AfterFunctionName w s) t = WantParameter (InParameters w [] [] s)
-step takes_types (WantParameter s) t = want_parameter t s
+step takes_types (AfterFunctionName w s) t = ExpectParameter (InParameters w [] [] s)
+step takes_types (ExpectParameter s) t = expect_parameter t s
 step takes_types (AfterParameterName w s) t = after_parameter_name w s
 step takes_types (AfterParameters f parameters s) t = at_mark (λ m. after_parameters m f parameters s) t
-step takes_types (WantResult s) t = want_result t s
+step takes_types (ExpectResult s) t = expect_result t s
 step takes_types (LocalName s) t = at_word (λ w. AfterLocalName w s) t
-step takes_types (AfterLocalName w s) t = WantType (InLocalType w s)
+step takes_types (AfterLocalName w s) t = ExpectType (InLocalType w s)
 step takes_types (AttributeName s) t = attribute_name t s
-step takes_types (AttributeOpen kind s) t = WantAttributePart kind [] s
-step takes_types (WantAttributePart kind done s) t = want_attribute_part t kind done s
+step takes_types (AttributeOpen kind s) t = ExpectAttributePart kind [] s
+step takes_types (ExpectAttributePart kind done s) t = expect_attribute_part t kind done s
 step takes_types (AfterAttributePart kind done s) t = at_mark (λ m. after_attribute_part m kind done s) t
 step takes_types (EnableName s) t = at_word (λ w. AfterEnable w s) t
 step takes_types (AfterEnable w s) t = add_enable w s
 step takes_types (StructName s) t = at_word (λ w. AfterStructName w s) t
-step takes_types (AfterStructName w s) t = WantMemberName (InMembers w [] [] s)
-step takes_types (WantMemberName s) t = want_member_name t s
-step takes_types (AfterMemberName w s) t = WantType (InMemberType w s)
+step takes_types (AfterStructName w s) t = ExpectMemberName (InMembers w [] [] s)
+step takes_types (ExpectMemberName s) t = expect_member_name t s
+step takes_types (AfterMemberName w s) t = ExpectType (InMemberType w s)
 step takes_types (ConstantName s) t = at_word (λ w. AfterConstantName w s) t
-step takes_types (AfterConstantName w s) t = WantType (InConstantType w s)
+step takes_types (AfterConstantName w s) t = ExpectType (InConstantType w s)
 step takes_types (OverrideName s) t = at_word (λ w. AfterOverrideName w s) t
-step takes_types (AfterOverrideName w s) t = WantType (InOverrideType w s)
+step takes_types (AfterOverrideName w s) t = ExpectType (InOverrideType w s)
 step takes_types (AfterVar s) t = after_var t s
-step takes_types (WantSpace s) t = at_word (λ a. AfterSpace a s) t
+step takes_types (ExpectSpace s) t = at_word (λ a. AfterSpace a s) t
 step takes_types (AfterSpace a s) t = at_mark (λ m. after_space m a s) t
-step takes_types (WantAccess a s) t = at_word (λ m. AfterAccess a m s) t
+step takes_types (ExpectAccess a s) t = at_word (λ m. AfterAccess a m s) t
 step takes_types (AfterAccess a m s) t = GlobalName (SpaceAndAccess a m) s
 step takes_types (GlobalName space s) t = at_word (λ w. AfterGlobalName space w s) t
-step takes_types (AfterGlobalName space w s) t = WantType (InGlobalType space w s)
+step takes_types (AfterGlobalName space w s) t = ExpectType (InGlobalType space w s)
 
 abbrev pub run : (List ℕ → Bool) → List Piece → State → State
 run takes_types [] state = state

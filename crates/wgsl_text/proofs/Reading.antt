@@ -24,7 +24,7 @@ use Rattle.wgsl_text.specs.Reading.{ReadsType, ReadsExpression, ReadsStatement, 
 use Rattle.wgsl_text.specs.Reading.{ReadsEntryPoint, entry_point_layout}
 use Rattle.wgsl_text.specs.Reading.{Reads, type_layout, expression_layout, statement_layout}
 use Rattle.wgsl_text.specs.Reading.{function_layout, layout, HasOneReading}
-use Rattle.wgsl_text.proofs.Machine.{State, Want, WantType, Got, GotType, Bottom, InStatements}
+use Rattle.wgsl_text.proofs.Machine.{State, Expect, ExpectType, Got, GotType, Bottom, InStatements}
 use Rattle.wgsl_text.proofs.Machine.{InProgram, step, run}
 
 abbrev pub read : List Token → State → State
@@ -42,30 +42,30 @@ run_reads (Indent n ∷ ps) s = run_reads ps s
 reads_to : {ps : List Piece} {s s' : State} {ts : List Token} → ts ≡ tokens_in ps → Runs ps s s' → read ts s ≡ s'
 reads_to {ps} {s} e r = ap (λ v. read v s) e ∙ (sym (run_reads ps s) ∙ r.to)
 
-pub type_read : {ts : List Token} (t : TypeSpecifier) → ReadsType ts t → read ts (WantType Bottom) ≡ GotType t Bottom
+pub type_read : {ts : List Token} (t : TypeSpecifier) → ReadsType ts t → read ts (ExpectType Bottom) ≡ GotType t Bottom
 type_read t r = reads_to r.tokens (type_runs t r.form.part Bottom)
 
-pub expression_read : {ts : List Token} (e : Expression) → ReadsExpression ts e → read ts (Want Bottom) ≡ Got e Bottom
+pub expression_read : {ts : List Token} (e : Expression) → ReadsExpression ts e → read ts (Expect Bottom) ≡ Got e Bottom
 expression_read e r = reads_to r.tokens (expression_runs e r.form Bottom)
 
-statement_read : {ts : List Token} (st : Statement) → ReadsStatement ts st → read ts (Want (InStatements NoStatements Bottom)) ≡ Want (InStatements (Then st NoStatements) Bottom)
+statement_read : {ts : List Token} (st : Statement) → ReadsStatement ts st → read ts (Expect (InStatements NoStatements Bottom)) ≡ Expect (InStatements (Then st NoStatements) Bottom)
 statement_read st r = reads_to r.tokens (statement_runs st r.form r.level NoStatements Bottom)
 
 -- a program of one function
 abbrev only_function : Function → Program
 only_function f = record no_declarations { functions = f ∷ [] }
 
-function_read : {ts : List Token} (f : Function) → ReadsFunction ts f → read ts (Want (InProgram [] no_declarations)) ≡ Want (InProgram [] (only_function f))
+function_read : {ts : List Token} (f : Function) → ReadsFunction ts f → read ts (Expect (InProgram [] no_declarations)) ≡ Expect (InProgram [] (only_function f))
 function_read f r = reads_to r.tokens (function_runs f r.form [] no_declarations)
 
 -- a program of one entry point
 abbrev only_entry_point : EntryPoint → Program
 only_entry_point e = record no_declarations { entry_points = e ∷ [] }
 
-entry_point_read : {ts : List Token} (e : EntryPoint) → ReadsEntryPoint ts e → read ts (Want (InProgram [] no_declarations)) ≡ Want (InProgram [] (only_entry_point e))
+entry_point_read : {ts : List Token} (e : EntryPoint) → ReadsEntryPoint ts e → read ts (Expect (InProgram [] no_declarations)) ≡ Expect (InProgram [] (only_entry_point e))
 entry_point_read e r = reads_to r.tokens (entry_point_runs e r.form no_declarations)
 
-pub program_read : {ts : List Token} (p : Program) → Reads ts p → read ts (Want (InProgram [] no_declarations)) ≡ Want (InProgram [] (newest_first p))
+pub program_read : {ts : List Token} (p : Program) → Reads ts p → read ts (Expect (InProgram [] no_declarations)) ≡ Expect (InProgram [] (newest_first p))
 program_read p r = reads_to r.tokens (program_runs p r.form)
 
 pub same_type : (a b : TypeSpecifier) (s : State) → s ≡ GotType a Bottom → s ≡ GotType b Bottom → a ≡ b
@@ -74,10 +74,10 @@ same_type a b s e f = cc
 pub same_expression : (a b : Expression) (s : State) → s ≡ Got a Bottom → s ≡ Got b Bottom → a ≡ b
 same_expression a b s e f = cc
 
-same_statement : (a b : Statement) (s : State) → s ≡ Want (InStatements (Then a NoStatements) Bottom) → s ≡ Want (InStatements (Then b NoStatements) Bottom) → a ≡ b
+same_statement : (a b : Statement) (s : State) → s ≡ Expect (InStatements (Then a NoStatements) Bottom) → s ≡ Expect (InStatements (Then b NoStatements) Bottom) → a ≡ b
 same_statement a b s e f = cc
 
-pub same_program : (a b : Program) (s : State) → s ≡ Want (InProgram [] a) → s ≡ Want (InProgram [] b) → a ≡ b
+pub same_program : (a b : Program) (s : State) → s ≡ Expect (InProgram [] a) → s ≡ Expect (InProgram [] b) → a ≡ b
 same_program a b s e f = cc
 
 -- Two trees with the same tokens are one.

@@ -11,8 +11,9 @@ use Rattle.wgsl_text.specs.Expressions.{NoArguments, Argument, NumberArgument, Z
 use Rattle.wgsl_text.specs.Attributes.{Compute, Location, Size, Align, Builtin, Attribute, Plain}
 use Rattle.wgsl_text.specs.Attributes.{Numbered, Worded}
 use Rattle.wgsl_text.specs.Functions.{NoResult}
-use Rattle.wgsl_text.specs.Statements.{Case, Cases, DefaultLabel, LastLabel, MoreLabels, NoCases}
-use Rattle.wgsl_text.specs.Statements.{NoStatements, SignedLabel, Switch}
+use Rattle.wgsl_text.specs.Statements.{Case, Cases, DefaultCase, LastCaseValue, MoreCaseValues}
+use Rattle.wgsl_text.specs.Statements.{NoCases}
+use Rattle.wgsl_text.specs.Statements.{NoStatements, SignedCase, Switch}
 use Rattle.wgsl_text.specs.Declarations.{Program, no_declarations}
 use Rattle.wgsl_text.proofs.Declarations.{newest_first, newest_twice}
 use Rattle.wgsl_text.specs.Words.{is_reserved, is_builtin}
@@ -20,7 +21,7 @@ use Rattle.wgsl_text.specs.WorkedTrees.{named_type, name, call, parameter, funct
 use Rattle.wgsl_text.specs.WorkedTrees.{member, struct}
 use Rattle.wgsl_text.specs.Reading.{ReadsType, ReadsExpression, Reads}
 use Rattle.wgsl_text.specs.Refused.{RefusedTexts, IsNoExpression}
-use Rattle.wgsl_text.proofs.Machine.{State, Want, WantType, Got, GotType, Bottom, InProgram}
+use Rattle.wgsl_text.proofs.Machine.{State, Expect, ExpectType, Got, GotType, Bottom, InProgram}
 use Rattle.wgsl_text.proofs.Reading.{read, type_read, expression_read, program_read, same_type}
 use Rattle.wgsl_text.proofs.Reading.{same_expression, same_program}
 
@@ -33,30 +34,30 @@ is_expression (Got e Bottom) = true
 is_expression _ = false
 
 abbrev is_program : State → Bool
-is_program (Want (InProgram [] p)) = true
+is_program (Expect (InProgram [] p)) = true
 is_program _ = false
 
 -- Where the machine stops elsewhere, nothing is read.
-no_type : (ts : List Token) → is_type (read ts (WantType Bottom)) ≡ false → (t : TypeSpecifier) → ReadsType ts t → ⊥
+no_type : (ts : List Token) → is_type (read ts (ExpectType Bottom)) ≡ false → (t : TypeSpecifier) → ReadsType ts t → ⊥
 no_type ts stops t r = false≢true (sym stops ∙ ap is_type (type_read t r))
 
-no_expression : (ts : List Token) → is_expression (read ts (Want Bottom)) ≡ false → (e : Expression) → ReadsExpression ts e → ⊥
+no_expression : (ts : List Token) → is_expression (read ts (Expect Bottom)) ≡ false → (e : Expression) → ReadsExpression ts e → ⊥
 no_expression ts stops e r = false≢true (sym stops ∙ ap is_expression (expression_read e r))
 
-no_program : (ts : List Token) → is_program (read ts (Want (InProgram [] no_declarations))) ≡ false → (p : Program) → Reads ts p → ⊥
+no_program : (ts : List Token) → is_program (read ts (Expect (InProgram [] no_declarations))) ≡ false → (p : Program) → Reads ts p → ⊥
 no_program ts stops p r = false≢true (sym stops ∙ ap is_program (program_read p r))
 
 -- Where the machine finds a tree, no other is read.
-the_expression : (ts : List Token) (found e : Expression) → read ts (Want Bottom) ≡ Got found Bottom → ReadsExpression ts e → e ≡ found
-the_expression ts found e f r = same_expression e found (read ts (Want Bottom)) (expression_read e r) f
+the_expression : (ts : List Token) (found e : Expression) → read ts (Expect Bottom) ≡ Got found Bottom → ReadsExpression ts e → e ≡ found
+the_expression ts found e f r = same_expression e found (read ts (Expect Bottom)) (expression_read e r) f
 
-found_expression : (ts : List Token) (found : Expression) → read ts (Want Bottom) ≡ Got found Bottom → (ReadsExpression ts found → ⊥) → (e : Expression) → ReadsExpression ts e → ⊥
+found_expression : (ts : List Token) (found : Expression) → read ts (Expect Bottom) ≡ Got found Bottom → (ReadsExpression ts found → ⊥) → (e : Expression) → ReadsExpression ts e → ⊥
 found_expression ts found f refused e r = refused (subst (ReadsExpression ts) (the_expression ts found e f r) r)
 
-found_type : (ts : List Token) (found : TypeSpecifier) → read ts (WantType Bottom) ≡ GotType found Bottom → (ReadsType ts found → ⊥) → (t : TypeSpecifier) → ReadsType ts t → ⊥
-found_type ts found f refused t r = refused (subst (ReadsType ts) (same_type t found (read ts (WantType Bottom)) (type_read t r) f) r)
+found_type : (ts : List Token) (found : TypeSpecifier) → read ts (ExpectType Bottom) ≡ GotType found Bottom → (ReadsType ts found → ⊥) → (t : TypeSpecifier) → ReadsType ts t → ⊥
+found_type ts found f refused t r = refused (subst (ReadsType ts) (same_type t found (read ts (ExpectType Bottom)) (type_read t r) f) r)
 
-found_program : (ts : List Token) (found : Program) → read ts (Want (InProgram [] no_declarations)) ≡ Want (InProgram [] found) → (Reads ts (newest_first found) → ⊥) → (p : Program) → Reads ts p → ⊥
+found_program : (ts : List Token) (found : Program) → read ts (Expect (InProgram [] no_declarations)) ≡ Expect (InProgram [] found) → (Reads ts (newest_first found) → ⊥) → (p : Program) → Reads ts p → ⊥
 found_program ts found f refused p r = refused (subst (Reads ts) (sym (newest_twice p) ∙ ap newest_first (same_program (newest_first p) found _ (program_read p r) f)) r)
 
 member_of_unary : IsNoExpression (codes "-(v).x")
@@ -181,21 +182,21 @@ refused = record {
   cut = no_program _ refl;
   break_if_first = no_program _ refl;
   no_default =
-      found_program _ (of_switch (Case (LastLabel (SignedLabel false 1)) NoStatements NoCases)) refl
+      found_program _ (of_switch (Case (LastCaseValue (SignedCase false 1)) NoStatements NoCases)) refl
       (λ r. false≢true r.form.functions.0.body.0.2);
   default_twice_in_a_case =
-      found_program _ (of_switch (Case (MoreLabels DefaultLabel (LastLabel DefaultLabel)) NoStatements NoCases)) refl
+      found_program _ (of_switch (Case (MoreCaseValues DefaultCase (LastCaseValue DefaultCase)) NoStatements NoCases)) refl
       (λ r. false≢true r.form.functions.0.body.0.2);
   two_defaults =
       found_program _
       (of_switch
-      (Case (MoreLabels (SignedLabel false 1) (LastLabel DefaultLabel)) NoStatements
-      (Case (LastLabel DefaultLabel) NoStatements NoCases))) refl
+      (Case (MoreCaseValues (SignedCase false 1) (LastCaseValue DefaultCase)) NoStatements
+      (Case (LastCaseValue DefaultCase) NoStatements NoCases))) refl
       (λ r. false≢true r.form.functions.0.body.0.2);
   two_sizes = found_program _ (of_member (Numbered Size 16 ∷ Numbered Size 16 ∷ [])) refl (λ r. false≢true r.form.structs.0.members.0.binding);
   two_alignments = found_program _ (of_member (Numbered Align 8 ∷ Numbered Align 8 ∷ [])) refl (λ r. false≢true r.form.structs.0.members.0.binding);
-  size_behind_alignment = found_program _ (of_member (Numbered Align 16 ∷ Numbered Size 16 ∷ [])) refl (λ r. false≢true r.form.structs.0.members.0.binding);
-  size_behind_binding = found_program _ (of_member (Numbered Location 0 ∷ Numbered Size 16 ∷ [])) refl (λ r. false≢true r.form.structs.0.members.0.binding);
+  size_after_alignment = found_program _ (of_member (Numbered Align 16 ∷ Numbered Size 16 ∷ [])) refl (λ r. false≢true r.form.structs.0.members.0.binding);
+  size_after_binding = found_program _ (of_member (Numbered Location 0 ∷ Numbered Size 16 ∷ [])) refl (λ r. false≢true r.form.structs.0.members.0.binding);
   unknown_enable = found_program _ (record no_declarations { enables = codes "f61" ∷ [] }) refl (λ r. false≢true r.form.enables.0);
   unknown_builtin_value = found_program _ unknown_builtin_value_tree refl (λ r. false≢true r.form.functions.0.parameters.0.attributes.0);
   stage_without_size = found_program _ stage_without_size_tree refl (λ r. false≢true r.form.entry_points.0.stage);

@@ -31,7 +31,7 @@ use Rattle.wgsl_text.specs.Words.{is_reserved}
 use Rattle.wgsl_text.specs.Text.{Lexeme, Takes, Skips, mark_text, suffix_text, starts_with}
 use Rattle.wgsl_text.specs.Text.{word_length, digits_length, keyword_among, keywords, word_token}
 use Rattle.wgsl_text.specs.Text.{word_lexeme, suffix_at, is_point_zero, is_empty, number_of}
-use Rattle.wgsl_text.specs.Text.{number_lexeme, one_more, minus_lexeme, sign_or, lexeme, behind}
+use Rattle.wgsl_text.specs.Text.{number_lexeme, one_more, minus_lexeme, sign_or, lexeme, following}
 use Rattle.wgsl_text.specs.Text.{scan, single, single_signs, sign_lexeme, tokens}
 use Rattle.wgsl_text.specs.Spelling.{is_sign, number_text, Spells, SpellsWord, SpellsNumber}
 use Rattle.wgsl_text.specs.Spelling.{SpellsZeroPointZero, SpellsSign, is_blank, Begins, AtBlank}
@@ -578,7 +578,7 @@ front_long b bytes other rest u s e = subst (λ v. AtLeast (length other) (lexem
 
 pub begins : (b : ℕ) (bytes : List ℕ) → Begins b bytes
 begins b bytes = elim (answer b bytes) [
-  | Skipped blank l ↦ AtBlank blank (ap (λ v. behind v (scan bytes)) l)
+  | Skipped blank l ↦ AtBlank blank (ap (λ v. following v (scan bytes)) l)
   | Spelled front rest t whole s l ↦
       AtToken (b ∷ front) rest t
       (record {
@@ -586,25 +586,25 @@ begins b bytes = elim (answer b bytes) [
         spells = s;
         longest = λ other after u e so. (subst (AtLeast (length other)) l (front_long b bytes other after u so e)).1;
       })
-      (ap (λ v. behind v (scan bytes)) l ∙ ap (λ ts. t ∷ ts) (ap (λ v. scan v (length front)) whole ∙ past front rest))
+      (ap (λ v. following v (scan bytes)) l ∙ ap (λ ts. t ∷ ts) (ap (λ v. scan v (length front)) whole ∙ past front rest))
   | Unknown plain l ↦
-      AtForeign plain (λ front rest t e s. (subst (AtLeast (length front)) l (front_long b bytes front rest t s e)).0) (ap (λ v. behind v (scan bytes)) l)
+      AtForeign plain (λ front rest t e s. (subst (AtLeast (length front)) l (front_long b bytes front rest t s e)).0) (ap (λ v. following v (scan bytes)) l)
 ]
 
 -- Bytes that spell a token are that token alone.
 
-nothing_behind : (suffix : Suffix) → ends_number suffix [] ≡ true
-nothing_behind NoSuffix = refl
-nothing_behind SuffixI = refl
-nothing_behind SuffixU = refl
-nothing_behind SuffixLi = refl
-nothing_behind SuffixLu = refl
+nothing_after : (suffix : Suffix) → ends_number suffix [] ≡ true
+nothing_after NoSuffix = refl
+nothing_after SuffixI = refl
+nothing_after SuffixU = refl
+nothing_after SuffixLi = refl
+nothing_after SuffixLu = refl
 
 number_alone : (negative : Bool) (ds : List ℕ) (suffix : Suffix) → 0 < length ds →
     all_ascii_digits ds ≡ true → tokens (number_text negative ds suffix) ≡ Number negative
     (digits_value 10 ds) suffix ∷ []
-number_alone false ds suffix some is = ap (λ v. scan (ds ++ v) 0) (sym (append-nil (suffix_text suffix))) ∙ number_scans false ds suffix [] some is (nothing_behind suffix)
-number_alone true ds suffix some is = ap (λ v. scan (45 ∷ (ds ++ v)) 0) (sym (append-nil (suffix_text suffix))) ∙ number_scans true ds suffix [] some is (nothing_behind suffix)
+number_alone false ds suffix some is = ap (λ v. scan (ds ++ v) 0) (sym (append-nil (suffix_text suffix))) ∙ number_scans false ds suffix [] some is (nothing_after suffix)
+number_alone true ds suffix some is = ap (λ v. scan (45 ∷ (ds ++ v)) 0) (sym (append-nil (suffix_text suffix))) ∙ number_scans true ds suffix [] some is (nothing_after suffix)
 
 decimal_alone : (negative : Bool) (whole fraction : List ℕ) (precision : Precision) → AreDigits whole →
     all_ascii_digits fraction ≡ true → IsPrecision precision → tokens (decimal_text negative whole fraction precision) ≡ Decimal negative whole fraction precision ∷ []

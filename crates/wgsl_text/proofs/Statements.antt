@@ -3,20 +3,25 @@
 use Rattle.std.proofs.Common.{◌≡◌, ℕ, suc, true, false, List, [], ◌∷◌, ◌++◌, refl, ap, append_assoc}
 use Rattle.std.proofs.Common.{arith}
 use Rattle.wgsl_text.specs.Expressions.{Expression, Arguments, arguments_pieces}
-use Rattle.wgsl_text.specs.Statements.{Label, DefaultLabel, SignedLabel, UnsignedLabel, Labels}
-use Rattle.wgsl_text.specs.Statements.{LastLabel, MoreLabels, Statement, Let, TypedLet, Assign}
+use Rattle.wgsl_text.specs.Statements.{CaseValue, DefaultCase, SignedCase, UnsignedCase, CaseValues}
+use Rattle.wgsl_text.specs.Statements.{LastCaseValue, MoreCaseValues, Statement, Let, TypedLet}
+use Rattle.wgsl_text.specs.Statements.{Assign}
 use Rattle.wgsl_text.specs.Statements.{CallStatement, ReturnValue, If, Loop, LoopBreakIf, Switch}
 use Rattle.wgsl_text.specs.Statements.{Block, Statements, NoStatements, Then, Cases, NoCases, Case}
-use Rattle.wgsl_text.specs.Statements.{label_pieces, labels_pieces, case_pieces, statement_pieces}
+use Rattle.wgsl_text.specs.Statements.{case_value_pieces, case_values_pieces, case_pieces}
+use Rattle.wgsl_text.specs.Statements.{statement_pieces}
 use Rattle.wgsl_text.specs.Statements.{statements_pieces, else_pieces, continuing_pieces}
-use Rattle.wgsl_text.specs.Statements.{cases_pieces, IsLabel, IsLabels, IsStatement, IsStatements}
+use Rattle.wgsl_text.specs.Statements.{cases_pieces, IsCaseValue, AreCaseValues, IsStatement}
+use Rattle.wgsl_text.specs.Statements.{IsStatements}
 use Rattle.wgsl_text.specs.Statements.{IsCases, OptionalBlock, NoBlock, SomeBlock, IsOptionalBlock}
 use Rattle.wgsl_text.specs.Token.{CloseBrace, KeywordContinuing, NoSuffix, Number, Piece, LineEnd}
 use Rattle.wgsl_text.specs.Token.{mark}
 use Rattle.wgsl_text.specs.Types.{TypeSpecifier}
-use Rattle.wgsl_text.proofs.Machine.{Stack, State, Want, InStatements, InLoop, InContinuing, InCase}
-use Rattle.wgsl_text.proofs.Machine.{CloseTwice, WantBrace, CloseOnce, AtCase, WantLabel}
-use Rattle.wgsl_text.proofs.Machine.{AfterLabel, unwind_statements, unwind_cases, unwind_labels}
+use Rattle.wgsl_text.proofs.Machine.{Stack, State, Expect, InStatements, InLoop, InContinuing}
+use Rattle.wgsl_text.proofs.Machine.{InCase}
+use Rattle.wgsl_text.proofs.Machine.{CloseTwice, ExpectBrace, CloseOnce, AtCase, ExpectCaseValue}
+use Rattle.wgsl_text.proofs.Machine.{AfterCaseValue, unwind_statements, unwind_cases}
+use Rattle.wgsl_text.proofs.Machine.{unwind_case_values}
 use Rattle.wgsl_text.proofs.Machine.{add_statement, close_block}
 use Rattle.wgsl_text.proofs.Chain.{◌$◌}
 use Rattle.wgsl_text.proofs.Closing.{Closed, none, line, gap, indent, tok, free, sign, part, ◌then◌}
@@ -51,44 +56,44 @@ unwind_rewind_cases NoCases done = refl
 unwind_rewind_cases (Case labels body more) done = unwind_rewind_cases more (Case labels body done)
 
 -- the brace after statements
-pub closes : (ss : Statements) {s : Stack} {qs : List Piece} {s' : State} → Runs qs (close_block ss s) s' → Runs (mark CloseBrace ∷ qs) (Want (InStatements (rewind_statements ss NoStatements) s)) s'
+pub closes : (ss : Statements) {s : Stack} {qs : List Piece} {s' : State} → Runs qs (close_block ss s) s' → Runs (mark CloseBrace ∷ qs) (Expect (InStatements (rewind_statements ss NoStatements) s)) s'
 closes ss {s} b = reads $ as_state (ap (λ body. close_block body s) (unwind_rewind ss NoStatements)) b
 
-label_runs : (l : Label) (e : Expression) (done : Cases) (labels : List Label) (s : Stack) → Runs (label_pieces l) (WantLabel e done labels s) (AfterLabel e done labels l s)
-label_runs DefaultLabel e done labels s = at_end
-label_runs _ e done labels s = at_end
+case_value_runs : (l : CaseValue) (e : Expression) (done : Cases) (labels : List CaseValue) (s : Stack) → Runs (case_value_pieces l) (ExpectCaseValue e done labels s) (AfterCaseValue e done labels l s)
+case_value_runs DefaultCase e done labels s = at_end
+case_value_runs _ e done labels s = at_end
 
-labels_run : (ls : Labels) (e : Expression) (done : Cases) (labels : List Label) (s : Stack) →
-    Runs (labels_pieces ls) (WantLabel e done labels s)
-    (WantBrace (InCase e done (unwind_labels labels ls) s))
-labels_run (LastLabel l) e done labels s = label_runs l e done labels s onward at_end
-labels_run (MoreLabels l more) e done labels s = label_runs l e done labels s onward reads $ over_gap $ labels_run more e done (l ∷ labels) s
+case_values_run : (ls : CaseValues) (e : Expression) (done : Cases) (labels : List CaseValue) (s : Stack) →
+    Runs (case_values_pieces ls) (ExpectCaseValue e done labels s)
+    (ExpectBrace (InCase e done (unwind_case_values labels ls) s))
+case_values_run (LastCaseValue l) e done labels s = case_value_runs l e done labels s onward at_end
+case_values_run (MoreCaseValues l more) e done labels s = case_value_runs l e done labels s onward reads $ over_gap $ case_values_run more e done (l ∷ labels) s
 
-case_runs : (ls : Labels) (e : Expression) (done : Cases) (s : Stack) → Runs (case_pieces ls) (AtCase e done s) (WantBrace (InCase e done ls s))
-case_runs (LastLabel DefaultLabel) e done s = at_end
-case_runs (LastLabel (SignedLabel negative n)) e done s = reads $ over_gap $ labels_run (LastLabel (SignedLabel negative n)) e done [] s
-case_runs (LastLabel (UnsignedLabel n)) e done s = reads $ over_gap $ labels_run (LastLabel (UnsignedLabel n)) e done [] s
-case_runs (MoreLabels l more) e done s = reads $ over_gap $ labels_run (MoreLabels l more) e done [] s
+case_runs : (ls : CaseValues) (e : Expression) (done : Cases) (s : Stack) → Runs (case_pieces ls) (AtCase e done s) (ExpectBrace (InCase e done ls s))
+case_runs (LastCaseValue DefaultCase) e done s = at_end
+case_runs (LastCaseValue (SignedCase negative n)) e done s = reads $ over_gap $ case_values_run (LastCaseValue (SignedCase negative n)) e done [] s
+case_runs (LastCaseValue (UnsignedCase n)) e done s = reads $ over_gap $ case_values_run (LastCaseValue (UnsignedCase n)) e done [] s
+case_runs (MoreCaseValues l more) e done s = reads $ over_gap $ case_values_run (MoreCaseValues l more) e done [] s
 
 -- a loop, up to the brace that closes it
 abbrev loop_state : Statements → OptionalBlock → Stack → State
-loop_state body NoBlock s = Want (InStatements (rewind_statements body NoStatements) (InLoop s))
+loop_state body NoBlock s = Expect (InStatements (rewind_statements body NoStatements) (InLoop s))
 loop_state body (SomeBlock rest) s = CloseOnce (Loop body (SomeBlock rest)) s
 
 loop_closes : (body : Statements) (rest : OptionalBlock) (done : Statements) (s : Stack) →
     Runs (mark CloseBrace ∷ LineEnd ∷ []) (loop_state body rest (InStatements done s))
-    (Want (InStatements (Then (Loop body rest) done) s))
+    (Expect (InStatements (Then (Loop body rest) done) s))
 loop_closes body NoBlock done s = closes body at_end
 loop_closes body (SomeBlock rest) done s = at_end
 
 continues : (body : Statements) {s : Stack} {qs : List Piece} {s' : State} →
-    Runs qs (WantBrace (InContinuing body s)) s' →
+    Runs qs (ExpectBrace (InContinuing body s)) s' →
     Runs (mark KeywordContinuing ∷ qs)
-    (Want (InStatements (rewind_statements body NoStatements) (InLoop s))) s'
-continues body {s} b = reads $ as_state (ap (λ v. WantBrace (InContinuing v s)) (unwind_rewind body NoStatements)) b
+    (Expect (InStatements (rewind_statements body NoStatements) (InLoop s))) s'
+continues body {s} b = reads $ as_state (ap (λ v. ExpectBrace (InContinuing v s)) (unwind_rewind body NoStatements)) b
 
 mutual
-  pub statement_runs : (st : Statement) → IsStatement st → (n : ℕ) (done : Statements) (s : Stack) → Runs (statement_pieces st n) (Want (InStatements done s)) (Want (InStatements (Then st done) s))
+  pub statement_runs : (st : Statement) → IsStatement st → (n : ℕ) (done : Statements) (s : Stack) → Runs (statement_pieces st n) (Expect (InStatements done s)) (Expect (InStatements (Then st done) s))
   statement_runs (Let w e) is n done s = over_indent $ reads $ over_gap $ reads $ over_gap $ reads $ over_gap $ expression_runs e is.1 _ onward at_end
   statement_runs (TypedLet w t e) is n done s =
       over_indent $ reads $ over_gap $ reads $ reads $ over_gap $ type_runs t is.1.part _ onward over_gap $ reads $ over_gap $ expression_runs e is.2 _ onward at_end
@@ -117,15 +122,15 @@ mutual
 
   pub statements_run : (ss : Statements) → IsStatements ss →
       (n : ℕ) (done : Statements) (s : Stack) →
-      Runs (statements_pieces ss n) (Want (InStatements done s))
-      (Want (InStatements (rewind_statements ss done) s))
+      Runs (statements_pieces ss n) (Expect (InStatements done s))
+      (Expect (InStatements (rewind_statements ss done) s))
   statements_run NoStatements is n done s = at_end
   statements_run (Then st more) is n done s = statement_runs st is.0 n done s onward statements_run more is.1 n (Then st done) s
 
   else_runs : (reject : OptionalBlock) → IsOptionalBlock reject → (n : ℕ) (e : Expression)
       (accept done : Statements) (s : Stack) →
-      Runs (else_pieces reject n) (Want (InStatements (Then (If e accept NoBlock) done) s))
-      (Want (InStatements (Then (If e accept reject) done) s))
+      Runs (else_pieces reject n) (Expect (InStatements (Then (If e accept NoBlock) done) s))
+      (Expect (InStatements (Then (If e accept reject) done) s))
   else_runs NoBlock is n e accept done s = at_end
   else_runs (SomeBlock body) is n e accept done s =
       over_gap $ reads $ over_gap $ reads $ over_line $
@@ -134,7 +139,7 @@ mutual
   continuing_runs : (rest : OptionalBlock) → IsOptionalBlock rest → (n : ℕ) (body : Statements)
       (s : Stack) →
       Runs (continuing_pieces rest n)
-      (Want (InStatements (rewind_statements body NoStatements) (InLoop s)))
+      (Expect (InStatements (rewind_statements body NoStatements) (InLoop s)))
       (loop_state body rest s)
   continuing_runs NoBlock is n body s = at_end
   continuing_runs (SomeBlock rest) is n body s =
@@ -150,23 +155,23 @@ mutual
 
 -- In their pieces no token runs into the next.
 
-label_closed : (l : Label) → IsLabel l → {qs : List Piece} →
+case_value_closed : (l : CaseValue) → IsCaseValue l → {qs : List Piece} →
     ((more : List Piece) → ends (Number false 0 NoSuffix) (text (qs ++ more)) ≡ true) →
     ((more : List Piece) → ends_word (text (qs ++ more)) ≡ true) → Closed qs →
-    Closed (label_pieces l ++ qs)
-label_closed DefaultLabel is number front a = sign front a
-label_closed (SignedLabel negative n) is number front a = tok (signed_number negative n (2 ^ 31) (omega arith) is) number a
-label_closed (UnsignedLabel n) is number front a = tok (number_of_plain n is) (λ _. refl) a
+    Closed (case_value_pieces l ++ qs)
+case_value_closed DefaultCase is number front a = sign front a
+case_value_closed (SignedCase negative n) is number front a = tok (signed_number negative n (2 ^ 31) (omega arith) is) number a
+case_value_closed (UnsignedCase n) is number front a = tok (number_of_plain n is) (λ _. refl) a
 
-labels_closed : (ls : Labels) → IsLabels ls → Closed (labels_pieces ls)
-labels_closed (LastLabel l) is = label_closed l is (λ _. refl) (λ _. refl) (sign (λ _. refl) none)
-labels_closed (MoreLabels l more) is = label_closed l is.0 (λ _. refl) (λ _. refl) (sign (λ _. refl) (gap (labels_closed more is.1)))
+case_values_closed : (ls : CaseValues) → AreCaseValues ls → Closed (case_values_pieces ls)
+case_values_closed (LastCaseValue l) is = case_value_closed l is (λ _. refl) (λ _. refl) (sign (λ _. refl) none)
+case_values_closed (MoreCaseValues l more) is = case_value_closed l is.0 (λ _. refl) (λ _. refl) (sign (λ _. refl) (gap (case_values_closed more is.1)))
 
-case_closed : (ls : Labels) → IsLabels ls → Closed (case_pieces ls)
-case_closed (LastLabel DefaultLabel) is = sign (λ _. refl) $ sign (λ _. refl) none
-case_closed (LastLabel (SignedLabel negative n)) is = sign (λ _. refl) $ gap $ labels_closed (LastLabel (SignedLabel negative n)) is
-case_closed (LastLabel (UnsignedLabel n)) is = sign (λ _. refl) $ gap $ labels_closed (LastLabel (UnsignedLabel n)) is
-case_closed (MoreLabels l more) is = sign (λ _. refl) $ gap $ labels_closed (MoreLabels l more) is
+case_closed : (ls : CaseValues) → AreCaseValues ls → Closed (case_pieces ls)
+case_closed (LastCaseValue DefaultCase) is = sign (λ _. refl) $ sign (λ _. refl) none
+case_closed (LastCaseValue (SignedCase negative n)) is = sign (λ _. refl) $ gap $ case_values_closed (LastCaseValue (SignedCase negative n)) is
+case_closed (LastCaseValue (UnsignedCase n)) is = sign (λ _. refl) $ gap $ case_values_closed (LastCaseValue (UnsignedCase n)) is
+case_closed (MoreCaseValues l more) is = sign (λ _. refl) $ gap $ case_values_closed (MoreCaseValues l more) is
 
 mutual
   pub statement_closed : (st : Statement) → IsStatement st → (n : ℕ) → Closed (statement_pieces st n)
@@ -289,7 +294,7 @@ pub switch_text : (e : Expression) (cases : Cases) (n : ℕ) →
     (codes " {\n" ++ (text (cases_pieces cases (suc n)) ++ (indent_text n ++ codes "}\n")))))
 switch_text e cases n = simp text-append
 
-pub case_text : (labels : Labels) (body : Statements) (more : Cases) (n : ℕ) →
+pub case_text : (labels : CaseValues) (body : Statements) (more : Cases) (n : ℕ) →
     text (cases_pieces (Case labels body more) n) ≡ indent_text n ++
     (text (case_pieces labels) ++
     (codes " {\n" ++

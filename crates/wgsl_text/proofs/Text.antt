@@ -31,7 +31,7 @@ use Rattle.wgsl_text.specs.Words.{is_reserved}
 use Rattle.wgsl_text.specs.Text.{Takes, mark_text, suffix_text, starts_with, word_length}
 use Rattle.wgsl_text.specs.Text.{digits_length, word_token, word_lexeme, suffix_at, is_point_zero}
 use Rattle.wgsl_text.specs.Text.{is_empty, number_of, number_lexeme, one_more, sign_or, lexeme}
-use Rattle.wgsl_text.specs.Text.{text, token_text, tokens_in, behind, scan}
+use Rattle.wgsl_text.specs.Text.{text, token_text, tokens_in, following, scan}
 use Rattle.std.proofs.lemmas.List.{append-nil}
 
 both_not : (a b : Bool) → (not a && not b) ≡ true → (a ≡ false) × (b ≡ false)
@@ -156,7 +156,7 @@ word_scans (b ∷ w) rest is e =
     ∙ ap (λ v. word_token (b ∷ v) ∷ scan (w ++ rest) (length w)) (take-append_seam w rest)
     ∙ ap (λ ts. word_token (b ∷ w) ∷ ts) (past w rest) in
     let first : lexeme b (w ++ rest) ≡ word_lexeme b (w ++ rest) = when_true _ h.0 in
-    ap (λ l. behind l (scan (w ++ rest))) first ∙ after
+    ap (λ l. following l (scan (w ++ rest))) first ∙ after
 
 own_word_scans : (w rest : List ℕ) → IsWordToken w → ends_word rest ≡ true → scan (w ++ rest) 0 ≡ Word w ∷ scan rest 0
 own_word_scans w rest is e = word_scans w rest is.text e ∙ ap (λ t. t ∷ scan rest 0) is.token
@@ -265,13 +265,13 @@ number_scans false (b ∷ ds) suffix rest some is e =
     let h = and_parts (is_ascii_digit b) (all_ascii_digits ds) is in
     let after = ds ++ (suffix_text suffix ++ rest) in
     let first : lexeme b after ≡ number_lexeme false b after = when_false _ (digit_no_letter b h.0) ∙ when_true _ h.0 in
-    ap (λ l. behind l (scan after)) (first ∙ digits_scan false b ds suffix rest h.1 e)
+    ap (λ l. following l (scan after)) (first ∙ digits_scan false b ds suffix rest h.1 e)
     ∙ ap (λ ts. Number false (digits_value 10 (b ∷ ds)) suffix ∷ ts) (number_left ds suffix rest)
 number_scans true (b ∷ ds) suffix rest some is e =
     let h = and_parts (is_ascii_digit b) (all_ascii_digits ds) is in
     let after = ds ++ (suffix_text suffix ++ rest) in
     let first : lexeme 45 (b ∷ after) ≡ one_more (number_lexeme true b after) = when_true _ h.0 in
-    ap (λ l. behind l (scan (b ∷ after))) (first ∙ ap one_more (digits_scan true b ds suffix rest h.1 e))
+    ap (λ l. following l (scan (b ∷ after))) (first ∙ ap one_more (digits_scan true b ds suffix rest h.1 e))
     ∙ ap (λ ts. Number true (digits_value 10 (b ∷ ds)) suffix ∷ ts) (number_left ds suffix rest)
 
 own_number_scans : (negative : Bool) (n : ℕ) (suffix : Suffix) (rest : List ℕ) → IsNumber n →
@@ -390,14 +390,14 @@ decimal_scans false (b ∷ ds) fraction precision rest are tail_is power_is =
     let after = ds ++ (fraction_text fraction ++ (precision_text precision ++ rest)) in
     let first : lexeme b after ≡ number_lexeme false b after = when_false _ (digit_no_letter b h.0) ∙ when_true _ h.0 in
     ap (λ v. scan (b ∷ v) 0) (sym (joined ds fraction precision rest))
-    ∙ ap (λ l. behind l (scan after)) (first ∙ decimal_scan false b ds fraction precision rest h.1 tail_is power_is)
+    ∙ ap (λ l. following l (scan after)) (first ∙ decimal_scan false b ds fraction precision rest h.1 tail_is power_is)
     ∙ ap (λ ts. Decimal false (b ∷ ds) fraction precision ∷ ts) (decimal_left ds fraction precision rest)
 decimal_scans true (b ∷ ds) fraction precision rest are tail_is power_is =
     let h = and_parts (is_ascii_digit b) (all_ascii_digits ds) are.digits in
     let after = ds ++ (fraction_text fraction ++ (precision_text precision ++ rest)) in
     let first : lexeme 45 (b ∷ after) ≡ one_more (number_lexeme true b after) = when_true _ h.0 in
     ap (λ v. scan (45 ∷ b ∷ v) 0) (sym (joined ds fraction precision rest))
-    ∙ ap (λ l. behind l (scan (b ∷ after))) (first ∙ ap one_more (decimal_scan true b ds fraction precision rest h.1 tail_is power_is))
+    ∙ ap (λ l. following l (scan (b ∷ after))) (first ∙ ap one_more (decimal_scan true b ds fraction precision rest h.1 tail_is power_is))
     ∙ ap (λ ts. Decimal true (b ∷ ds) fraction precision ∷ ts) (decimal_left ds fraction precision rest)
 
 -- no digit begins these bytes
@@ -408,7 +408,7 @@ no_digits (b ∷ rest) e = when_false _ (both_not (is_letter b) (is_ascii_digit 
 -- `0.0` is the level of a sampling where no letter and no digit stands after it
 zero_scans : (rest : List ℕ) → ends_word rest ≡ true → scan (codes "0.0" ++ rest) 0 ≡ ZeroPointZero ∷ scan rest 0
 zero_scans rest e =
-    ap (λ l. behind l (scan (46 ∷ 48 ∷ rest)))
+    ap (λ l. following l (scan (46 ∷ 48 ∷ rest)))
     (when_false (decimal_of false 48 [] (fraction_at (46 ∷ 48 ∷ rest)) (precision_at (after_fraction (46 ∷ 48 ∷ rest))))
     (ap (λ k. has_precision (drop (length (fraction_text (48 ∷ take k rest))) (46 ∷ 48 ∷ rest))) (no_digits rest e) ∙ no_precision rest e))
 
@@ -424,21 +424,21 @@ not_next x (c ∷ rest) shut opening = not_same x c (c == x) refl shut opening
 
 minus_scans : (rest : List ℕ) → ends_minus rest ≡ true → scan (45 ∷ rest) 0 ≡ Fixed Minus ∷ scan rest 0
 minus_scans [] e = refl
-minus_scans (b ∷ rest) e = ap (λ c. behind (cond c (one_more (number_lexeme true b rest)) (Takes (Fixed Minus) 0)) (scan (b ∷ rest))) (not-true _ e)
+minus_scans (b ∷ rest) e = ap (λ c. following (cond c (one_more (number_lexeme true b rest)) (Takes (Fixed Minus) 0)) (scan (b ∷ rest))) (not-true _ e)
 
 less_scans : (rest : List ℕ) → opens rest ≡ true → scan (60 ∷ rest) 0 ≡ Fixed LessThan ∷ scan rest 0
 less_scans rest e =
-    ap (λ c. behind (cond c (Takes (Fixed LessEquals) 1) (sign_or LessThan (starts_with 60 rest) LessLess)) (scan rest)) (not_next 61 rest refl e)
-    ∙ ap (λ c. behind (sign_or LessThan c LessLess) (scan rest)) (not_next 60 rest refl e)
+    ap (λ c. following (cond c (Takes (Fixed LessEquals) 1) (sign_or LessThan (starts_with 60 rest) LessLess)) (scan rest)) (not_next 61 rest refl e)
+    ∙ ap (λ c. following (sign_or LessThan c LessLess) (scan rest)) (not_next 60 rest refl e)
 
 mark_scans : (m : Mark) (rest : List ℕ) → ends_mark m rest ≡ true → scan (mark_text m ++ rest) 0 ≡ Fixed m ∷ scan rest 0
 unfolding is_reserved
 mark_scans Minus rest e = minus_scans rest e
 mark_scans LessThan rest e = less_scans rest e
-mark_scans Ampersand rest e = ap (λ c. behind (sign_or Ampersand c AndAnd) (scan rest)) (not_next 38 rest refl e)
-mark_scans Bar rest e = ap (λ c. behind (sign_or Bar c BarBar) (scan rest)) (not_next 124 rest refl e)
-mark_scans Not rest e = ap (λ c. behind (sign_or Not c NotEquals) (scan rest)) (not_next 61 rest refl e)
-mark_scans Equals rest e = ap (λ c. behind (sign_or Equals c EqualsEquals) (scan rest)) (not_next 61 rest refl e)
+mark_scans Ampersand rest e = ap (λ c. following (sign_or Ampersand c AndAnd) (scan rest)) (not_next 38 rest refl e)
+mark_scans Bar rest e = ap (λ c. following (sign_or Bar c BarBar) (scan rest)) (not_next 124 rest refl e)
+mark_scans Not rest e = ap (λ c. following (sign_or Not c NotEquals) (scan rest)) (not_next 61 rest refl e)
+mark_scans Equals rest e = ap (λ c. following (sign_or Equals c EqualsEquals) (scan rest)) (not_next 61 rest refl e)
 mark_scans OpenParen rest e = refl
 mark_scans CloseParen rest e = refl
 mark_scans OpenBracket rest e = refl

@@ -17,7 +17,7 @@ use Rattle.wgsl_text.proofs.Spacing.{Spaced, Ends, end, part, tok, free, number_
 use Rattle.wgsl_text.proofs.Spacing.{Opens, opens_first, word_opens, number_opens}
 use Rattle.wgsl_text.proofs.Text.{ends, text-append, plain_text}
 use Rattle.wgsl_text.proofs.Words.{all_words, passes, is_free, free_word}
-use Rattle.wgsl_text.proofs.Machine.{Stack, InTemplate, State, WantType, GotType, AfterPart}
+use Rattle.wgsl_text.proofs.Machine.{Stack, InTemplate, State, ExpectType, GotType, AfterPart}
 use Rattle.wgsl_text.proofs.Machine.{unwind_parts}
 use Rattle.std.specs.Prelude.{codes, ⊤, IsTrue, cond}
 use Rattle.std.proofs.lemmas.Bool.{false≢true, and_parts}
@@ -39,13 +39,13 @@ part_done (TypeArgument t more) gaps a = record { to = a.to }
 part_done (SizeArgument n more) gaps a = record { to = a.to }
 
 mutual
-  pub type_runs : (t : TypeSpecifier) → IsTemplateArgument t → (s : Stack) → Runs (type_pieces t) (WantType s) (GotType t s)
+  pub type_runs : (t : TypeSpecifier) → IsTemplateArgument t → (s : Stack) → Runs (type_pieces t) (ExpectType s) (GotType t s)
   type_runs (Named w) is s = at_end
   type_runs (Template w args) is s = reads $ reads $ parts_run args is.1 (has_gaps w) w s
 
   pub parts_run : (args : TemplateArguments) → AreTemplateArguments args →
       (gaps : Bool) (w : List ℕ) (s : Stack) →
-      Runs (template_pieces args gaps) (WantType (InTemplate w NoTemplateArguments s))
+      Runs (template_pieces args gaps) (ExpectType (InTemplate w NoTemplateArguments s))
       (GotType (Template w args) s)
   parts_run NoTemplateArguments is gaps w s = at_end
   parts_run (TypeArgument t more) is gaps w s = type_runs t is.0 _ onward part_done more gaps (more_parts_run more is.1 gaps _ w s)

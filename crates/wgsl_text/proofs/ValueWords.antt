@@ -45,10 +45,10 @@ found word [] (u ∷ words) e w at = absurd (cc)
 found word (v ∷ vs) [] e w at = absurd (false≢true at)
 found word (v ∷ vs) (u ∷ words) e w at =
     let here : word v ≡ Some u = cc in
-    let behind : map word vs ≡ map Some words = cc in
+    let following : map word vs ≡ map Some words = cc in
     elim (or_cases (bytes_eq u w) (stands_in words w) at) [
       | inl same ↦ (v, here ∙ ap Some ((bytes_eq-Decides u w).0 same))
-      | inr later ↦ found word vs words behind w later
+      | inr later ↦ found word vs words following w later
     ]
 
 are_the_words : {A : Type 0} (word : A → Option (List ℕ)) (words : List (List ℕ)) →

@@ -101,37 +101,37 @@ IsAttributes [] = ⊤
 IsAttributes (a ∷ more) = IsAttribute a × IsAttributes more
 
 -- what may follow a location: `@blend_src`, `@interpolate` and `@per_primitive`, in this order
-abbrev pub behind_interpolation : List Attribute → Bool
-behind_interpolation [] = true
-behind_interpolation (Plain PerPrimitive ∷ []) = true
-behind_interpolation _ = false
+abbrev pub after_interpolation : List Attribute → Bool
+after_interpolation [] = true
+after_interpolation (Plain PerPrimitive ∷ []) = true
+after_interpolation _ = false
 
-abbrev pub behind_blend_source : List Attribute → Bool
-behind_blend_source (Worded Interpolate i ∷ more) = behind_interpolation more
-behind_blend_source (Interpolated i s ∷ more) = behind_interpolation more
-behind_blend_source more = behind_interpolation more
+abbrev pub after_blend_source : List Attribute → Bool
+after_blend_source (Worded Interpolate i ∷ more) = after_interpolation more
+after_blend_source (Interpolated i s ∷ more) = after_interpolation more
+after_blend_source more = after_interpolation more
 
-abbrev pub behind_location : List Attribute → Bool
-behind_location (Numbered BlendSource n ∷ more) = behind_blend_source more
-behind_location more = behind_blend_source more
+abbrev pub after_location : List Attribute → Bool
+after_location (Numbered BlendSource n ∷ more) = after_blend_source more
+after_location more = after_blend_source more
 
 -- the binding of an input or an output, or none; a position may be invariant
 abbrev pub is_io_binding : List Attribute → Bool
 is_io_binding [] = true
 is_io_binding (Worded Builtin w ∷ []) = true
 is_io_binding (Worded Builtin w ∷ Plain Invariant ∷ []) = bytes_eq (codes "position") w
-is_io_binding (Numbered Location n ∷ more) = behind_location more
+is_io_binding (Numbered Location n ∷ more) = after_location more
 is_io_binding _ = false
 
 -- what may stand on a member: a size, an alignment
 -- and a binding, each if it is there, in this order
-abbrev pub behind_size : List Attribute → Bool
-behind_size (Numbered Align n ∷ more) = is_io_binding more
-behind_size more = is_io_binding more
+abbrev pub after_size : List Attribute → Bool
+after_size (Numbered Align n ∷ more) = is_io_binding more
+after_size more = is_io_binding more
 
 abbrev pub is_member_binding : List Attribute → Bool
-is_member_binding (Numbered Size n ∷ more) = behind_size more
-is_member_binding more = behind_size more
+is_member_binding (Numbered Size n ∷ more) = after_size more
+is_member_binding more = after_size more
 
 abbrev pub is_id : List Attribute → Bool
 is_id [] = true

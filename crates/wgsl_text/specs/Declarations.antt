@@ -119,14 +119,14 @@ overrides_pieces (o ∷ more) =
     overrides_pieces more)))
 
 -- a line end after the binding
-abbrev pub behind_attribute : Attribute → List Piece
-behind_attribute (Numbered Binding n) = LineEnd ∷ []
-behind_attribute _ = []
+abbrev pub after_attribute : Attribute → List Piece
+after_attribute (Numbered Binding n) = LineEnd ∷ []
+after_attribute _ = []
 
 abbrev pub global_attributes_pieces : List Attribute → List Piece
 global_attributes_pieces [] = []
 global_attributes_pieces (a ∷ more) =
-    attribute_pieces a ++ (behind_attribute a ++ global_attributes_pieces more)
+    attribute_pieces a ++ (after_attribute a ++ global_attributes_pieces more)
 
 abbrev pub space_pieces : Space → List Piece
 space_pieces NoSpace = []

@@ -5,7 +5,8 @@ use Rattle.wgsl_text.specs.Literals.{Truth, Suffixed}
 use Rattle.wgsl_text.specs.Expressions.{Add, Multiply, Negate, Constant, Binary, Unary, IndexAt}
 use Rattle.wgsl_text.specs.Expressions.{AddressOf, Dereference, NoArguments, Argument, ZeroArgument}
 use Rattle.wgsl_text.specs.Expressions.{operands}
-use Rattle.wgsl_text.specs.Statements.{DefaultLabel, SignedLabel, LastLabel, MoreLabels, Assign}
+use Rattle.wgsl_text.specs.Statements.{DefaultCase, SignedCase, LastCaseValue, MoreCaseValues}
+use Rattle.wgsl_text.specs.Statements.{Assign}
 use Rattle.wgsl_text.specs.Statements.{CallStatement, ReturnValue, Continue, If, LoopBreakIf}
 use Rattle.wgsl_text.specs.Statements.{Switch, NoStatements, NoBlock, SomeBlock, NoCases, Case}
 use Rattle.wgsl_text.specs.Attributes.{Vertex, Fragment, Compute, Location, Id, Group, Binding}
@@ -341,8 +342,9 @@ named_siblings_text = lines (
 abbrev pub switch_joined : Program
 switch_joined = of_functions (
     function "s" (parameter "x" (named_type "i32") ∷ []) NoResult [] (
-    Switch (name "x") (Case (MoreLabels (SignedLabel false 1)
-    (MoreLabels (SignedLabel false 2) (LastLabel DefaultLabel))) NoStatements NoCases) ∷ []) ∷ [])
+    Switch (name "x") (Case (MoreCaseValues (SignedCase false 1)
+    (MoreCaseValues (SignedCase false 2) (LastCaseValue DefaultCase))) NoStatements NoCases) ∷ [])
+    ∷ [])
 
 abbrev pub switch_joined_text : List ℕ
 switch_joined_text = lines (
@@ -357,7 +359,8 @@ switch_joined_text = lines (
 abbrev pub switch_default_first : Program
 switch_default_first = of_functions (
     function "dflt" (parameter "x" (named_type "i32") ∷ []) NoResult [] (
-    Switch (name "x") (Case (MoreLabels DefaultLabel (LastLabel (SignedLabel false 3))) NoStatements
+    Switch (name "x")
+    (Case (MoreCaseValues DefaultCase (LastCaseValue (SignedCase false 3))) NoStatements
     NoCases) ∷ []) ∷ [])
 
 abbrev pub switch_default_first_text : List ℕ

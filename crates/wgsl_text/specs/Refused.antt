@@ -90,9 +90,9 @@ pub record RefusedTexts : Type 0 where
   -- a member with two sizes, with two alignments, and with its size after its alignment or binding
   pub two_sizes : IsNoProgram (codes "struct S {\n    @size(16) @size(16) a: f32,\n}\n\n")
   pub two_alignments : IsNoProgram (codes "struct S {\n    @align(8) @align(8) a: f32,\n}\n\n")
-  pub size_behind_alignment : IsNoProgram (
+  pub size_after_alignment : IsNoProgram (
       codes "struct S {\n    @align(16) @size(16) a: f32,\n}\n\n")
-  pub size_behind_binding : IsNoProgram (
+  pub size_after_binding : IsNoProgram (
       codes "struct S {\n    @location(0) @size(16) a: f32,\n}\n\n")
   pub unknown_enable : IsNoProgram (codes "enable f61;\n\n")
   pub unknown_builtin_value : IsNoProgram (codes "fn f(@builtin(colour) x: i32) {\n}\n\n")

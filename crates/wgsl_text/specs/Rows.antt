@@ -15,8 +15,8 @@ use Rattle.wgsl_text.specs.Expressions.{Negate, LogicalNot, BitwiseNot, Expressi
 use Rattle.wgsl_text.specs.Expressions.{Binary, Unary, Call, Index, IndexAt, AddressOf, Dereference}
 use Rattle.wgsl_text.specs.Expressions.{NoArguments, Argument, NumberArgument, ZeroArgument}
 use Rattle.wgsl_text.specs.Expressions.{operands, IsExpression}
-use Rattle.wgsl_text.specs.Statements.{DefaultLabel, SignedLabel, UnsignedLabel, LastLabel}
-use Rattle.wgsl_text.specs.Statements.{MoreLabels, Assign, CallStatement, Return, ReturnValue}
+use Rattle.wgsl_text.specs.Statements.{DefaultCase, SignedCase, UnsignedCase, LastCaseValue}
+use Rattle.wgsl_text.specs.Statements.{MoreCaseValues, Assign, CallStatement, Return, ReturnValue}
 use Rattle.wgsl_text.specs.Statements.{Discard, Break, If, Loop, Switch, Block, NoStatements}
 use Rattle.wgsl_text.specs.Statements.{NoBlock, SomeBlock, NoCases, Case}
 use Rattle.wgsl_text.specs.Attributes.{Invariant, PerPrimitive, Coherent, Volatile, Vertex}
@@ -277,11 +277,12 @@ every_statement = of_functions (
     CallStatement (named_type "textureStore")
     (operands (name "t" ∷ name "v" ∷ integer 2 ∷ name "w" ∷ [])) ∷
     let_statement "_e4" (call "workgroupUniformLoad" (operands (AddressOf (name "wg") ∷ []))) ∷
-    Switch (name "u") (Case (LastLabel (UnsignedLabel 1)) (statements (
-    Break ∷ [])) (Case (MoreLabels (UnsignedLabel 2) (LastLabel (UnsignedLabel 3))) (statements (
-    Return ∷ [])) (Case (LastLabel DefaultLabel) NoStatements NoCases))) ∷
-    Switch (name "x") (Case (LastLabel (SignedLabel true 1)) NoStatements
-    (Case (LastLabel DefaultLabel) NoStatements NoCases)) ∷
+    Switch (name "u") (Case (LastCaseValue (UnsignedCase 1)) (statements (
+    Break ∷ []))
+    (Case (MoreCaseValues (UnsignedCase 2) (LastCaseValue (UnsignedCase 3))) (statements (
+    Return ∷ [])) (Case (LastCaseValue DefaultCase) NoStatements NoCases))) ∷
+    Switch (name "x") (Case (LastCaseValue (SignedCase true 1)) NoStatements
+    (Case (LastCaseValue DefaultCase) NoStatements NoCases)) ∷
     Loop (statements (
     Break ∷ [])) (SomeBlock (statements (
     Assign (name "u") (unsigned 2) ∷ []))) ∷

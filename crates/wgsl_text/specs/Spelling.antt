@@ -84,7 +84,8 @@ is_blank b = b == 32 || b == 10
 pub record IsLongest (bytes front rest : List ℕ) (t : Token) : Type 0 where
   pub begins : bytes ≡ front ++ rest
   pub spells : Spells front t
-  pub longest : (other behind : List ℕ) (u : Token) → bytes ≡ other ++ behind → Spells other u →
+  pub longest : (other following : List ℕ) (u : Token) → bytes ≡ other ++ following →
+      Spells other u →
       length other ≤ length front
 
 -- How a text begins, and what its tokens are: a blank carries no meaning, the longest front that

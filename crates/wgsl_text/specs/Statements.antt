@@ -2,7 +2,7 @@
 -- between them), and which of them the grammar has.
 --
 -- Throughout, n is the level of indentation or a number, w a word, t a type, e an expression, a and
--- b are two, l is a label, s a statement, and i an index.
+-- b are two, l is a case value, s a statement, and i an index.
 use Rattle.std.specs.Prelude.{ℕ, Bool, List, [], ◌∷◌, true, false, ◌++◌, suc, ◌+◌, ◌<◌, ◌^◌}
 use Rattle.std.specs.Prelude.{◌==◌, ⊤, IsTrue}
 use Rattle.wgsl_text.specs.Expressions.{Expression, Name, Member, Index, IndexAt, Dereference}
@@ -18,14 +18,14 @@ use Rattle.wgsl_text.specs.Token.{Indent, mark, word}
 use Rattle.wgsl_text.specs.Types.{TypeSpecifier, type_pieces, IsType}
 use Rattle.wgsl_text.specs.Words.{IsIdentifier}
 
-pub data Label : Type 0 where
-  DefaultLabel : Label
-  SignedLabel : Bool → ℕ → Label
-  UnsignedLabel : ℕ → Label
+pub data CaseValue : Type 0 where
+  DefaultCase : CaseValue
+  SignedCase : Bool → ℕ → CaseValue
+  UnsignedCase : ℕ → CaseValue
 
-pub data Labels : Type 0 where
-  LastLabel : Label → Labels
-  MoreLabels : Label → Labels → Labels
+pub data CaseValues : Type 0 where
+  LastCaseValue : CaseValue → CaseValues
+  MoreCaseValues : CaseValue → CaseValues → CaseValues
 
 mutual
   pub data Statement : Type 0 where
@@ -54,7 +54,7 @@ mutual
 
   pub data Cases : Type 0 where
     NoCases : Cases
-    Case : Labels → Statements → Cases → Cases
+    Case : CaseValues → Statements → Cases → Cases
 
 -- The pieces of statements.
 
@@ -62,21 +62,22 @@ mutual
 abbrev pub line_end : List Piece
 line_end = mark Semicolon ∷ LineEnd ∷ []
 
--- a signed label has no suffix
-abbrev pub label_pieces : Label → List Piece
-label_pieces DefaultLabel = mark KeywordDefault ∷ []
-label_pieces (SignedLabel negative n) = TokenPiece (Number negative n NoSuffix) ∷ []
-label_pieces (UnsignedLabel n) = TokenPiece (Number false n SuffixU) ∷ []
+-- a signed case value has no suffix
+abbrev pub case_value_pieces : CaseValue → List Piece
+case_value_pieces DefaultCase = mark KeywordDefault ∷ []
+case_value_pieces (SignedCase negative n) = TokenPiece (Number negative n NoSuffix) ∷ []
+case_value_pieces (UnsignedCase n) = TokenPiece (Number false n SuffixU) ∷ []
 
--- the labels, and the sign that ends them
-abbrev pub labels_pieces : Labels → List Piece
-labels_pieces (LastLabel l) = label_pieces l ++ (mark Colon ∷ [])
-labels_pieces (MoreLabels l more) = label_pieces l ++ (mark Comma ∷ Blank ∷ labels_pieces more)
+-- the case values, and the sign that ends them
+abbrev pub case_values_pieces : CaseValues → List Piece
+case_values_pieces (LastCaseValue l) = case_value_pieces l ++ (mark Colon ∷ [])
+case_values_pieces (MoreCaseValues l more) =
+    case_value_pieces l ++ (mark Comma ∷ Blank ∷ case_values_pieces more)
 
 -- a default that stands alone has no `case`
-abbrev pub case_pieces : Labels → List Piece
-case_pieces (LastLabel DefaultLabel) = mark KeywordDefault ∷ mark Colon ∷ []
-case_pieces labels = mark KeywordCase ∷ Blank ∷ labels_pieces labels
+abbrev pub case_pieces : CaseValues → List Piece
+case_pieces (LastCaseValue DefaultCase) = mark KeywordDefault ∷ mark Colon ∷ []
+case_pieces labels = mark KeywordCase ∷ Blank ∷ case_values_pieces labels
 
 -- A statement stands n levels deep.
 abbrev mutual
@@ -173,30 +174,30 @@ is_reference (Index e i) = is_reference e
 is_reference (IndexAt e n) = is_reference e
 is_reference _ = false
 
-abbrev pub IsLabel : Label → Type 0
-IsLabel DefaultLabel = ⊤
-IsLabel (SignedLabel negative n) = IsSigned negative n (2 ^ 31)
-IsLabel (UnsignedLabel n) = n < 2 ^ 32
+abbrev pub IsCaseValue : CaseValue → Type 0
+IsCaseValue DefaultCase = ⊤
+IsCaseValue (SignedCase negative n) = IsSigned negative n (2 ^ 31)
+IsCaseValue (UnsignedCase n) = n < 2 ^ 32
 
-abbrev pub IsLabels : Labels → Type 0
-IsLabels (LastLabel l) = IsLabel l
-IsLabels (MoreLabels l more) = IsLabel l × IsLabels more
+abbrev pub AreCaseValues : CaseValues → Type 0
+AreCaseValues (LastCaseValue l) = IsCaseValue l
+AreCaseValues (MoreCaseValues l more) = IsCaseValue l × AreCaseValues more
 
--- how many of the labels are `default`
-abbrev pub defaults_at : Label → ℕ
-defaults_at DefaultLabel = 1
-defaults_at (SignedLabel negative n) = 0
-defaults_at (UnsignedLabel n) = 0
+-- how many of the case values are `default`
+abbrev pub defaults_at : CaseValue → ℕ
+defaults_at DefaultCase = 1
+defaults_at (SignedCase negative n) = 0
+defaults_at (UnsignedCase n) = 0
 
-abbrev pub defaults_among : Labels → ℕ
-defaults_among (LastLabel l) = defaults_at l
-defaults_among (MoreLabels l more) = defaults_at l + defaults_among more
+abbrev pub defaults_among : CaseValues → ℕ
+defaults_among (LastCaseValue l) = defaults_at l
+defaults_among (MoreCaseValues l more) = defaults_at l + defaults_among more
 
 abbrev pub default_count : Cases → ℕ
 default_count NoCases = 0
 default_count (Case labels body more) = defaults_among labels + default_count more
 
--- A switch has exactly one default among the labels of its cases.
+-- A switch has exactly one default among the values of its cases.
 abbrev mutual
   pub IsStatement : Statement → Type 0
   IsStatement (Let w e) = IsIdentifier w × IsExpression e
@@ -221,4 +222,4 @@ abbrev mutual
 
   pub IsCases : Cases → Type 0
   IsCases NoCases = ⊤
-  IsCases (Case labels body more) = IsLabels labels × IsStatements body × IsCases more
+  IsCases (Case labels body more) = AreCaseValues labels × IsStatements body × IsCases more

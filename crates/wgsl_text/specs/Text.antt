@@ -292,15 +292,15 @@ lexeme b bytes =
     if b == 45 then minus_lexeme bytes else (
     if b == 32 || b == 10 then Skips else sign_lexeme b bytes)))
 
-abbrev pub behind : Lexeme → (ℕ → List Token) → List Token
-behind (Takes t n) rest = t ∷ rest n
-behind Skips rest = rest 0
+abbrev pub following : Lexeme → (ℕ → List Token) → List Token
+following (Takes t n) rest = t ∷ rest n
+following Skips rest = rest 0
 
 -- the tokens of the bytes after the first n
 abbrev pub scan : List ℕ → ℕ → List Token
 scan [] n = []
 scan (b ∷ bytes) (suc n) = scan bytes n
-scan (b ∷ bytes) zero = behind (lexeme b bytes) (scan bytes)
+scan (b ∷ bytes) zero = following (lexeme b bytes) (scan bytes)
 
 abbrev pub tokens : List ℕ → List Token
 tokens bytes = scan bytes 0

@@ -59,7 +59,7 @@ const FOR_WGSL: Calls = &[
 ];
 
 /// Labels of calls after a `reset` by the empty module, and their names.
-const BEHIND_A_RESET: &[Calls] = &[
+const AFTER_A_RESET: &[Calls] = &[
     &[
         ("fn", "fn_"),
         ("_naga_x", "gen__naga_x"),
@@ -374,10 +374,10 @@ fn underscores(rt: &impl Abort, alloc: Global, times: usize) -> String {
 }
 
 #[test]
-fn names_are_given_behind_a_reset(rt: HostRuntime) {
+fn names_are_given_after_a_reset(rt: HostRuntime) {
     let alloc = rt.alloc();
     let empty = Module::new(alloc);
-    for calls in BEHIND_A_RESET {
+    for calls in AFTER_A_RESET {
         check_reset(&rt, alloc, &empty, "", *calls);
     }
     let long = underscores(&rt, alloc, 100_000);

@@ -2,8 +2,8 @@
 use crate::NumberedTypes;
 use naga_info::{Conclusion, GlobalCtx, Rule, TypeResolution};
 use naga_ir::{
-    AddressSpace, BuiltIn, MathFunction, Module, Place, PredeclaredType, Scalar, ScalarKind, Type_,
-    TypeInner, UniqueArena, VectorSize,
+    AddressSpace, BuiltIn, ItemIndex, MathFunction, Module, PredeclaredType, Scalar, ScalarKind,
+    Type_, TypeInner, UniqueArena, VectorSize,
 };
 use naga_json::{read_info, read_module};
 use naga_names::namer::NameKey;

@@ -1,11 +1,11 @@
 //! Types as each context spells them.
 ghost use Rattle.std.specs.Prelude.{◌<◌, IsTrue, length};
 ghost use Rattle.naga_words.specs.Rules.{AllFit, FitsConclusion};
-ghost use Rattle.naga_words.specs.Spelling.{Context, Fits, IsInOrder, is_formless_pointer};
+ghost use Rattle.naga_words.specs.Spelling.{Context, Fits, IsInOrder, is_unsupported_pointer};
 
 use naga_info::{Conclusion, GlobalCtx, Rule, TypeResolution};
 use naga_ir::{
-    AddressSpace, CooperativeRole, CooperativeSize, Module, Place, PredeclaredType, Scalar,
+    AddressSpace, CooperativeRole, CooperativeSize, ItemIndex, Module, PredeclaredType, Scalar,
     ScalarKind, Type_, TypeInner, UniqueArena,
 };
 use naga_json::read_module;
@@ -26,8 +26,8 @@ fn stands(rt: &impl Abort, text: &mut String, want: &str) {
 }
 
 /// A pointer that no text spells.
-fn formless() -> TypeInner
-    ensures { IsTrue (is_formless_pointer result) }
+fn unsupported() -> TypeInner
+    ensures { IsTrue (is_unsupported_pointer result) }
 {
     TypeInner::ValuePointer {
         size: None,
@@ -47,7 +47,7 @@ fn values_hold<C: TypeContext>(rt: &impl Abort, alloc: Global, context: &C, text
         width: 3,
     };
     let scalar = context.write_non_wgsl_scalar(alloc, odd, text);
-    let inner = context.write_non_wgsl_inner(alloc, &formless(), text);
+    let inner = context.write_non_wgsl_inner(alloc, &unsupported(), text);
     if context.refuses() {
         assert_eq!(rt; (scalar, inner), (NO_FORM, NO_FORM));
         stands(rt, text, "");
@@ -68,7 +68,7 @@ fn types_hold<C: TypeContext>(rt: &impl Abort, alloc: Global, context: &C, text:
     requires order { IsInOrder (C.context context.now) }
     requires in_range { 0 < length (C.context context.now).types }
 {
-    let first = Place::from_index(0);
+    let first = ItemIndex::from_index(0);
     assert!(rt; matches!(context.lookup_type(first).inner, TypeInner::Struct { .. }));
     assert_eq!(rt; context.type_name(first), "S");
     context.write_type(alloc, first, text).expect(rt, "a text");
@@ -147,7 +147,7 @@ fn rules_hold<C: TypeContext>(rt: &impl Abort, alloc: Global, context: &C, text:
 fn global_holds(rt: &impl Abort, alloc: Global, context: &GlobalCtx<'_>, text: &mut String) {
     assert!(rt; 0 < context.types.len() && 0 < context.overrides.len());
     assert!(rt; types_in_order(context.types, context.overrides.len()));
-    let first = Place::from_index(0);
+    let first = ItemIndex::from_index(0);
     context
         .write_override(alloc, first, text)
         .expect(rt, "a text");
@@ -217,7 +217,7 @@ fn types_are_spelled(rt: HostRuntime) {
     let module = read_module(alloc, TYPES).expect(&rt, "a module");
     let mut names = HashMap::new(alloc);
     let name = String::from_str(alloc, "S").expect(&rt, "memory");
-    let key = NameKey::Type_(Place::from_index(0));
+    let key = NameKey::Type_(ItemIndex::from_index(0));
     let inserted: Result<_, _> = names.insert(key, name);
     inserted.expect(&rt, "memory");
     contexts_hold(&rt, alloc, &module, &names);

@@ -2,7 +2,8 @@
 
 use crate::texts::{Style, write_in};
 use module_answers::{
-    JsonPlace, JsonRefusal, Unwritten, Written, fault_text, label_at, listed_place, refused_place,
+    JsonPosition, JsonRefusal, Unwritten, Written, fault_text, label_at, listed_position,
+    refused_position,
 };
 use naga_json::Known;
 use naga_listing::explain;
@@ -57,7 +58,7 @@ fn of_written(
 /// Tells what a module is refused for and where, and shows the lines around.
 fn of_refusal(alloc: Global, known: &Known, refusal: Refusal) -> Result<Explanation, AllocError> {
     let construct = format!(in alloc; "{}", refusal.construct)?;
-    let place = refused_place(refusal.place);
+    let place = refused_position(refusal.place);
     let listing = explain(
         alloc,
         &known.module,
@@ -78,8 +79,8 @@ fn of_unaccepted(
     known: &Known,
     unaccepted: Unaccepted,
 ) -> Result<Explanation, AllocError> {
-    let place = listed_place(unaccepted.item);
-    let told = JsonPlace(unaccepted.item);
+    let place = listed_position(unaccepted.item);
+    let told = JsonPosition(unaccepted.item);
     let fault = fault_text(alloc, &known.module, &known.info, unaccepted)?;
     let listing = explain(alloc, &known.module, &known.info, &place, fault.as_str())?;
     not_written(format!(in alloc; "not accepted: {told}: {fault}\n\n{listing}"))

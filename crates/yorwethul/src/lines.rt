@@ -4,7 +4,7 @@ use crate::failure::Failure;
 use crate::progress::{Outcome, Progress};
 use crate::texts::{Style, write_in};
 use json::Scratch;
-use module_answers::{JsonPlace, JsonRefusalPlace, Unwritten, Written, label_at};
+use module_answers::{JsonPosition, JsonRefusalPosition, Unwritten, Written, label_at};
 use naga_json::{Known, ReadError, known_of, parse_bytes};
 use naga_wgsl_out::info::{Unaccepted, explain};
 use naga_wgsl_out::ir::Module;
@@ -248,7 +248,7 @@ fn tell_refused(
 ) -> Result<(), AllocError> {
     tell(alloc, "refused", reason, members)?;
     if let Some(refusal) = refusal {
-        tell(alloc, "place", JsonRefusalPlace(refusal.place), members)?;
+        tell(alloc, "place", JsonRefusalPosition(refusal.place), members)?;
         if let Some(label) = label_at(module, refusal.place) {
             tell(alloc, "function", label, members)?;
         }
@@ -263,7 +263,7 @@ fn tell_unaccepted(
     members: &mut Members,
 ) -> Result<(), AllocError> {
     let mut told = Map::new(alloc);
-    tell(alloc, "place", JsonPlace(unaccepted.item), &mut told)?;
+    tell(alloc, "place", JsonPosition(unaccepted.item), &mut told)?;
     tell(alloc, "fault", unaccepted.fault, &mut told)?;
     if let Some(wanted) = explain(alloc, &known.module, &known.info, unaccepted)? {
         tell(alloc, "wanted", wanted, &mut told)?;

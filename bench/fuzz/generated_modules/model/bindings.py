@@ -33,7 +33,7 @@ def builtin_word(name, flag):
     return BUILTIN_WORDS.get(name, snake(name))
 
 
-def formless_binding(binding):
+def unsupported_binding(binding):
     """What is told of a binding without a form."""
     if binding is None or binding[0] == "location" or builtin_word(*binding[1:]) is not None:
         return set()

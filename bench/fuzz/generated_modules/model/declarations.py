@@ -8,7 +8,7 @@ from chance import some_bits, some_label, some_number, some_numeral
 from functions import RANGES, FunctionMaker
 from modules import Constant, EntryPoint, Expression, Override, Variable, statements_in
 from operators import LITERALS, NUMERALS
-from refusals import formless_own
+from refusals import unsupported_own
 from spelling import ATOMIC, BOOL, F32, FUNCTION, HANDLE, I32, LOAD, SPACES, STORE, U32, is_override
 from structs import StructMaker
 
@@ -27,7 +27,7 @@ class OwnMaker(FunctionMaker):
     # ---- initialisers
     def clean(self, test):
         """Those that can be written and pass a test."""
-        return self.handles_of(lambda h, e: test(e) and not formless_own(self.module, h))
+        return self.handles_of(lambda h, e: test(e) and not unsupported_own(self.module, h))
 
     def handles_of(self, test):
         return [h for h, e in enumerate(self.f.expressions) if test(h, e)]

@@ -5,7 +5,7 @@ from bodies import BodyMaker, spoil
 from chance import some_bits, some_label, some_numeral, some_scalar, some_tile, some_type
 from modules import CONSTANTS, LEAVES, RESULTS, Expression, Function, Sampling, emit, returns, store
 from operators import LITERALS, NUMERALS, conversion_word, is_numeral, wanted_scalar
-from refusals import formless_own
+from refusals import unsupported_own
 from spelling import (
     BOOL, F32, F64, FUNCTION, HALVES, I16, I32, I64, INTEGERS, SCALAR_KINDS, U16, U32, U64, alike, bases_of,
     count_of_parts, has_parts, held, part_of, pointed_at, pointer_to, is_pointer, scalar_of, whole_of, with_scalar)
@@ -166,7 +166,7 @@ class FunctionMaker:
     def is_clean(self, init):
         """Whether one of the module's own expressions can be written, or now and then whether or not."""
         is_there = init < len(self.module.own.expressions)
-        return self.chance(0.03) or is_there and not formless_own(self.module, init)
+        return self.chance(0.03) or is_there and not unsupported_own(self.module, init)
 
     def put_named(self, kind, number):
         items = {"constant": self.module.constants, "override": self.module.overrides}

@@ -1,6 +1,6 @@
 """The constructs for which a module is refused, each by what is told of it. Of several that stand, any one is told."""
 
-from bindings import formless_binding
+from bindings import unsupported_binding
 from layouts import standing_in_structs
 from modules import QUERIES, statements_in
 from operators import (
@@ -25,12 +25,12 @@ def standing_in_declarations(module):
     """What stands in what the module declares beside the bodies of functions."""
     standing = set()
     for ty in declared_types(module):
-        standing |= formless_type(module, ty)
+        standing |= unsupported_type(module, ty)
     for item in declared_items(module):
         if item.init is not None:
-            standing |= formless_own(module, item.init)
+            standing |= unsupported_own(module, item.init)
     for binding in declared_bindings(module):
-        standing |= formless_binding(binding)
+        standing |= unsupported_binding(binding)
     standing |= standing_in_structs(module)
     if not all(map(stage_has_form, module.entry_points)):
         standing.add(NO_STAGE)
@@ -65,11 +65,11 @@ def standing_in(f, names, explicit, is_portable=False):
     """What stands in a function, and its text where nothing does."""
     standing = set()
     for h in written_of(f):
-        standing |= formless(f, h)
+        standing |= unsupported(f, h)
     for ty in spelled_by(f, explicit):
-        standing |= formless_type(f.module, ty)
+        standing |= unsupported_type(f.module, ty)
     for s in statements_in(f.body):
-        standing |= formless_statement(s)
+        standing |= unsupported_statement(s)
     try:
         text = Writer(f, names, explicit, is_portable).write()
     except Refused:
@@ -88,7 +88,7 @@ def spelled_by(f, explicit):
     return declared + [f.result] * (f.result is not None) + told
 
 
-def formless_statement(s):
+def unsupported_statement(s):
     if s.kind == "ray query":
         return {"ray query"}
     if s.kind == "collective" and act_word(s) is None:
@@ -101,72 +101,72 @@ def formless_statement(s):
 
 
 # ---- types and expressions
-def formless_type(module, ty):
+def unsupported_type(module, ty):
     """A type without a form, or one that names a struct which no text declares."""
     if module.names_undeclared(ty):
         return {UNDECLARED}
     if spelled(ty) is not None:
         return set()
     scalar = lacking_scalar(ty)
-    return {"type without a WGSL form"} if scalar is None else formless_scalar(scalar)
+    return {"type without a WGSL form"} if scalar is None else unsupported_scalar(scalar)
 
 
-def formless_scalar(scalar):
+def unsupported_scalar(scalar):
     kind, width = scalar
     named = {"abstract": "AbstractInt", "abstract float": "AbstractFloat"}.get(kind, kind.capitalize())
     return {f"Unsupported scalar type: Scalar {{ kind: {named}, width: {width} }}"}
 
 
-def formless(f, h):
+def unsupported(f, h):
     e = f.expressions[h]
     if e.kind == "literal":
-        return set() if is_numeral(e.what[0]) else formless_literal(LITERALS[e.what[0]])
+        return set() if is_numeral(e.what[0]) else unsupported_literal(LITERALS[e.what[0]])
     if e.kind == "math" and word_of(f, e) is None:
         return {"Unsupported math function: " + MATH[e.what[0]][0]}
     if e.kind == "relational" and word_of(f, e) is None:
         return {"Unsupported relational function: " + RELATIONAL[e.what[0]]}
     if e.kind in ("zero", "compose"):
-        return formless_type(f.module, e.what[0])
+        return unsupported_type(f.module, e.what[0])
     if e.kind == "constant":
-        return formless_constant(f.module, e.what[0])
+        return unsupported_constant(f.module, e.what[0])
     if is_partless(f, e):
         return {"cannot index"}
     if is_other_member(f, e):
         return {UNDECLARED}
     if e.kind == "conversion":
-        return formless_conversion(f.type_of(e.operands[0]), e.what)
+        return unsupported_conversion(f.type_of(e.operands[0]), e.what)
     if e.kind == "sample":
-        return formless_sampling(f, e)
+        return unsupported_sampling(f, e)
     if e.kind == "image load" and e.what[1] and e.what[2]:
         return {"image load with sample and level"}
     if e.kind == "cooperative load":
-        return formless_type(f.module, loaded_matrix(f.type_of(e.operands[0]), *e.what[:3]))
+        return unsupported_type(f.module, loaded_matrix(f.type_of(e.operands[0]), *e.what[:3]))
     return {"ray query"} if e.kind in QUERIES else set()
 
 
-def formless_literal(scalar):
+def unsupported_literal(scalar):
     if scalar in (F16, F32, F64):
         return {"float literal"}
     return {ABSTRACT} if scalar[0].startswith("abstract") else set()
 
 
-def formless_constant(module, number):
+def unsupported_constant(module, number):
     """A constant without a name brings its initialiser; one with a name is looked at by itself, and one that is not there
     has nothing."""
     if number >= len(module.constants):
         return set()
     constant = module.constants[number]
-    return formless_own(module, constant.init) if constant.label is None else set()
+    return unsupported_own(module, constant.init) if constant.label is None else set()
 
 
-def formless_own(module, h):
+def unsupported_own(module, h):
     """What stands in one of the module's own expressions, which is written out."""
     e = module.own.expressions[h]
     if e.kind not in WRITTEN_OUT:
         return {OPERATOR}
-    standing = formless(module.own, h)
+    standing = unsupported(module.own, h)
     for k in e.operands:
-        standing = standing | formless_own(module, k)
+        standing = standing | unsupported_own(module, k)
     return standing
 
 
@@ -179,15 +179,15 @@ def is_other_member(f, e):
     return is_member and word_of(f, e).removeprefix(".") not in MEMBERS
 
 
-def formless_conversion(ty, what):
+def unsupported_conversion(ty, what):
     if scalar_of(ty) is None:
         return {"conversion of this type"}
     if conversion_word(ty, what) is not None:
         return set()
-    return formless_scalar(wanted_scalar(ty, what))
+    return unsupported_scalar(wanted_scalar(ty, what))
 
 
-def formless_sampling(f, e):
+def unsupported_sampling(f, e):
     how, standing = e.what[0], set()
     if how.gather is not None:
         if how.level not in ("auto", "zero") or how.clamp:

@@ -19,8 +19,8 @@ from places import (
     at_operand_of_emitted, at_second, at_statement, at_struct, at_type)
 from planting import FLOAT, INT, TRUTH, Planter
 from refusals import (
-    ABSTRACT, NO_STAGE, OPERATOR, OUT_OF_SCOPE, UNDECLARED, formless_binding, formless_scalar,
-    formless_type, is_other_member)
+    ABSTRACT, NO_STAGE, OPERATOR, OUT_OF_SCOPE, UNDECLARED, unsupported_binding, unsupported_scalar,
+    unsupported_type, is_other_member)
 from spelling import (
     F16, F32, F64, FUNCTION, I32, SCALAR_KINDS, U32, has_parts, pointer_to, scalar_of)
 from structs import StructMaker
@@ -154,7 +154,7 @@ def constant_of_operator(p):
 
 @in_function
 def constant_of_type(p):
-    ty, name = some_formless_type(p.r, p.module)
+    ty, name = some_unsupported_type(p.r, p.module)
     return written(p, name, constant(p, ty, own_maker(p.r, p.module).zero(ty)))
 
 
@@ -229,7 +229,7 @@ def conversion_to_scalar(p):
     scalar = p.r.choice([I32, U32, F32]) if width else ("bool", 1)
     x = p.leaf_of(p.r.choice([("scalar", scalar), ("vector", 2, scalar)]))
     ty = p.f.type_of(x)
-    name = only(formless_scalar(wanted_scalar(ty, what)))
+    name = only(unsupported_scalar(wanted_scalar(ty, what)))
     return written(p, name, p.put("conversion", ty, what, [x]))
 
 
@@ -291,7 +291,7 @@ def asked(p, name, h):
 
 
 # ---- types
-def some_formless_type(r, module):
+def some_unsupported_type(r, module):
     """A type that can't be spelled, and what is told of it."""
     what = r.random()
     if what < 0.4:
@@ -300,7 +300,7 @@ def some_formless_type(r, module):
         ty = some_other_type(r)
     else:
         ty = StructMaker(r, module).some_over(some_undeclared(r, module))
-    return ty, only(formless_type(module, ty))
+    return ty, only(unsupported_type(module, ty))
 
 
 def some_undeclared(r, module):
@@ -321,7 +321,7 @@ def type_of_argument(p):
     calls = [s for f in p.module.bodies() for s in statements_in(f.body) if s.kind == "call"]
     if any(s.what[0] == number for s in calls):
         return None
-    ty, name = some_formless_type(p.r, p.module)
+    ty, name = some_unsupported_type(p.r, p.module)
     p.module.handle_of(ty)
     p.f.arguments.append(("late", ty))
     if p.chance(0.3):
@@ -333,7 +333,7 @@ def type_of_argument(p):
 def type_of_result(p):
     if p.f.result is not None or any(s.kind == "return" for s in statements_in(p.f.body)):
         return None
-    ty, name = some_formless_type(p.r, p.module)
+    ty, name = some_unsupported_type(p.r, p.module)
     p.module.handle_of(ty)
     p.f.result = ty
     return at_type(name, p.f, ty)
@@ -341,7 +341,7 @@ def type_of_result(p):
 
 @in_function
 def type_of_local(p):
-    ty, name = some_formless_type(p.r, p.module)
+    ty, name = some_unsupported_type(p.r, p.module)
     p.local(ty)
     return at_type(name, p.f, ty)
 
@@ -349,7 +349,7 @@ def type_of_local(p):
 @in_function
 def type_of_value(p):
     """That of a zero value or a composition, also where a local of the type is told after it."""
-    ty, name = some_formless_type(p.r, p.module)
+    ty, name = some_unsupported_type(p.r, p.module)
     if p.chance(0.5):
         return written(p, name, p.put_typed("zero", ty))
     return written(p, name, p.put_typed("compose", ty, p.leaves(p.r.choice([0, 1, 2]))))
@@ -360,7 +360,7 @@ def type_of_let(p):
     """A type that stands nowhere but at a `let`, which tells none of a struct that no text
     declares."""
     ty = some_lacking_type(p.r) if p.chance(0.7) else some_other_type(p.r)
-    name = only(formless_type(p.module, ty))
+    name = only(unsupported_type(p.module, ty))
     if p.chance(0.4):
         h = p.result("subgroup result", ty)
         p.insert(Statement("gather", [0], [p.leaf()], h))
@@ -377,7 +377,7 @@ def type_of_loaded_matrix(p):
     what = [8, p.r.choice([8, 16]), p.r.choice("ABC"), p.chance(0.5)]
     ty = ("cooperative", *what[:2], F32, what[2])
     h = p.put("cooperative load", ty, what, [base, p.leaf()])
-    return written(p, only(formless_scalar(scalar)), h, base)
+    return written(p, only(unsupported_scalar(scalar)), h, base)
 
 
 @in_function
@@ -397,7 +397,7 @@ def undeclared_member(p):
 @in_declaration
 def declared_type(r, module, own, faults):
     """That of a member, a constant, an override or a variable."""
-    ty, name = some_formless_type(r, module)
+    ty, name = some_unsupported_type(r, module)
     module.handle_of(ty)
     if r.random() < 0.5:
         return at_item(name, module, faults.declared(ty))
@@ -557,7 +557,7 @@ def builtin(r, module):
     if made is None:
         return None
     at, binding = made
-    name = only(formless_binding(binding))
+    name = only(unsupported_binding(binding))
     return at_struct(name, module, at) if isinstance(at, tuple) else Head(name, at)
 
 

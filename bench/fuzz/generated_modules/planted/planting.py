@@ -2,7 +2,7 @@
 
 from functions import FunctionMaker
 from modules import LEAVES, RESULTS, Expression, Statement, emit, store, statements_in
-from refusals import formless, formless_type
+from refusals import unsupported, unsupported_type
 from spelling import BOOL, F32, FUNCTION, I32, U32, alike, pointer_to, is_pointer
 
 INT, TRUTH, FLOAT = ("scalar", I32), ("scalar", BOOL), ("scalar", F32)
@@ -28,7 +28,7 @@ class Planter(FunctionMaker):
         """What is in scope everywhere, has a form, and is of a type that passes the test; else a
         zero value."""
         known = self.handles(lambda e: e.kind in LEAVES and test(e.type))
-        known = [h for h in known if not formless(self.f, h)]
+        known = [h for h in known if not unsupported(self.f, h)]
         return self.r.choice(known) if known and self.chance(0.85) else self.put_typed("zero", ty)
 
     def leaf_of(self, ty):

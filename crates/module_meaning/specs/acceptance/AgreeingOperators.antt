@@ -68,8 +68,8 @@ width_number None = 0
 width_number (Some width) = suc width
 
 -- a conversion without a form
-abbrev pub formless_key : ScalarKind → (convert : Option ℕ) → List ℕ
-formless_key kind convert = word_key 1 (kind_number kind) (width_number convert) 0 0 0
+abbrev pub unsupported_key : ScalarKind → (convert : Option ℕ) → List ℕ
+unsupported_key kind convert = word_key 1 (kind_number kind) (width_number convert) 0 0 0
 
 -- a conversion to this type: a constructor, or a bit cast
 abbrev pub target_key :
@@ -77,15 +77,15 @@ abbrev pub target_key :
 target_key types kind convert bits target =
     if is_spelled types (Value target)
     then typed_key types bits (Value target)
-    else formless_key kind convert
+    else unsupported_key kind convert
 
 -- a conversion of an operand of this type
 abbrev pub conversion_key :
     List Type_ → ScalarKind → (convert : Option ℕ) → Option TypeInner → List ℕ
-conversion_key types kind convert None = formless_key kind convert
+conversion_key types kind convert None = unsupported_key kind convert
 conversion_key types kind convert (Some operand) =
     option_map_or (target_key types kind convert (keeps_bits operand convert))
-    (conversion_target operand kind convert) (formless_key kind convert)
+    (conversion_target operand kind convert) (unsupported_key kind convert)
 
 -- the letter at a place of a swizzle, of which so many are written
 abbrev pub letter_number : VectorSize → List SwizzleComponent → (place : ℕ) → ℕ

@@ -31,18 +31,18 @@ use Rattle.module_meaning.specs.TypeParts.{known_inner, component_scalar, vector
 use Rattle.module_meaning.specs.TypeParts.{known_pointee, part_type}
 
 -- what an expression's type may be: one like this; any; or none, as what it stands for gives none
-pub data WantedType : Type 0 where
-  LikeThis : TypeResolution → WantedType
-  Anything : WantedType
-  Nothing : WantedType
+pub data ExpectedType : Type 0 where
+  LikeThis : TypeResolution → ExpectedType
+  Anything : ExpectedType
+  Nothing : ExpectedType
 
 -- this type, and none where there is none
-abbrev pub only : Option TypeResolution → WantedType
+abbrev pub only : Option TypeResolution → ExpectedType
 only None = Nothing
 only (Some r) = LikeThis r
 
 -- this type, and any where there is none
-abbrev pub if_any : Option TypeResolution → WantedType
+abbrev pub if_any : Option TypeResolution → ExpectedType
 if_any None = Anything
 if_any (Some r) = LikeThis r
 
@@ -98,59 +98,59 @@ is_bool (inner.Scalar s) = is_bool_of s.kind s.width
 is_bool _ = false
 
 -- `&&` and `||` by the operand before them: on `bool` they give `bool`
-abbrev pub logical_type : Option TypeInner → WantedType
+abbrev pub logical_type : Option TypeInner → ExpectedType
 logical_type left =
     if option_map_or is_bool left false
     then LikeThis (Value (inner.Scalar (scalar_of kind.Bool 1)))
     else Anything
 
 -- an operator between two operands; which types others give is not asked
-abbrev pub binary_type : BinaryOperator → (left : Option TypeInner) → WantedType
+abbrev pub binary_type : BinaryOperator → (left : Option TypeInner) → ExpectedType
 binary_type binary.LogicalAnd left = logical_type left
 binary_type binary.LogicalOr left = logical_type left
 binary_type _ left = Anything
 
 -- which type each kind of expression has; what is not listed may have any
-abbrev pub wanted_type : Module → Option Function → (known : List TypeResolution) → Expression →
-    WantedType
-wanted_type m f known (expression.Literal value) =
+abbrev pub expected_type : Module → Option Function → (known : List TypeResolution) → Expression →
+    ExpectedType
+expected_type m f known (expression.Literal value) =
     LikeThis (Value (inner.Scalar (literal_scalar value)))
-wanted_type m f known (expression.Constant handle) = only (constant_type m handle)
-wanted_type m f known (expression.Override handle) = only (override_type m handle)
-wanted_type m f known (expression.ZeroValue ty) = LikeThis (Handle ty)
-wanted_type m f known (expression.Compose ty components) = LikeThis (Handle ty)
-wanted_type m f known (expression.Access base index) =
+expected_type m f known (expression.Constant handle) = only (constant_type m handle)
+expected_type m f known (expression.Override handle) = only (override_type m handle)
+expected_type m f known (expression.ZeroValue ty) = LikeThis (Handle ty)
+expected_type m f known (expression.Compose ty components) = LikeThis (Handle ty)
+expected_type m f known (expression.Access base index) =
     only (option_and_then (λ it. part_type m.types it None) (known_inner m.types known base))
-wanted_type m f known (expression.AccessIndex base index) =
+expected_type m f known (expression.AccessIndex base index) =
     if_any (option_and_then (λ it. part_type m.types it (Some index))
     (known_inner m.types known base))
-wanted_type m f known (expression.Splat n value) =
+expected_type m f known (expression.Splat n value) =
     only (splat_type n (known_inner m.types known value))
-wanted_type m f known (expression.Swizzle n vector pattern) =
+expected_type m f known (expression.Swizzle n vector pattern) =
     only (swizzle_type n (known_inner m.types known vector))
-wanted_type m f known (expression.FunctionArgument number) = only (argument_type f number)
-wanted_type m f known (expression.GlobalVariable handle) = only (global_type m handle)
-wanted_type m f known (expression.LocalVariable handle) = only (local_type f handle)
-wanted_type m f known (expression.Load pointer) =
+expected_type m f known (expression.FunctionArgument number) = only (argument_type f number)
+expected_type m f known (expression.GlobalVariable handle) = only (global_type m handle)
+expected_type m f known (expression.LocalVariable handle) = only (local_type f handle)
+expected_type m f known (expression.Load pointer) =
     only (known_pointee m.types known pointer)
-wanted_type m f known (expression.Binary op left right) =
+expected_type m f known (expression.Binary op left right) =
     binary_type op (known_inner m.types known left)
-wanted_type m f known (expression.CallResult function) = only (result_type m function)
-wanted_type m f known (expression.AtomicResult ty comparison) = LikeThis (Handle ty)
-wanted_type m f known (expression.WorkGroupUniformLoadResult ty) = LikeThis (Handle ty)
-wanted_type m f known (expression.SubgroupOperationResult ty) = LikeThis (Handle ty)
-wanted_type m f known _ = Anything
+expected_type m f known (expression.CallResult function) = only (result_type m function)
+expected_type m f known (expression.AtomicResult ty comparison) = LikeThis (Handle ty)
+expected_type m f known (expression.WorkGroupUniformLoadResult ty) = LikeThis (Handle ty)
+expected_type m f known (expression.SubgroupOperationResult ty) = LikeThis (Handle ty)
+expected_type m f known _ = Anything
 
 -- Is a type what is wanted?
-abbrev pub is_wanted : List Type_ → WantedType → TypeResolution → Bool
-is_wanted types (LikeThis r) own = are_alike types own r
-is_wanted types Anything own = true
-is_wanted types Nothing own = false
+abbrev pub is_expected : List Type_ → ExpectedType → TypeResolution → Bool
+is_expected types (LikeThis r) own = are_alike types own r
+is_expected types Anything own = true
+is_expected types Nothing own = false
 
 -- Is what is known of an expression the type that it has?
 abbrev pub expression_type_fits : Module → Option Function → (known : List TypeResolution) →
     Expression → (own : TypeResolution) → Bool
-expression_type_fits m f known e own = is_wanted m.types (wanted_type m f known e) own
+expression_type_fits m f known e own = is_expected m.types (expected_type m f known e) own
 
 -- the same of the expression with this handle
 abbrev pub has_its_type : Module → Option Function → (known : List TypeResolution) → (h : ℕ) →

@@ -13,7 +13,7 @@ use Rattle.naga_ir.specs.declared.binding.ResourceBinding.{ResourceBinding}
 use Rattle.naga_ir.specs.declared.expression.SwizzleComponent.{SwizzleComponent}
 use Rattle.naga_ir.specs.declared.module.Function.{Function}
 use Rattle.naga_ir.specs.declared.statement.SwitchValue.{SwitchValue}
-use Rattle.naga_ir.specs.declared.statement.SwitchValue.TheVariants as label
+use Rattle.naga_ir.specs.declared.statement.SwitchValue.TheVariants as switch_value
 use Rattle.naga_ir.specs.declared.types.ArraySize.{ArraySize}
 use Rattle.naga_ir.specs.declared.types.ArraySize.TheVariants as size
 use Rattle.naga_ir.specs.declared.types.StructMember.{StructMember}
@@ -35,11 +35,11 @@ fits_32_bits n = nat_lt n (2 ^ 32)
 abbrev pub pattern_is_whole : List SwizzleComponent → Bool
 pattern_is_whole pattern = length pattern == 4
 
--- a switch's label has 32 bits, with a sign or without
-abbrev pub label_fits_32_bits : SwitchValue → Bool
-label_fits_32_bits (label.I32 value) = is_signed_within (2 ^ 31) value
-label_fits_32_bits (label.U32 value) = fits_32_bits value
-label_fits_32_bits label.Default = true
+-- a switch's case value has 32 bits, with a sign or without
+abbrev pub case_value_fits_32_bits : SwitchValue → Bool
+case_value_fits_32_bits (switch_value.I32 value) = is_signed_within (2 ^ 31) value
+case_value_fits_32_bits (switch_value.U32 value) = fits_32_bits value
+case_value_fits_32_bits switch_value.Default = true
 
 -- ---- bindings
 

@@ -41,7 +41,8 @@ use Rattle.naga_words.specs.Spelling.{length_within}
 use Rattle.module_meaning.specs.acceptance.InfoSizes.{all_known, resolution_is_fit, sizes_fit}
 use Rattle.module_meaning.specs.acceptance.InfoSizes.{type_is_fit}
 use Rattle.module_meaning.specs.Literals.{literal_is_within}
-use Rattle.module_meaning.specs.acceptance.Numbers.{fits_16_bits, fits_32_bits, label_fits_32_bits}
+use Rattle.module_meaning.specs.acceptance.Numbers.{fits_16_bits, fits_32_bits}
+use Rattle.module_meaning.specs.acceptance.Numbers.{case_value_fits_32_bits}
 use Rattle.module_meaning.specs.acceptance.Numbers.{pattern_is_whole, resource_fits_32_bits}
 use Rattle.module_meaning.specs.acceptance.Numbers.{signature_fits_32_bits, type_fits_32_bits}
 use Rattle.module_meaning.specs.acceptance.Numbers.{workgroup_fits_32_bits}
@@ -194,7 +195,7 @@ simple_in_range callees expressions s =
     named_in_range callees expressions s &&
     (all_below expressions (simple_operands s) && is_below expressions (simple_result s))
 
--- so do those of the statements in its blocks, and a switch's labels have 32 bits
+-- so do those of the statements in its blocks, and a switch's case values have 32 bits
 abbrev mutual
   pub statement_in_range : (callees expressions : ℕ) → StatementTree → Bool
   statement_in_range callees expressions (simple s) = simple_in_range callees expressions s
@@ -216,7 +217,7 @@ abbrev mutual
   pub cases_in_range : (callees expressions : ℕ) → CaseTrees → Bool
   cases_in_range callees expressions no_cases = true
   cases_in_range callees expressions (case value body falls cases) =
-      label_fits_32_bits value &&
+      case_value_fits_32_bits value &&
       (block_in_range callees expressions body && cases_in_range callees expressions cases)
 
 -- ---- functions and entry points

@@ -1,12 +1,12 @@
 -- Whether the statements of a function get what they want: conditions and selectors of the right
--- types, labels that are told apart, jumps that lead somewhere, values of the types of what they
--- are stored in, returned as or passed as, and results of their own kinds. Whether what they name
--- is there is asked elsewhere; what is not there has no type here.
+-- types, case values that are told apart, jumps that lead somewhere, values of the types of what
+-- they are stored in, returned as or passed as, and results of their own kinds. Whether what they
+-- name is there is asked elsewhere; what is not there has no type here.
 --
 -- Throughout, types are the types of the module m, f is the function, known are the types of its
 -- expressions by handle; r is what is known of an expression, wanted the type that is wanted, h a
 -- handle, x a value (xs are several), it a type by itself, a an argument, s a scalar or a
--- statement, v and w labels, cs the further cases and b the rest of a block. A statement may leave
+-- statement, v and w values, cs the further cases and b the rest of a block. A statement may leave
 -- the nearest loop or switch by `break` if it breaks, and go on with the nearest loop's
 -- `continuing` if it continues.
 use Rattle.std.specs.Prelude.{ℕ, Bool, true, false, ◌&&◌, ◌||◌, ◌==◌, not, List, [], ◌∷◌}
@@ -28,7 +28,7 @@ use Rattle.naga_ir.specs.declared.module.FunctionArgument.{FunctionArgument}
 use Rattle.naga_ir.specs.declared.module.FunctionResult.{FunctionResult}
 use Rattle.naga_ir.specs.declared.module.Module.{Module}
 use Rattle.naga_ir.specs.declared.statement.SwitchValue.{SwitchValue}
-use Rattle.naga_ir.specs.declared.statement.SwitchValue.TheVariants as label
+use Rattle.naga_ir.specs.declared.statement.SwitchValue.TheVariants as switch_value
 use Rattle.naga_ir.specs.declared.types.Scalar.{Scalar}
 use Rattle.naga_ir.specs.declared.types.ScalarKind.{ScalarKind}
 use Rattle.naga_ir.specs.declared.types.ScalarKind.TheVariants as kind
@@ -78,49 +78,49 @@ is_unsigned kind.AbstractFloat = false
 abbrev pub selects : Scalar → Bool
 selects s = (is_signed s.kind || is_unsigned s.kind) && (s.width == 4)
 
--- the label is of the selector's type
-abbrev pub label_is_of : Scalar → SwitchValue → Bool
-label_is_of s (label.I32 number) = is_signed s.kind
-label_is_of s (label.U32 number) = is_unsigned s.kind
-label_is_of s label.Default = true
+-- the case value is of the selector's type
+abbrev pub case_value_is_of : Scalar → SwitchValue → Bool
+case_value_is_of s (switch_value.I32 number) = is_signed s.kind
+case_value_is_of s (switch_value.U32 number) = is_unsigned s.kind
+case_value_is_of s switch_value.Default = true
 
--- each label is of the selector's type
-abbrev pub labels_are_of : Scalar → CaseTrees → Bool
-labels_are_of s no_cases = true
-labels_are_of s (case v b falls cs) = label_is_of s v && labels_are_of s cs
+-- each case value is of the selector's type
+abbrev pub case_values_are_of : Scalar → CaseTrees → Bool
+case_values_are_of s no_cases = true
+case_values_are_of s (case v b falls cs) = case_value_is_of s v && case_values_are_of s cs
 
--- both labels are the same
-abbrev pub is_same_label : (a b : SwitchValue) → Bool
-is_same_label (label.I32 a) (label.I32 b) = int_eq a b
-is_same_label (label.U32 a) (label.U32 b) = a == b
-is_same_label label.Default label.Default = true
-is_same_label _ _ = false
+-- both case values are the same
+abbrev pub is_same_case_value : (a b : SwitchValue) → Bool
+is_same_case_value (switch_value.I32 a) (switch_value.I32 b) = int_eq a b
+is_same_case_value (switch_value.U32 a) (switch_value.U32 b) = a == b
+is_same_case_value switch_value.Default switch_value.Default = true
+is_same_case_value _ _ = false
 
--- one of the cases has the label
-abbrev pub has_label : SwitchValue → CaseTrees → Bool
-has_label v no_cases = false
-has_label v (case w b falls cs) = is_same_label v w || has_label v cs
+-- one of the cases has the value
+abbrev pub has_case_value : SwitchValue → CaseTrees → Bool
+has_case_value v no_cases = false
+has_case_value v (case w b falls cs) = is_same_case_value v w || has_case_value v cs
 
--- no two cases have one label
-abbrev pub labels_differ : CaseTrees → Bool
-labels_differ no_cases = true
-labels_differ (case v b falls cs) = not (has_label v cs) && labels_differ cs
+-- no two cases have one value
+abbrev pub case_values_differ : CaseTrees → Bool
+case_values_differ no_cases = true
+case_values_differ (case v b falls cs) = not (has_case_value v cs) && case_values_differ cs
 
 -- the last case, if there is one, falls through
 abbrev pub last_falls_through : (before : Bool) → CaseTrees → Bool
 last_falls_through before no_cases = before
 last_falls_through before (case v b falls cs) = last_falls_through falls cs
 
--- The labels are of the selector's type and differ, one of them is the default, and the last case
+-- The values are of the selector's type and differ, one of them is the default, and the last case
 -- ends there.
-abbrev pub labels_fit : Scalar → CaseTrees → Bool
-labels_fit s cs =
-    labels_are_of s cs && (labels_differ cs &&
-    (has_label label.Default cs && not (last_falls_through false cs)))
+abbrev pub case_values_fit : Scalar → CaseTrees → Bool
+case_values_fit s cs =
+    case_values_are_of s cs && (case_values_differ cs &&
+    (has_case_value switch_value.Default cs && not (last_falls_through false cs)))
 
--- the selector is `i32` or `u32`, and the labels fit
+-- the selector is `i32` or `u32`, and the case values fit
 abbrev pub selection_fits : CaseTrees → TypeInner → Bool
-selection_fits cs (inner.Scalar s) = selects s && labels_fit s cs
+selection_fits cs (inner.Scalar s) = selects s && case_values_fit s cs
 selection_fits cs _ = false
 
 abbrev pub is_selection : List Type_ → (known : List TypeResolution) → (h : ℕ) → CaseTrees → Bool

@@ -4,10 +4,11 @@ ghost use Rattle.std.specs.Prelude.{◌≡◌, true};
 ghost use Rattle.std.specs.List.{list_all};
 ghost use Rattle.std.specs.Option.{option_map_or};
 ghost use Rattle.naga_ir.specs.StatementViews.{cases_of};
-ghost use Rattle.naga_acceptance.specs.TextOrder.{labels_fit_32_bits};
+ghost use Rattle.naga_acceptance.specs.TextOrder.{case_values_fit_32_bits};
 ghost use Rattle.module_meaning.specs.acceptance.Numbers.{binding_fits_32_bits, fits_16_bits};
 ghost use Rattle.module_meaning.specs.acceptance.Numbers.{fits_32_bits};
-ghost use Rattle.module_meaning.specs.acceptance.Numbers.{label_fits_32_bits, member_fits_32_bits};
+ghost use Rattle.module_meaning.specs.acceptance.Numbers.{case_value_fits_32_bits};
+ghost use Rattle.module_meaning.specs.acceptance.Numbers.{member_fits_32_bits};
 ghost use Rattle.module_meaning.specs.acceptance.Numbers.{pattern_is_whole, resource_fits_32_bits};
 ghost use Rattle.module_meaning.specs.acceptance.Numbers.{signature_fits_32_bits};
 ghost use Rattle.module_meaning.specs.acceptance.Numbers.{size_fits_32_bits};
@@ -38,8 +39,8 @@ pub(crate) fn pattern_is_whole(pattern: [SwizzleComponent; 4]) -> bool
     pattern.len() == 4
 }
 
-fn label_fits_32_bits(label: SwitchValue) -> bool
-    ensures { result ≡ label_fits_32_bits label }
+fn case_value_fits_32_bits(label: SwitchValue) -> bool
+    ensures { result ≡ case_value_fits_32_bits label }
 {
     match label {
         SwitchValue::I32(_) | SwitchValue::U32(_) => true,
@@ -47,12 +48,12 @@ fn label_fits_32_bits(label: SwitchValue) -> bool
     }
 }
 
-/// Whether each label of a switch has 32 bits.
-pub(crate) fn labels_fit_32_bits(cases: &[SwitchCase]) -> bool
-    ensures { result ≡ labels_fit_32_bits (cases_of cases.now) }
+/// Whether each case value of a switch has 32 bits.
+pub(crate) fn case_values_fit_32_bits(cases: &[SwitchCase]) -> bool
+    ensures { result ≡ case_values_fit_32_bits (cases_of cases.now) }
 {
     for case in cases {
-        if !label_fits_32_bits(case.value) {
+        if !case_value_fits_32_bits(case.value) {
             return false;
         }
     }

@@ -11,10 +11,11 @@ ghost use Rattle.module_meaning.specs.acceptance.InfoSizes.{is_handle_space, res
 ghost use Rattle.module_meaning.specs.acceptance.InfoSizes.{type_is_fit};
 ghost use Rattle.naga_words.specs.Spelling.{is_struct};
 
-use crate::faults::{Fault, FunctionPlace, Item, Unaccepted, at};
+use crate::faults::{Fault, FunctionPosition, Item, Unaccepted, at};
 use naga_info::{FunctionInfo, ModuleInfo, TypeResolution};
 use naga_ir::{
-    AddressSpace, Arena, EntryPoint, Function, Handle, Module, Place, Type_, TypeInner, UniqueArena,
+    AddressSpace, Arena, EntryPoint, Function, Handle, ItemIndex, Module, Type_, TypeInner,
+    UniqueArena,
 };
 
 /// Whether one thing is known of each of the function's expressions.
@@ -31,10 +32,10 @@ fn function_sizes_fault(functions: &Arena<Function>, infos: &[FunctionInfo]) -> 
         return Some(at(Item::Module, Fault::InfoSize));
     }
     for (index, info) in infos.iter().enumerate() {
-        let handle = Place::from_index(index);
+        let handle = ItemIndex::from_index(index);
         if !function_size_fits(&functions[handle], info) {
             return Some(at(
-                Item::Function(handle, FunctionPlace::Whole),
+                Item::Function(handle, FunctionPosition::Whole),
                 Fault::InfoSize,
             ));
         }
@@ -54,7 +55,7 @@ fn entry_point_sizes_fault(
     for (index, info) in infos.iter().enumerate() {
         if !function_size_fits(&entry_points[index].function, info) {
             return Some(at(
-                Item::EntryPoint(index, FunctionPlace::Whole),
+                Item::EntryPoint(index, FunctionPosition::Whole),
                 Fault::InfoSize,
             ));
         }

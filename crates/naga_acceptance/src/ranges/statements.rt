@@ -8,7 +8,7 @@ ghost use Rattle.naga_ir.specs.Operands.{own_operands, own_result};
 ghost use Rattle.module_meaning.specs.acceptance.Ranges.{all_below, is_below};
 
 use crate::ranges::is_below;
-use crate::ranges::numbers::labels_fit_32_bits;
+use crate::ranges::numbers::case_values_fit_32_bits;
 use crate::walk::{first_unmet, range_demand};
 use naga_ir::{Block, Statement};
 
@@ -33,9 +33,9 @@ fn handles_in_range(expressions: usize, statement: &Statement) -> bool
 }
 
 /// Whether the operands and the result of a statement, and the range of an `Emit`, lie in the first
-/// `expressions`, and its callee in the first `callees` functions, and a switch's labels have 32
-/// bits. Its blocks are left out. A range may be empty or turned: then it has no handles, and both
-/// its ends still lie there.
+/// `expressions`, and its callee in the first `callees` functions, and a switch's case values have
+/// 32 bits. Its blocks are left out. A range may be empty or turned: then it has no handles, and
+/// both its ends still lie there.
 pub(crate) fn own_in_range(callees: usize, expressions: usize, statement: &Statement) -> bool
     ensures { result ≡ own_in_range callees expressions (tree_of statement.now) }
 {
@@ -44,7 +44,7 @@ pub(crate) fn own_in_range(callees: usize, expressions: usize, statement: &State
         Statement::Block(_) => true,
         Statement::If { condition, .. } => condition.index() < expressions,
         Statement::Switch { selector, cases } => {
-            selector.index() < expressions && labels_fit_32_bits(cases)
+            selector.index() < expressions && case_values_fit_32_bits(cases)
         }
         Statement::Loop { break_if, .. } => is_below(expressions, *break_if),
         Statement::Call { function, .. } => {

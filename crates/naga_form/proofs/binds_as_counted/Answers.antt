@@ -1,5 +1,5 @@
 use Rattle.naga_form.proofs.statements.OneFunction.{binds_at}
-use Rattle.naga_form.proofs.statements.Bindings.{binds_as_under}
+use Rattle.naga_form.proofs.statements.WrittenLets.{binds_as_under}
 use Rattle.naga_form.proofs.binds_as_counted.Goals as goal
 
 pub returns-clause-whole : goal.returns-clause-whole

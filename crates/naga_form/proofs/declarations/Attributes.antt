@@ -34,7 +34,7 @@ use Rattle.wgsl_text.specs.Attributes.{IsAttributes, Numbered, Plain, PerPrimiti
 use Rattle.wgsl_text.specs.Attributes.{Coherent, Align, Size, Volatile}
 use Rattle.wgsl_text.specs.Attributes.{Worded, Compute, Task, AnyHit, ClosestHit, Miss, Mesh}
 use Rattle.wgsl_text.specs.Attributes.{Payload, IncomingPayload}
-use Rattle.wgsl_text.specs.Attributes.{behind_location, behind_size as may_follow_size}
+use Rattle.wgsl_text.specs.Attributes.{after_location, after_size as may_follow_size}
 use Rattle.wgsl_text.specs.Attributes.{is_global_binding, is_id, is_io_binding, is_member_binding}
 use Rattle.wgsl_text.specs.Attributes.{is_stage}
 use Rattle.wgsl_text.specs.Words.{IsIdentifier}
@@ -42,8 +42,8 @@ use Rattle.text_meaning.specs.Attributes.{AnyHitStage, BuiltinValue, ClosestHitS
 use Rattle.text_meaning.specs.Attributes.{MeshStage, MissStage, TaskStage}
 use Rattle.text_meaning.specs.Attributes.{ResourceBinding as Resource}
 use Rattle.text_meaning.specs.Attributes.{AtLocation, LocationBinding, alignment_read}
-use Rattle.text_meaning.specs.Attributes.{behind_alignment, behind_location_read}
-use Rattle.text_meaning.specs.Attributes.{behind_size, default_interpolation, default_sampling}
+use Rattle.text_meaning.specs.Attributes.{after_alignment, after_location_read}
+use Rattle.text_meaning.specs.Attributes.{after_size, default_interpolation, default_sampling}
 use Rattle.text_meaning.specs.Attributes.{id_read, is_coherent, is_volatile}
 use Rattle.text_meaning.specs.Attributes.{plain_location, resource_binding_read, size_read}
 use Rattle.text_meaning.specs.Attributes.{stage_binding_read, stage_read}
@@ -78,7 +78,7 @@ told_location n source i s per_primitive =
 -- words that are left out are those that are meant
 location_read : (n : ℕ) (source : Option ℕ) (perspective center : Bool) (i s : List ℕ) (per_primitive : Bool) →
     (perspective ≡ true → i ≡ default_interpolation) → (center ≡ true → s ≡ default_sampling) →
-    behind_location_read (plain_location n) (location_attributes source perspective center i s per_primitive) ≡
+    after_location_read (plain_location n) (location_attributes source perspective center i s per_primitive) ≡
     AtLocation (told_location n source i s per_primitive)
 location_read n None true true i s true is_i is_s = λ j. AtLocation (told_location n None (sym (is_i refl) j) (sym (is_s refl) j) true)
 location_read n None true true i s false is_i is_s = λ j. AtLocation (told_location n None (sym (is_i refl) j) (sym (is_s refl) j) false)
@@ -303,7 +303,7 @@ builtin_io value (Some w) at true is =
     subst (λ v. bytes_eq (codes "position") v ≡ true) same refl
 
 location_io : (source : Option ℕ) (perspective center : Bool) (i s : List ℕ) (per_primitive : Bool) →
-    behind_location (location_attributes source perspective center i s per_primitive) ≡ true
+    after_location (location_attributes source perspective center i s per_primitive) ≡ true
 location_io None true true i s true = refl
 location_io None true true i s false = refl
 location_io None false true i s true = refl
@@ -338,7 +338,7 @@ member_is (Some n) b = (bound_member (passing_attributes b) (passing_io b)).0
 
 -- so what is written of a member says its size, no alignment and how it passes
 abbrev GivesNoRoom : List Attribute → Type 0
-GivesNoRoom list = (size_read list ≡ None) × (behind_size list ≡ list) × (alignment_read list ≡ None) × (behind_alignment list ≡ list)
+GivesNoRoom list = (size_read list ≡ None) × (after_size list ≡ list) × (alignment_read list ≡ None) × (after_alignment list ≡ list)
 
 gives_no_room : (list : List Attribute) → is_io_binding list ≡ true → GivesNoRoom list
 gives_no_room (Numbered Size n ∷ more) is = absurd cc
@@ -347,8 +347,8 @@ gives_no_room _ is = (refl, refl, refl, refl)
 
 abbrev pub SaysOfMember : (size : Option ℕ) → Option Binding → List Attribute → Type 0
 SaysOfMember size b list =
-    (size_read list ≡ size) × (alignment_read (behind_size list) ≡ None)
-    × (stage_binding_read (behind_alignment (behind_size list)) ≡ stage_binding b)
+    (size_read list ≡ size) × (alignment_read (after_size list) ≡ None)
+    × (stage_binding_read (after_alignment (after_size list)) ≡ stage_binding b)
 
 pub member_read : (size : Option ℕ) (b : Option Binding) → option_map_or binding_has_form b true ≡ true →
     SaysOfMember size b (member_attributes size b)
@@ -356,7 +356,7 @@ member_read None b has =
     let none = gives_no_room (passing_attributes b) (passing_io b) in (
       none.0,
       ap alignment_read none.1 ∙ none.2,
-      ap (λ l. stage_binding_read (behind_alignment l)) none.1
+      ap (λ l. stage_binding_read (after_alignment l)) none.1
           ∙ (ap stage_binding_read none.3 ∙ passing_read b has),
     )
 member_read (Some n) b has =

@@ -96,7 +96,7 @@ use Rattle.naga_form.proofs.declarations.Attributes.{volatile_is_read}
 use Rattle.naga_form.proofs.Facts.{from_start, further}
 use Rattle.naga_form.proofs.types.Layouts.{keeps_layouts}
 use Rattle.naga_form.proofs.declarations.GlobalValues.{values_alike}
-use Rattle.naga_form.proofs.statements.SwitchLabels.{AllEnd, block_ends, lines_tell}
+use Rattle.naga_form.proofs.statements.SwitchCaseValues.{AllEnd, block_ends, lines_tell}
 use Rattle.naga_form.proofs.types.TypeTrees.{type_row}
 use Rattle.naga_form.proofs.statements.WrittenFunctions.{entry_point_at}
 use Rattle.naga_back.specs.declared.flags.WriterFlags.{WriterFlags}
@@ -386,8 +386,8 @@ module _ (m : Module) where
               let one =
               and_parts (is_below count (option_map (λ k. k.output_variable) p.mesh_info)) _ own in
               let two = and_parts (is_below count p.task_payload) _ one.1 in
-              let behind = and_parts (is_below count p.incoming_ray_payload) _ two.1 in
-              let sizes = and_parts (workgroup_fits_32_bits p.workgroup_size) _ behind.1 in
+              let following = and_parts (is_below count p.incoming_ray_payload) _ two.1 in
+              let sizes = and_parts (workgroup_fits_32_bits p.workgroup_size) _ following.1 in
               eqb-true (length p.workgroup_size) 3
               (and_parts (length p.workgroup_size == 3) (list_all fits_32_bits p.workgroup_size)
               sizes.0).0

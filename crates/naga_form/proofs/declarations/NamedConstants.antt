@@ -1,13 +1,16 @@
 -- The named constants of a module and its overrides in the list of types that its program of shapes
 -- has for them.
-use Rattle.std.proofs.Common.{◌≡◌, ℕ, zero, suc, ◌+◌, ◌-◌, ◌<◌, ◌≤◌, Bool, true, false, List, [], ◌∷◌, ◌++◌, refl, sym, ap, ◌∙◌, length, take}
+use Rattle.std.proofs.Common.{◌≡◌, ℕ, zero, suc, ◌+◌, ◌-◌, ◌<◌, ◌≤◌, Bool, true, false, List, []}
+use Rattle.std.proofs.Common.{◌∷◌, ◌++◌, refl, sym, ap, ◌∙◌, length, take}
 use Rattle.std.proofs.Common.{Some, slice_get, map, arith, nat_lt}
 use Rattle.std.specs.Prelude.{if◌then◌else◌}
 use Rattle.std.specs.List.{filter}
 use Rattle.std.specs.Option.{option_map, option_map_or, is_some}
 use Rattle.std.proofs.lemmas.Bool.{ltb-true, ltb-false}
-use Rattle.std.proofs.lemmas.List.{length-drop, length-map, length-append, get_or_append_left, get_or-append-add}
-use Rattle.std.proofs.lemmas.Option.{slice_get-map, slice_get_past, slice_get_within, get_or_from_slice_get}
+use Rattle.std.proofs.lemmas.List.{length-drop, length-map, length-append, get_or_append_left}
+use Rattle.std.proofs.lemmas.List.{get_or-append-add}
+use Rattle.std.proofs.lemmas.Option.{slice_get-map, slice_get_past, slice_get_within}
+use Rattle.std.proofs.lemmas.Option.{get_or_from_slice_get}
 use Rattle.std.proofs.lemmas.Option.{same_Some}
 use Rattle.naga_ir.specs.declared.module.Constant.{Constant}
 use Rattle.naga_ir.specs.declared.module.Module.{Module}
@@ -160,13 +163,13 @@ which_constant m i lt = by (nat_lt i (named_count m.constants)) refl
         (ap (λ o. option_map_or key.Constant o (key.Override (i - named_count m.constants)))
         (found.1 ∙ ap Some same))
     by false is =
-        let behind = ltb-false i (named_count m.constants) is in
+        let following = ltb-false i (named_count m.constants) is in
         let count = handles_count 0 m.constants in
-        let found = element m.overrides (i - named_count m.constants) (omega (arith, lt, behind)) in
-        let back : named_count m.constants + (i - named_count m.constants) ≡ i = omega (arith, behind) in
+        let found = element m.overrides (i - named_count m.constants) (omega (arith, lt, following)) in
+        let back : named_count m.constants + (i - named_count m.constants) ≡ i = omega (arith, following) in
         OfOverride (i - named_count m.constants) found.0 found.1 back
         (ap (λ o. option_map_or key.Constant o (key.Override (i - named_count m.constants)))
-        (slice_get_past (named_handles 0 m.constants) i (omega (arith, count, behind))))
+        (slice_get_past (named_handles 0 m.constants) i (omega (arith, count, following))))
 
 -- what has the number of a constant with a name, and that of an override, has its name
 pub constant_numbered : (names : NameMap) (m : Module) (h : ℕ) (c : Constant) → slice_get m.constants h ≡ Some c → is_some c.name ≡ true →

@@ -37,7 +37,7 @@ use Rattle.module_meaning.proofs.Lists.{list_all_at}
 use Rattle.module_meaning.proofs.Lists.{placed_at}
 use Rattle.naga_form.proofs.declarations.AcceptedGroups.{IsSoundGroup, own_known, own_group}
 use Rattle.naga_form.proofs.declarations.AcceptedGroups.{declarations_are}
-use Rattle.naga_form.proofs.operators.ConstantTrees.{wanted_there, availability_tree}
+use Rattle.naga_form.proofs.operators.ConstantTrees.{expected_there, availability_tree}
 
 abbrev HasTree : Option ConstantTree → Type 0
 HasTree o = (t : ConstantTree) × (o ≡ Some t)
@@ -79,7 +79,7 @@ module _ (m : Module) (info : ModuleInfo) where
         (slice_get m.constants c ≡ Some k)
     constant_named f g is h c at =
         let own = own_known m info f g is h (expression.Constant c) at in
-        let there = wanted_there m info (types.constant_type m c) own.0 (is.typed h (expression.Constant c) own.0 at own.1) in
+        let there = expected_there m info (types.constant_type m c) own.0 (is.typed h (expression.Constant c) own.0 at own.1) in
         let item = map_some (λ c. Handle c.ty) (slice_get m.constants c) there.0 there.1 in
         (item.0, item.1)
 

@@ -194,9 +194,9 @@ module _ (m : Module) where
     abbrev all : List ℕ
     all = named_handles 0 m.constants
 
-    behind : (k : ℕ) (cs : List Constant) (i : ℕ) →
+    following : (k : ℕ) (cs : List Constant) (i : ℕ) →
         slice_get (named_handles (k + 1) cs) i ≡ slice_get (named_handles (suc k) cs) i
-    behind k cs i = ap (λ h. slice_get (named_handles h cs) i) (add-one k)
+    following k cs i = ap (λ h. slice_get (named_handles h cs) i) (add-one k)
 
     -- one with a name has that which its number has in the runs
     name_by_number : (k number : ℕ) → Some k ≡ slice_get all number →
@@ -251,8 +251,8 @@ module _ (m : Module) where
                 slice_get (named_handles (k + 1) cs) i ≡ slice_get all (suc number + i)
             later i =
                 let moved : number + suc i ≡ suc number + i = omega arith in
-                behind k cs i ∙ (here (suc i) ∙ ap (slice_get all) moved)
-        by false here more = more number (λ i. behind k cs i ∙ here i)
+                following k cs i ∙ (here (suc i) ∙ ap (slice_get all) moved)
+        by false here more = more number (λ i. following k cs i ∙ here i)
 
     pub constants_named :
         map (λ (c : TextConstant). c.name)
@@ -313,8 +313,8 @@ module _ (m : Module) where
                   slice_get (named_handles (k + 1) cs) i ≡ slice_get all (suc number + i)
               later i =
                   let moved : number + suc i ≡ suc number + i = omega arith in
-                  behind k cs i ∙ (here (suc i) ∙ ap (slice_get all) moved)
-          by false named here more = more number (λ i. behind k cs i ∙ here i)
+                  following k cs i ∙ (here (suc i) ∙ ap (slice_get all) moved)
+          by false named here more = more number (λ i. following k cs i ∙ here i)
 
       pub constants_read :
           map constant_read (filter_map (constant_form names t m) (enumerate_from 0 m.constants)) ≡

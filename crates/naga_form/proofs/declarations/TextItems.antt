@@ -56,15 +56,15 @@ module _ (m : Module) (info : ModuleInfo) (flags : WriterFlags) (named : LabelNa
 
   -- each after those before it has its name
   forms_named : (g : ℕ) (fs : List ir_function.Function) (ess : List (List ExpressionInfo)) →
-      (behind : List TextFunction) → length behind ≡ g → AreNamed n behind →
+      (following : List TextFunction) → length following ≡ g → AreNamed n following →
       AreNamed n
       (reverse_aux
-      (map function_read (functions_under named flags (module_names m) m info g fs ess)) behind)
-  forms_named g [] ess behind at are = are
-  forms_named g (f ∷ fs) [] behind at are = are
-  forms_named g (f ∷ fs) (es ∷ ess) behind at are =
+      (map function_read (functions_under named flags (module_names m) m info g fs ess)) following)
+  forms_named g [] ess following at are = are
+  forms_named g (f ∷ fs) [] following at are = are
+  forms_named g (f ∷ fs) (es ∷ ess) following at are =
       let own = function_read (function_form flags (module_names m) (named g) m info g f es) in
-      forms_named (g + 1) fs ess (own ∷ behind) (ap suc at ∙ sym (add-one g))
+      forms_named (g + 1) fs ess (own ∷ following) (ap suc at ∙ sym (add-one g))
       (ap n.function (sym at), are)
 
   -- and there are as many as the module has

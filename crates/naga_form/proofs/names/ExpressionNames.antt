@@ -37,7 +37,7 @@ split_at (x ∷ xs) (suc j) y e =
 
 -- ---- places of a list of labels
 -- the label stands in the list, after these
-pub record StandsBehind (labels earlier : List (List ℕ)) (label : List ℕ) : Type 0 where
+pub record StandsAfter (labels earlier : List (List ℕ)) (label : List ℕ) : Type 0 where
   pub rest : List (List ℕ)
   pub all : labels ≡ earlier ++ label ∷ rest
 
@@ -57,7 +57,7 @@ begins (w ∷ a) x r (z ∷ b) y s same lt =
 module _ (labels : List (List ℕ)) where
   -- labels at two places have different names
   differ : (a : List (List ℕ)) (x : List ℕ) (b : List (List ℕ)) (y : List ℕ) →
-      StandsBehind labels a x → StandsBehind labels b y → length a < length b →
+      StandsAfter labels a x → StandsAfter labels b y → length a < length b →
       name_after wgsl_names a x ≡ name_after wgsl_names b y → ⊥
   differ a x b y s t lt same =
       let middle = begins a x s.rest b y t.rest (sym s.all ∙ t.all) lt in
@@ -66,7 +66,7 @@ module _ (labels : List (List ℕ)) where
 
   -- two places with one name are one
   pub names_tell : (a : List (List ℕ)) (x : List ℕ) (b : List (List ℕ)) (y : List ℕ) →
-      StandsBehind labels a x → StandsBehind labels b y →
+      StandsAfter labels a x → StandsAfter labels b y →
       name_after wgsl_names a x ≡ name_after wgsl_names b y → length a ≡ length b
   names_tell a x b y s t same = by (cases_order (length a) (length b))
     where
@@ -91,7 +91,7 @@ module _ (m : Module) (later labels : List (List ℕ)) where
 
   -- the labels of items are those in front of one, that one, and others
   split_item : (item : LabelledItem) (s : Stands (labelled_items wgsl_names m) item) →
-      StandsBehind (item_labels m) (before_item item s) item.1
+      StandsAfter (item_labels m) (before_item item s) item.1
   split_item item s =
       let parts = split_at (labelled_items wgsl_names m) s.place item s.there in
       record {
@@ -101,7 +101,7 @@ module _ (m : Module) (later labels : List (List ℕ)) where
       }
 
   item_stands : (item : LabelledItem) (s : Stands (labelled_items wgsl_names m) item) →
-      StandsBehind all (before_item item s) item.1
+      StandsAfter all (before_item item s) item.1
   item_stands item s =
       let first = before_item item s in
       let own = split_item item s in
@@ -125,7 +125,7 @@ module _ (m : Module) (later labels : List (List ℕ)) where
   before_named k = earlier ++ take k labels
 
   named_stands : (k : ℕ) (label : List ℕ) → slice_get labels k ≡ Some label →
-      StandsBehind all (before_named k) label
+      StandsAfter all (before_named k) label
   named_stands k label at =
       let own = split_at labels k label at in
       record {
@@ -189,9 +189,9 @@ module _ (m : Module) (later labels : List (List ℕ)) where
 -- ---- the names of the labels of a module's functions
 module _ (m : Module) where
   -- those of one function, after any that are named after the labels of the module's items
-  pub names_behind : (f : ir_function.Function) (later : List (List ℕ)) →
+  pub names_following : (f : ir_function.Function) (later : List (List ℕ)) →
       AreLabelNamesOf m f (name_of_label wgsl_names (item_labels m ++ later) (expression_labels f))
-  names_behind f later =
+  names_following f later =
       let labels = expression_labels f in
       record {
         identifiers = named_is_identifier m later labels;
@@ -203,21 +203,21 @@ module _ (m : Module) where
       }
 
   -- the same of a function by its number
-  names_behind_at : (g : ℕ) (f : ir_function.Function) → slice_get (all_functions m) g ≡ Some f →
+  names_after_at : (g : ℕ) (f : ir_function.Function) → slice_get (all_functions m) g ≡ Some f →
       (later : List (List ℕ)) →
       AreLabelNamesOf m f
       (name_of_label wgsl_names (item_labels m ++ later) (labels_named_in m g))
-  names_behind_at g f found later =
+  names_after_at g f found later =
       subst (λ o. AreLabelNamesOf m f
       (name_of_label wgsl_names (item_labels m ++ later) (option_map_or expression_labels o [])))
-      (sym found) (names_behind f later)
+      (sym found) (names_following f later)
 
   -- in a text of the whole module each function's labels are named after those of the functions in
   -- front of it
   pub expression_names_are : AreLabelNames m (expression_name m)
   unfolding expression_name
   expression_names_are g f found =
-      names_behind_at g f found (all_expression_labels (take g (all_functions m)))
+      names_after_at g f found (all_expression_labels (take g (all_functions m)))
 
   -- those of one function may be others
   pub apart_there : (number : ℕ) (own : ℕ → List ℕ) → named_apart m number own number ≡ own
@@ -230,11 +230,11 @@ module _ (m : Module) where
       ap (λ b. if b then own else expression_name m g) (ne_eqb g number other)
 
   -- as those that are named after any others
-  pub names_behind_are : (number : ℕ) (later : List (List ℕ)) →
+  pub names_after_are : (number : ℕ) (later : List (List ℕ)) →
       AreLabelNames m
       (named_apart m number
       (name_of_label wgsl_names (item_labels m ++ later) (labels_named_in m number)))
-  names_behind_are number later g f found = by (g == number) refl
+  names_after_are number later g f found = by (g == number) refl
     where
       own : ℕ → List ℕ
       own = name_of_label wgsl_names (item_labels m ++ later) (labels_named_in m number)
@@ -242,7 +242,7 @@ module _ (m : Module) where
       by : (b : Bool) → g == number ≡ b →
           AreLabelNamesOf m f (if b then own else expression_name m g)
       by true same =
-          names_behind_at number f
+          names_after_at number f
           (ap (slice_get (all_functions m)) (sym (eqb-true g number same)) ∙ found) later
       by false other = expression_names_are g f found
 
@@ -251,7 +251,7 @@ module _ (m : Module) where
       AreLabelNames m
       (λ number.
       name_of_label wgsl_names (item_labels m ++ later number) (labels_named_in m number))
-  names_of_each_are later g f found = names_behind_at g f found (later g)
+  names_of_each_are later g f found = names_after_at g f found (later g)
 
   -- ---- what names of labels are
   module _ (f : ir_function.Function) (named : (label : ℕ) → List ℕ)

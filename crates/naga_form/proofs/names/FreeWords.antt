@@ -10,10 +10,10 @@ use Rattle.wgsl_text.specs.Requests.{is_request, head_word}
 use Rattle.wgsl_text.specs.Words.{is_word_text}
 use Rattle.module_meaning.specs.OperatorTable.{Operator, CooperativeLoad}
 use Rattle.module_meaning.specs.OperatorTable.{Construct, Convert, Reinterpret, WithoutForm}
-use Rattle.module_meaning.specs.OperatorTable.{Formless}
+use Rattle.module_meaning.specs.OperatorTable.{Unsupported}
 use Rattle.module_meaning.specs.OperatorTable.{Cast, with_type, run_word}
 use Rattle.module_meaning.specs.OperatorTable.{one_word, asks, is_untyped, SpellsAType, TypeIsSound}
-use Rattle.module_meaning.specs.OperatorTable.{formless_word, formless_asks}
+use Rattle.module_meaning.specs.OperatorTable.{unsupported_word, unsupported_asks}
 use Rattle.naga_form.proofs.names.FreeNames.{begins_free}
 use Rattle.naga_form.proofs.operators.OperatorEvents.{asks_as_distinguished}
 use Rattle.naga_form.proofs.operators.OperatorTable.{by_table, mathematical, others}
@@ -106,14 +106,14 @@ spelling_is_distinguished : (w : List ℕ) → SpellsAType w → (begins_free w 
 spelling_is_distinguished w is =
     (no_number w (type_begins w is), by_text w false (asks_as_distinguished (Convert w) w is refl) (no_own_request w is))
 
-formless_distinguished : (x : Formless) → free_request (formless_word x) ≡ formless_asks x
+unsupported_distinguished : (x : Unsupported) → free_request (unsupported_word x) ≡ unsupported_asks x
 unfolding free_request is_request
-formless_distinguished (Cast kind width) = refl
-formless_distinguished _ = refl
+unsupported_distinguished (Cast kind width) = refl
+unsupported_distinguished _ = refl
 
-formless_is_free : (x : Formless) → begins_free (formless_word x) ≡ false
-formless_is_free (Cast kind width) = refl
-formless_is_free _ = refl
+unsupported_is_free : (x : Unsupported) → begins_free (unsupported_word x) ≡ false
+unsupported_is_free (Cast kind width) = refl
+unsupported_is_free _ = refl
 
 typed_is_distinguished : (o : Operator) → is_untyped o ≡ false → TypeIsSound o →
     WordIsDistinguished o
@@ -132,7 +132,7 @@ typed_is_distinguished (CooperativeLoad true w) u is = record {
   asking = by_text (with_type (codes "coopLoadT") w) true (asks_as_distinguished (CooperativeLoad true w) (with_type (codes "coopLoadT") w) is refl) refl;
 }
 typed_is_distinguished (WithoutForm x) u is =
-    record { free = formless_is_free x; asking = formless_distinguished x }
+    record { free = unsupported_is_free x; asking = unsupported_distinguished x }
 typed_is_distinguished _ u is = absurd (true≢false u)
 
 pub word_is_distinguished : (o : Operator) → TypeIsSound o → WordIsDistinguished o

@@ -10,9 +10,9 @@ use Rattle.std.specs.List.{list_all}
 use Rattle.std.proofs.lemmas.Bool.{and_from}
 use Rattle.std.proofs.lemmas.List.{map-append}
 use Rattle.std.proofs.lemmas.List.Folds.{list_all-append}
-use Rattle.shader_runs.specs.Bindings.{Binding, bound_names, cases_bindings, emit_bindings}
-use Rattle.shader_runs.specs.Bindings.{lines_lets, result_bindings, statement_bindings}
-use Rattle.shader_runs.specs.Bindings.{statements_bindings}
+use Rattle.shader_runs.specs.NamedLets.{NamedLet, bound_names, cases_named_lets, emit_named_lets}
+use Rattle.shader_runs.specs.NamedLets.{lines_lets, result_named_lets, statement_named_lets}
+use Rattle.shader_runs.specs.NamedLets.{statements_named_lets}
 use Rattle.shader_runs.specs.Form.{form_all, form_function, names_from, variables_from}
 use Rattle.shader_runs.specs.Program.{Act, argument_count, binds, Block, case, Cases, Emit, end}
 use Rattle.shader_runs.specs.Program.{from, If, is_named, local_count, Loop, Module, no_case}
@@ -20,7 +20,7 @@ use Rattle.shader_runs.specs.Program.{Statement, Statements, Switch, then}
 use Rattle.shader_runs.specs.Scope.{at_start, bound_name, ModuleNames, named_after, named_after_all}
 use Rattle.shader_runs.specs.Scope.{named_by, named_by_all, named_by_cases, Naming}
 use Rattle.shader_runs.specs.Value.{Bytes}
-use Rattle.shader_runs.proofs.Bindings.{binds_as_meant}
+use Rattle.shader_runs.proofs.NamedLets.{binds_as_meant}
 use Rattle.shader_runs.proofs.Sources.{cases_more, list_more, named_all_more}
 use Rattle.text_meaning.specs.Resolution.{own_names}
 
@@ -49,10 +49,10 @@ module _ (p : Module) (n : ModuleNames) (f : Naming) (test : Bytes → Bool)
   abbrev total : ℕ
   total = named_by_all f.function f.function.body 0
 
-  abbrev Pass : List Binding → Type 0
+  abbrev Pass : List NamedLet → Type 0
   Pass bs = list_all test (map (λ b. b.name) bs) ≡ true
 
-  both_pass : (first second : List Binding) → Pass first → Pass second → Pass (first ++ second)
+  both_pass : (first second : List NamedLet) → Pass first → Pass second → Pass (first ++ second)
   both_pass first second a b =
       ap (list_all test) (map-append (λ b. b.name) first second)
       ∙ (list_all-append test (map (λ b. b.name) first) (map (λ b. b.name) second)
@@ -68,15 +68,15 @@ module _ (p : Module) (n : ModuleNames) (f : Naming) (test : Bytes → Bool)
       by false le = numbered h
 
   emitted_pass : (k : ℕ) (hs : List ℕ) → named_after_all f.function hs k ≤ total →
-      Pass (emit_bindings f k hs)
+      Pass (emit_named_lets f k hs)
   emitted_pass k [] le = refl
   emitted_pass k (h ∷ hs) le =
       let more = named_all_more f hs (named_after f.function h k) in
       by (binds f.function h) (bound_passes k h (omega (arith, le, more)))
       (emitted_pass (named_after f.function h k) hs le)
     where
-      rest : List Binding
-      rest = emit_bindings f (named_after f.function h k) hs
+      rest : List NamedLet
+      rest = emit_named_lets f (named_after f.function h k) hs
 
       by : (b : Bool) → test (bound_name f k h) ≡ true → Pass rest →
           Pass (cond b (record { handle = h; name = bound_name f k h } ∷ rest) rest)
@@ -84,46 +84,46 @@ module _ (p : Module) (n : ModuleNames) (f : Naming) (test : Bytes → Bool)
           and_from (test (bound_name f k h)) (list_all test (map (λ b. b.name) rest)) own later
       by false own later = later
 
-  result_passes : (r : Option ℕ) → Pass (result_bindings f.names r)
+  result_passes : (r : Option ℕ) → Pass (result_named_lets f.names r)
   result_passes None = refl
   result_passes (Some h) = and_from (test (f.names.numbered h)) true (numbered h) refl
 
   mutual
     statement_passes : (k : ℕ) (st : Statement) → named_by f.function st k ≤ total →
-        Pass (statement_bindings f k st)
+        Pass (statement_named_lets f k st)
     statement_passes k (Emit first count) le = emitted_pass k (from first count) le
     statement_passes k (Block b) le = statements_pass k b le
     statement_passes k (If c a b) le =
         let k1 = named_by_all f.function a k in
         let more = list_more f b k1 in
-        both_pass (statements_bindings f k a) (statements_bindings f k1 b)
+        both_pass (statements_named_lets f k a) (statements_named_lets f k1 b)
         (statements_pass k a (omega (arith, le, more))) (statements_pass k1 b le)
     statement_passes k (Switch h cs) le = cases_pass k cs le
     statement_passes k (Loop b d e) le =
         let k1 = named_by_all f.function b k in
         let more = list_more f d k1 in
-        both_pass (statements_bindings f k b) (statements_bindings f k1 d)
+        both_pass (statements_named_lets f k b) (statements_named_lets f k1 d)
         (statements_pass k b (omega (arith, le, more))) (statements_pass k1 d le)
     statement_passes k (Act a xs r) le = result_passes r
     statement_passes k _ le = refl
 
     statements_pass : (k : ℕ) (ss : Statements) → named_by_all f.function ss k ≤ total →
-        Pass (statements_bindings f k ss)
+        Pass (statements_named_lets f k ss)
     statements_pass k end le = refl
     statements_pass k (then st ss) le =
         let k1 = named_by f.function st k in
         let more = list_more f ss k1 in
-        both_pass (statement_bindings f k st) (statements_bindings f k1 ss)
+        both_pass (statement_named_lets f k st) (statements_named_lets f k1 ss)
         (statement_passes k st (omega (arith, le, more))) (statements_pass k1 ss le)
 
     cases_pass : (k : ℕ) (cs : Cases) → named_by_cases f.function cs k ≤ total →
-        Pass (cases_bindings f k cs)
+        Pass (cases_named_lets f k cs)
     cases_pass k no_case le = refl
     cases_pass k (case label b true cs) le = cases_pass (named_by_all f.function b k) cs le
     cases_pass k (case label b false cs) le =
         let k1 = named_by_all f.function b k in
         let more = cases_more f cs k1 in
-        both_pass (statements_bindings f k b) (cases_bindings f k1 cs)
+        both_pass (statements_named_lets f k b) (cases_named_lets f k1 cs)
         (statements_pass k b (omega (arith, le, more))) (cases_pass k1 cs le)
 
   lets_are : lines_lets (form_all f 0 f.function.body (at_start f.function)) ≡ bound_names f

@@ -151,18 +151,18 @@ module _ (m : Module) (info : ModuleInfo) (flags : WriterFlags) (labels : LabelN
   pub functions_hide_none : AreLabelNames m labels → (g : ℕ) (fs : List ir_function.Function)
       (ess : List (List ExpressionInfo)) →
       ((i : ℕ) (f : ir_function.Function) → slice_get fs i ≡ Some f →
-      slice_get (all_functions m) (g + i) ≡ Some f) → (behind : List Naming) →
-      list_all hides_none (form_functions behind) ≡ true →
+      slice_get (all_functions m) (g + i) ≡ Some f) → (following : List Naming) →
+      list_all hides_none (form_functions following) ≡ true →
       list_all hides_none
       (form_functions
-      (reverse_aux (namings_from labels (module_names m) m g (function_shapes m info fs ess)) behind))
+      (reverse_aux (namings_from labels (module_names m) m g (function_shapes m info fs ess)) following))
       ≡ true
-  functions_hide_none are g [] ess there behind all = all
-  functions_hide_none are g (f ∷ fs) [] there behind all = all
-  functions_hide_none are g (f ∷ fs) (es ∷ ess) there behind all =
+  functions_hide_none are g [] ess there following all = all
+  functions_hide_none are g (f ∷ fs) [] there following all = all
+  functions_hide_none are g (f ∷ fs) (es ∷ ess) there following all =
       let here : g + 0 ≡ g = omega arith in
       let found = subst (λ h. slice_get (all_functions m) h ≡ Some f) here (there 0 f refl) in
       let one = function_naming (module_names m) (labels g) m info g f es in
-      functions_hide_none are (g + 1) fs ess (further (all_functions m) g f fs there) (one ∷ behind)
-      (and_from (hides_none (form_function one)) (list_all hides_none (form_functions behind))
+      functions_hide_none are (g + 1) fs ess (further (all_functions m) g f fs there) (one ∷ following)
+      (and_from (hides_none (form_function one)) (list_all hides_none (form_functions following))
       (function_hides_none g f found (are g f found) es) all)

@@ -31,7 +31,7 @@ use Rattle.std.specs.Option.{option_map, option_map_or, option_and_then}
 use Rattle.std.specs.Prelude.{codes}
 use Rattle.naga_form.proofs.operators.OperatingWords.{operates_freely, asks_freely, asking_free}
 use Rattle.naga_form.proofs.operators.OperatingWords.{silent_free}
-use Rattle.naga_form.proofs.operators.OperatingWords.{bits_free, formless_free, is_of_statements}
+use Rattle.naga_form.proofs.operators.OperatingWords.{bits_free, unsupported_free, is_of_statements}
 use Rattle.naga_form.proofs.operators.OperatingWords.{is_signed}
 use Rattle.naga_form.proofs.operators.OperatingWords.{matrix_load_free, request_free, free_parts}
 use Rattle.naga_form.proofs.operators.OperatingWords.{names_no_item}
@@ -252,9 +252,9 @@ module _ (m : Module) (info : ModuleInfo) (types : TypesAreFit m) (p : shapes.Mo
   converted_words bits kind convert operand from (Some it) fit =
       type_words (Value it) (fit it refl) (λ op. WordFits p own (Some (applied_shape op (operand ∷ []))))
       (cast_to bits) (WithoutForm (Cast kind convert)) (λ word free. cast_words bits word operand free)
-      (operates (run_word (WithoutForm (Cast kind convert))) (formless_free (Cast kind convert) refl))
+      (operates (run_word (WithoutForm (Cast kind convert))) (unsupported_free (Cast kind convert) refl))
   converted_words bits kind convert operand from None fit =
-      operates (run_word (WithoutForm (Cast kind convert))) (formless_free (Cast kind convert) refl)
+      operates (run_word (WithoutForm (Cast kind convert))) (unsupported_free (Cast kind convert) refl)
 
   target_is_fit : (kind : ScalarKind) (convert : Option ℕ) (o : Option TypeInner) (it : TypeInner) →
       option_and_then (λ it. conversion_target it kind convert) o ≡ Some it → IsFit m (Value it)
@@ -386,7 +386,7 @@ module _ (m : Module) (info : ModuleInfo) (types : TypesAreFit m) (p : shapes.Mo
     where
       by : (o : Option Selector) → WordFits p own (Some (part_shape base index o))
       by (Some x) = tt
-      by None = operates (run_word (WithoutForm (PartAt index))) (formless_free (PartAt index) refl)
+      by None = operates (run_word (WithoutForm (PartAt index))) (unsupported_free (PartAt index) refl)
   words h (expression.Load pointer) = by (is_atomic_pointer d.context pointer)
     where
       by : (atomic : Bool) →
@@ -451,9 +451,9 @@ module _ (m : Module) (info : ModuleInfo) (types : TypesAreFit m) (p : shapes.Mo
       absurd (are.not_numbered k (named_in k lb) h (sym e))
 
   -- so nothing is left where its handles are in scope
-  pub is_free : (behind : List shapes.Function) → length behind ≡ g → IsTrue (fits_function own) →
-      IsFree false p (outer_names (module_names m) m) behind own
-  is_free behind earlier scope = record {
+  pub is_free : (following : List shapes.Function) → length following ≡ g → IsTrue (fits_function own) →
+      IsFree false p (outer_names (module_names m) m) following own
+  is_free following earlier scope = record {
     outer = refl;
     earlier = sym earlier;
     words = λ h. any_shape m info f es h (λ o. WordFits p own o) tt (λ e at. words h e);

@@ -98,15 +98,15 @@ module _ (m : Module) (info : ModuleInfo) (callees : ℕ) (f : ir_function.Funct
 module _ (m : Module) (info : ModuleInfo) (named : LabelNames)
     (accepted : IsTrue (is_accepted m info)) where
   leaves_stand : (g : ℕ) (fs : List ir_function.Function) (ess : List (List ExpressionInfo)) → ((i : ℕ) (f : ir_function.Function) → slice_get fs i ≡ Some f → slice_get (all_functions m) (g + i) ≡ Some f) →
-      (behind : List Naming) → LeavesStand behind → LeavesStand (reverse_aux (namings_from named (module_names m) m g (function_shapes m info fs ess)) behind)
-  leaves_stand g [] ess there behind all = all
-  leaves_stand g (f ∷ fs) [] there behind all = all
-  leaves_stand g (f ∷ fs) (es ∷ ess) there behind all =
+      (following : List Naming) → LeavesStand following → LeavesStand (reverse_aux (namings_from named (module_names m) m g (function_shapes m info fs ess)) following)
+  leaves_stand g [] ess there following all = all
+  leaves_stand g (f ∷ fs) [] there following all = all
+  leaves_stand g (f ∷ fs) (es ∷ ess) there following all =
       let here : g + 0 ≡ g = omega arith in
       let known = function_there m info accepted g f (subst (λ h. slice_get (all_functions m) h ≡ Some f) here (there 0 f refl)) in
       let is = accepted_at m info accepted g f known.0 known.1 in
       leaves_stand (g + 1) fs ess (further (all_functions m) g f fs there)
-      (function_naming (module_names m) (named g) m info g f es ∷ behind)
+      (function_naming (module_names m) (named g) m info g f es ∷ following)
       (leaves_are_own m info is.callees f is.ranges es, all)
 
 bodies_resolve : (m : Module) (info : ModuleInfo) (flags : WriterFlags) (named : LabelNames) →

@@ -15,7 +15,7 @@ use Rattle.shader_runs.specs.Typing.{Signature}
 use Rattle.module_meaning.specs.acceptance.Accepted.{is_accepted}
 use Rattle.module_meaning.specs.acceptance.AgreeingOperators.{operator_key, identity_at}
 use Rattle.module_meaning.specs.AlikeTypes.{type_identity}
-use Rattle.module_meaning.specs.acceptance.ExpressionTypes.{wanted_type, LikeThis, is_wanted}
+use Rattle.module_meaning.specs.acceptance.ExpressionTypes.{expected_type, LikeThis, is_expected}
 use Rattle.naga_form.proofs.declarations.AcceptedGroups.{types_are_counted, agree, operands_known}
 use Rattle.naga_form.proofs.declarations.AcceptedGroups.{own_known}
 use Rattle.naga_form.proofs.operators.AgreeingUses.{IsUse, AreKnown, value_at, uses_agree}
@@ -37,12 +37,12 @@ module _ (m : Module) (info : ModuleInfo) (accepted : IsTrue (is_accepted m info
     operands_are = operands_known m info a.function a.group a.sound a.handle a.expression a.there
 
     -- where its operator asks for one type, its own is alike to it
-    pub own_is : (r : TypeResolution) → wanted_type m a.function a.group.known a.expression ≡ LikeThis r → identity_at m.types a.group.known a.handle ≡ type_identity m.types r
+    pub own_is : (r : TypeResolution) → expected_type m a.function a.group.known a.expression ≡ LikeThis r → identity_at m.types a.group.known a.handle ≡ type_identity m.types r
     own_is r wanted =
         let own = own_type in
         ap (λ o. option_map_or (type_identity m.types) o []) own.1
         ∙ (bytes_eq-Decides (type_identity m.types own.0) (type_identity m.types r)).0
-        (sym (ap (λ w. is_wanted m.types w own.0) wanted) ∙ a.sound.typed a.handle a.expression own.0 a.there own.1)
+        (sym (ap (λ w. is_expected m.types w own.0) wanted) ∙ a.sound.typed a.handle a.expression own.0 a.there own.1)
 
     abbrev pub use_of : (k : List ℕ) → operator_key m.types a.group.known a.expression ≡ Some k → IsUse m info
     use_of k at = record {

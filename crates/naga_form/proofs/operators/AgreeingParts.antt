@@ -42,7 +42,7 @@ use Rattle.module_meaning.specs.TypeParts.{is_part_number, value_part_count}
 use Rattle.naga_form.proofs.operators.Signatures.{declared_for}
 use Rattle.naga_names.proofs.Refusal.{element}
 
--- ---- the struct of which a type's numbers tell, by itself or behind a pointer
+-- ---- the struct of which a type's numbers tell, by itself or through a pointer
 abbrev pub struct_distinguished : List ℕ → Option ℕ
 struct_distinguished x =
     if nat_eq (get_or x 0 0) 8 then Some (get_or x 1 0) else (
@@ -89,8 +89,8 @@ module _ (m : Module) (info : ModuleInfo) where
       by true = refl
       by false = refl
 
-  vector_behind : (at : AddressSpace) (n : VectorSize) (s : Scalar) (r : TypeResolution) → struct_distinguished (identity_by (pointer_key at (over_scalar 1 s (vector_number n) 0 0)) r) ≡ None
-  vector_behind at n s r = by (is_some (scalar_word s))
+  pointee_vector : (at : AddressSpace) (n : VectorSize) (s : Scalar) (r : TypeResolution) → struct_distinguished (identity_by (pointer_key at (over_scalar 1 s (vector_number n) 0 0)) r) ≡ None
+  pointee_vector at n s r = by (is_some (scalar_word s))
     where
       by : (b : Bool) → struct_distinguished (identity_by (pointer_key at (if b then Some (level 1 (kind_number s.kind) s.width (vector_number n) 0 0) else None)) r) ≡ None
       by true = refl
@@ -116,7 +116,7 @@ module _ (m : Module) (info : ModuleInfo) where
   StructsTell r form whole _ = Unit {0}
 
   module _ (g : Group) where
-    -- of the parts of what a type has itself, or behind a pointer
+    -- of the parts of what a type has itself, or through a pointer
     named : (r : TypeResolution) (whole : Option ℕ) (form : Option (List ℕ)) →
         type_key m.types r ≡ form → (index : ℕ) (s : Selector) (it : TypeInner) →
         VectorsTell r form it → StructsTell r form whole it →
@@ -138,15 +138,15 @@ module _ (m : Module) (info : ModuleInfo) where
     named r whole form is_form index s _ vectors structs selected within = absurd cc
 
     -- through a pointer
-    vectors_behind : (r : TypeResolution) (base : ℕ) (at : AddressSpace) (f : ℕ → Option (List ℕ)) (it : TypeInner) → VectorsTell r (pointer_key at (named_key_by f base it)) it
-    vectors_behind r base at f (inner.Vector n scalar) = vector_behind at n scalar r
-    vectors_behind r base at f _ = tt
+    pointee_vectors : (r : TypeResolution) (base : ℕ) (at : AddressSpace) (f : ℕ → Option (List ℕ)) (it : TypeInner) → VectorsTell r (pointer_key at (named_key_by f base it)) it
+    pointee_vectors r base at f (inner.Vector n scalar) = pointee_vector at n scalar r
+    pointee_vectors r base at f _ = tt
 
-    structs_behind : (r : TypeResolution) (base : ℕ) (at : AddressSpace) (f : ℕ → Option (List ℕ))
+    pointee_structs : (r : TypeResolution) (base : ℕ) (at : AddressSpace) (f : ℕ → Option (List ℕ))
         (t : Type_) → slice_get m.types base ≡ Some t → (it : TypeInner) → t.inner ≡ it →
         StructsTell r (pointer_key at (named_key_by f base it)) (Some base) it
-    structs_behind r base at f t there (inner.Struct members span) is = record { h = base; t = t; whole_is = refl; there = there; itself = is; distinguished = refl }
-    structs_behind r base at f t there _ is = tt
+    pointee_structs r base at f t there (inner.Struct members span) is = record { h = base; t = t; whole_is = refl; there = there; itself = is; distinguished = refl }
+    pointee_structs r base at f t there _ is = tt
 
     pointed : (r : TypeResolution) (base : ℕ) (at : AddressSpace) (f : ℕ → Option (List ℕ)) →
         type_key m.types r ≡ pointer_key at (found_key_by f base (slice_get m.types base)) →
@@ -160,7 +160,7 @@ module _ (m : Module) (info : ModuleInfo) where
         by None there form selected within = absurd cc
         by (Some t) there form selected within =
             named r (Some base) (pointer_key at (named_key_by f base t.inner)) form index s t.inner
-            (vectors_behind r base at f t.inner) (structs_behind r base at f t there t.inner refl) selected within
+            (pointee_vectors r base at f t.inner) (pointee_structs r base at f t there t.inner refl) selected within
 
     -- of a type by itself
     of_value : (it : TypeInner) → resolution_is_fit (Value it) ≡ true → (index : ℕ) (s : Selector) →

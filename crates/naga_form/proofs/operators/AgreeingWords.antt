@@ -35,7 +35,7 @@ use Rattle.module_meaning.specs.ExpressionOperators.{applied_operator, construct
 use Rattle.module_meaning.specs.ExpressionOperators.{is_atomic_pointer, sample_operator}
 use Rattle.module_meaning.specs.ExpressionOperators.{query_operator}
 use Rattle.module_meaning.specs.ExpressionShapes.{part_selector, letter}
-use Rattle.module_meaning.specs.acceptance.ExpressionTypes.{wanted_type, LikeThis, only}
+use Rattle.module_meaning.specs.acceptance.ExpressionTypes.{expected_type, LikeThis, only}
 use Rattle.module_meaning.specs.OperatorTable.{Operator, AtomicLoad, CooperativeLoad, MatrixLoad}
 use Rattle.module_meaning.specs.OperatorTable.{WithoutForm, ValueOf, Construct, Level, run_word}
 use Rattle.module_meaning.specs.OperatorTable.{one_word, asks}
@@ -63,11 +63,11 @@ module _ (m : Module) (info : ModuleInfo) (accepted : IsTrue (is_accepted m info
   -- how the runs call an expression: as a value of a type, from components or none; as an operator
   -- over operands; or as a part
   pub data Call (g : Group) (e : Expression) (w : Word) : Type 0 where
-    Composed : (ty n : ℕ) (k : List ℕ) → ((f : Option Function) → wanted_type m f g.known e ≡ LikeThis (Handle ty)) →
+    Composed : (ty n : ℕ) (k : List ℕ) → ((f : Option Function) → expected_type m f g.known e ≡ LikeThis (Handle ty)) →
         applied_operator (group_context m info g) e ≡ Some (constructor (group_context m info g) (Handle ty) n) → operator_key m.types g.known e ≡ Some k →
         (is_some (called_spelling m (Handle ty)) ≡ true → IsFormed m (are m info accepted distinguished) e) →
         w ≡ Spelled (run_word (constructor (group_context m info g) (Handle ty) n)) → Call g e w
-    Zeroed : (ty : ℕ) → ((f : Option Function) → wanted_type m f g.known e ≡ LikeThis (Handle ty)) → expression_operands e ≡ [] →
+    Zeroed : (ty : ℕ) → ((f : Option Function) → expected_type m f g.known e ≡ LikeThis (Handle ty)) → expression_operands e ≡ [] →
         w ≡ Spelled (run_word (constructor (group_context m info g) (Handle ty) 0)) → Call g e w
     Applied : (o : Operator) (k : List ℕ) → applied_operator (group_context m info g) e ≡ Some o → operator_key m.types g.known e ≡ Some k →
         IsFormed m (are m info accepted distinguished) e → (h : ℕ) (hs : List ℕ) → expression_operands e ≡ h ∷ hs → w ≡ Spelled (run_word o) → Call g e w
@@ -117,13 +117,13 @@ module _ (m : Module) (info : ModuleInfo) (accepted : IsTrue (is_accepted m info
       (get_or (expression_operands e) 0 0) (drop 1 (expression_operands e)) (cc) refl
 
   zeroed : (g : Group) (e : Expression) (ty : ℕ) → e ≡ expression.ZeroValue ty → Call g e (Spelled (run_word (constructor (group_context m info g) (Handle ty) 0)))
-  zeroed g e ty is = Zeroed ty (λ f. ap (wanted_type m f g.known) is) (ap expression_operands is) refl
+  zeroed g e ty is = Zeroed ty (λ f. ap (expected_type m f g.known) is) (ap expression_operands is) refl
 
   -- a constant that counts as the zero value of its type
   constant_zeroed : (g : Group) (e : Expression) (c : ℕ) (k : Constant) → e ≡ expression.Constant c → slice_get m.constants c ≡ Some k →
       Call g e (Spelled (run_word (constructor (group_context m info g) (Handle k.ty) 0)))
   constant_zeroed g e c k is there =
-      Zeroed k.ty (λ f. ap (wanted_type m f g.known) is ∙ ap (λ o. only (option_map (λ c. Handle c.ty) o)) there) (ap expression_operands is) refl
+      Zeroed k.ty (λ f. ap (expected_type m f g.known) is ∙ ap (λ o. only (option_map (λ c. Handle c.ty) o)) there) (ap expression_operands is) refl
 
   pub call : (g : Group) (e : Expression) (w : Word) → IsCalled m info g e w → Call g e w
   call g e _ (by_operator o a silent) = applied g e o a silent
@@ -221,8 +221,8 @@ module _ (m : Module) (info : ModuleInfo) (accepted : IsTrue (is_accepted m info
       by None at None bt e = not_called_alike r s at bt (ap (drop 2) e)
 
   -- an operator over operands is not a value of a type without a form
-  not_formless : (o : Operator) (count : ℕ) (k numbers : List ℕ) (n : ℕ) → IsKeyed m (are m info accepted distinguished) o count k → run_word o ≡ run_word (WithoutForm (ValueOf numbers n)) → ⊥
-  not_formless o count k numbers n keyed e = by keyed (share_a_word o (WithoutForm (ValueOf numbers n)) (sound m (are m info accepted distinguished) o count k keyed) tt e)
+  not_unsupported : (o : Operator) (count : ℕ) (k numbers : List ℕ) (n : ℕ) → IsKeyed m (are m info accepted distinguished) o count k → run_word o ≡ run_word (WithoutForm (ValueOf numbers n)) → ⊥
+  not_unsupported o count k numbers n keyed e = by keyed (share_a_word o (WithoutForm (ValueOf numbers n)) (sound m (are m info accepted distinguished) o count k keyed) tt e)
     where
       no_key : None ≡ Some k → ⊥
       no_key none = absurd cc
@@ -254,7 +254,7 @@ module _ (m : Module) (info : ModuleInfo) (accepted : IsTrue (is_accepted m info
   -- an expression of a type by its word, and a zero value
   pub value_and_zero : {x y : Signature} (a : IsOfExpression m info x) (b : IsOfZero m info y)
       (r : TypeResolution) (n : ℕ) → IsFit m r →
-      wanted_type m a.function a.group.known a.expression ≡ LikeThis r →
+      expected_type m a.function a.group.known a.expression ≡ LikeThis r →
       value_word (called_spelling m r) r n
       ≡ value_word (called_spelling m (Handle b.ty)) (Handle b.ty) 0 →
       x.result ≡ y.result
@@ -273,8 +273,8 @@ module _ (m : Module) (info : ModuleInfo) (accepted : IsTrue (is_accepted m info
   module _ {x y : Signature} (a : IsOfExpression m info x) (b : IsOfExpression m info y) where
     -- values of types with one word
     pub both_values : (r s : TypeResolution) (n k : ℕ) → IsFit m r → IsFit m s →
-        wanted_type m a.function a.group.known a.expression ≡ LikeThis r →
-        wanted_type m b.function b.group.known b.expression ≡ LikeThis s →
+        expected_type m a.function a.group.known a.expression ≡ LikeThis r →
+        expected_type m b.function b.group.known b.expression ≡ LikeThis s →
         value_word (called_spelling m r) r n ≡ value_word (called_spelling m s) s k → x.result ≡ y.result
     both_values r s n k p q wanted other e =
         by_identity m info accepted distinguished a b
@@ -330,7 +330,7 @@ module _ (m : Module) (info : ModuleInfo) (accepted : IsTrue (is_accepted m info
           by : (o : Option (List ℕ)) → called_spelling m (Handle ty) ≡ o → x.result ≡ y.result
           by (Some w) at = both_applied _ p k l ao ak (formed (ap is_some at)) bo bk bf e
           by None at =
-              absurd (not_formless p _ l (identity_code (identity m.types (Handle ty))) n
+              absurd (not_unsupported p _ l (identity_code (identity m.types (Handle ty))) n
               (keyed m (are m info accepted distinguished) b.group.known b.expression l p bk bo bf)
               (sym e ∙ ap (λ o. value_word o (Handle ty) n) at))
 

@@ -39,7 +39,7 @@ use Rattle.naga_ir.specs.declared.types.CooperativeSize.{CooperativeSize}
 use Rattle.naga_ir.specs.declared.types.Scalar.{Scalar}
 use Rattle.naga_ir.specs.declared.types.ScalarKind.{ScalarKind}
 use Rattle.module_meaning.specs.Conversions.{conversion_target}
-use Rattle.module_meaning.specs.ExpressionOperators.{ExpressionContext, scalar_behind, type_known}
+use Rattle.module_meaning.specs.ExpressionOperators.{ExpressionContext, pointee_scalar, type_known}
 use Rattle.naga_form.proofs.types.SameValues.{IsFit}
 use Rattle.naga_form.proofs.types.WrittenTypes.{tree_there}
 use Rattle.naga_form.specs.Expressions.{scalar_pointed}
@@ -297,8 +297,8 @@ module _ (m : Module) (info : ModuleInfo) (es : List ExpressionInfo) where
       LoadedMatrix m d.context columns rows role place.pointer
   loaded_matrix columns rows role place may =
       let k = known_operand m es (loads_matrix m.types columns rows role) place.pointer may in
-      by (scalar_behind m.types k.type)
-      (ap (option_and_then (scalar_behind m.types))
+      by (pointee_scalar m.types k.type)
+      (ap (option_and_then (pointee_scalar m.types))
       (type_known_is place.pointer k.known k.there ∙ k.is))
       k.passes
     where

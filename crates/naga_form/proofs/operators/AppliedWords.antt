@@ -30,7 +30,7 @@ use Rattle.module_meaning.specs.Undeclared.{is_declared}
 use Rattle.module_meaning.proofs.ExpressionShapes.{load_asks}
 use Rattle.module_meaning.proofs.OwnOperators.{own_is_untyped}
 use Rattle.naga_form.proofs.operators.AllowedParts.{target_fit}
-use Rattle.naga_form.proofs.operators.OperatingWords.{operates_freely, bits_free, formless_free}
+use Rattle.naga_form.proofs.operators.OperatingWords.{operates_freely, bits_free, unsupported_free}
 use Rattle.naga_form.proofs.operators.OperatingWords.{silent_free}
 use Rattle.naga_form.proofs.types.SameValues.{IsFit, TypesAreFit}
 use Rattle.naga_form.proofs.operators.SpelledWords.{made_word, spelled_words}
@@ -63,9 +63,9 @@ module _ (m : Module) (types : TypesAreFit m) (W : List ℕ → Type 0)
   converted_word bits kind convert (Some it) fit =
       spelled_words m types W free structs (Value it) (fit it refl) (λ op. W (run_word op))
       (cast_to bits) (WithoutForm (Cast kind convert)) (λ word is. cast_word bits word is)
-      (free (run_word (WithoutForm (Cast kind convert))) (formless_free (Cast kind convert) refl))
+      (free (run_word (WithoutForm (Cast kind convert))) (unsupported_free (Cast kind convert) refl))
   converted_word bits kind convert None fit =
-      free (run_word (WithoutForm (Cast kind convert))) (formless_free (Cast kind convert) refl)
+      free (run_word (WithoutForm (Cast kind convert))) (unsupported_free (Cast kind convert) refl)
 
   target_is_fit : (kind : ScalarKind) (convert : Option ℕ) (o : Option TypeInner) (it : TypeInner) →
       option_and_then (λ it. conversion_target it kind convert) o ≡ Some it → IsFit m (Value it)
@@ -84,7 +84,7 @@ module _ (m : Module) (types : TypesAreFit m) (W : List ℕ → Type 0)
       by true e = absurd cc
       by false e =
           let part = WithoutForm (PartAt index) in
-          of_word part o e (free (run_word part) (formless_free (PartAt index) refl))
+          of_word part o e (free (run_word part) (unsupported_free (PartAt index) refl))
   applied_words (expression.Load pointer) o e none = by (is_atomic_pointer context pointer) e
     where
       by : (b : Bool) → (if b then Some AtomicLoad else None) ≡ Some o → W (run_word o)

@@ -49,7 +49,7 @@ use Rattle.module_meaning.specs.ExpressionShapes.{tree_over, tree_within, consta
 use Rattle.module_meaning.specs.ExpressionShapes.{computed_over, has_values, indexed, is_value_type}
 use Rattle.module_meaning.specs.ExpressionShapes.{joined, operated, over_two}
 use Rattle.module_meaning.specs.ExpressionShapes.{part_selector, part_tree, picked, swizzle_letters}
-use Rattle.module_meaning.specs.acceptance.ExpressionTypes.{only, is_wanted, binary_type}
+use Rattle.module_meaning.specs.acceptance.ExpressionTypes.{only, is_expected, binary_type}
 use Rattle.module_meaning.specs.acceptance.ExpressionTypes.{logical_type}
 use Rattle.module_meaning.specs.TypeParts.{known_inner}
 use Rattle.naga_ir.specs.Literals.{literal_scalar}
@@ -127,9 +127,9 @@ module _ (m : Module) (info : ModuleInfo) where
           subst (λ vs. AreTreesOf (value h ∷ map value hs) (trees vs)) (same_Some (t ∷ us) ts is) (tree_and (value h) (map value hs) t (trees us) (are h t at) (more us refl))
 
   -- what is wanted of a type that there may be
-  pub wanted_there : (o : Option TypeResolution) (r : TypeResolution) → is_wanted m.types (only o) r ≡ true → (s : TypeResolution) × (o ≡ Some s) × (are_alike m.types r s ≡ true)
-  wanted_there None r is = absurd cc
-  wanted_there (Some s) r is = (s, refl, is)
+  pub expected_there : (o : Option TypeResolution) (r : TypeResolution) → is_expected m.types (only o) r ≡ true → (s : TypeResolution) × (o ≡ Some s) × (are_alike m.types r s ≡ true)
+  expected_there None r is = absurd cc
+  expected_there (Some s) r is = (s, refl, is)
 
   -- what stands for a constant of this type: a tree, or the zero value
   pub data StandsFor (ty : ℕ) (t : ConstantTree) : Type 0 where
@@ -168,16 +168,16 @@ module _ (m : Module) (info : ModuleInfo) where
       value = value_at m info g.known
 
       -- an expression is of the type that it has by what it stands for
-      like_wanted : (h : ℕ) (e : Expression) → slice_get g.expressions h ≡ Some e →
+      like_expected : (h : ℕ) (e : Expression) → slice_get g.expressions h ≡ Some e →
           (r : TypeResolution) → slice_get g.known h ≡ Some r → (s : TypeResolution) → IsFit m s →
           are_alike m.types r s ≡ true → type_of_values m s ≡ value h
-      like_wanted h e at r there s fit e1 = sym (alike r s (is.fits h r there) fit e1) ∙ sym (value_is m info g.known h r there)
+      like_expected h e at r there s fit e1 = sym (alike r s (is.fits h r there) fit e1) ∙ sym (value_is m info g.known h r there)
 
       literal_is : (h : ℕ) (v : _) → slice_get g.expressions h ≡ Some (expression.Literal v) → IsTreeOf (value h) (Fixed (literal_value v))
       literal_is h v at =
           let own = own_known m info f g is h (expression.Literal v) at in
           record {
-            type = literal_typed m v ∙ like_wanted h (expression.Literal v) at own.0 own.1
+            type = literal_typed m v ∙ like_expected h (expression.Literal v) at own.0 own.1
                 (Value (inner.Scalar (literal_scalar v))) (refl, tt, refl)
                 (is.typed h (expression.Literal v) own.0 at own.1);
             spelled = λ x one. absurd (no_signature x one);
@@ -209,10 +209,10 @@ module _ (m : Module) (info : ModuleInfo) where
       constant_is : (h c : ℕ) → slice_get g.expressions h ≡ Some (expression.Constant c) → (t : ConstantTree) → written c ≡ Some t → IsTreeOf (value h) t
       constant_is h c at t found =
           let own = own_known m info f g is h (expression.Constant c) at in
-          let there = wanted_there (types.constant_type m c) own.0 (is.typed h (expression.Constant c) own.0 at own.1) in
+          let there = expected_there (types.constant_type m c) own.0 (is.typed h (expression.Constant c) own.0 at own.1) in
           let item = map_some (λ c. Handle c.ty) (slice_get m.constants c) there.0 there.1 in
           let same : are_alike m.types own.0 (Handle item.0.ty) ≡ true = ap (are_alike m.types own.0) item.2 ∙ there.2 in
-          let like = like_wanted h (expression.Constant c) at own.0 own.1 (Handle item.0.ty) tt same in
+          let like = like_expected h (expression.Constant c) at own.0 own.1 (Handle item.0.ty) tt same in
           by item.0 item.1 like (constants c item.0 item.1 t found)
         where
           by : (k : Constant) → slice_get m.constants c ≡ Some k → type_of_values m (Handle k.ty) ≡ value h → StandsFor k.ty t → IsTreeOf (value h) t
@@ -222,11 +222,11 @@ module _ (m : Module) (info : ModuleInfo) where
       override_is : (h o : ℕ) → slice_get g.expressions h ≡ Some (expression.Override o) → IsTreeOf (value h) (NamedConstant (override_number m o))
       override_is h o at =
           let own = own_known m info f g is h (expression.Override o) at in
-          let there = wanted_there (types.override_type m o) own.0 (is.typed h (expression.Override o) own.0 at own.1) in
+          let there = expected_there (types.override_type m o) own.0 (is.typed h (expression.Override o) own.0 at own.1) in
           let item = map_some (λ o. Handle o.ty) (slice_get m.overrides o) there.0 there.1 in
           let same : are_alike m.types own.0 (Handle item.0.ty) ≡ true = ap (are_alike m.types own.0) item.2 ∙ there.2 in
           record {
-            type = override_typed m info o item.0 item.1 ∙ like_wanted h (expression.Override o) at own.0 own.1 (Handle item.0.ty) tt same;
+            type = override_typed m info o item.0 item.1 ∙ like_expected h (expression.Override o) at own.0 own.1 (Handle item.0.ty) tt same;
             spelled = λ x one. absurd (no_signature x one);
             range = override_within m info o item.0 item.1;
             fits = tt;

@@ -141,15 +141,15 @@ module _ (operand : ℕ → PlainForm) (like : ℕ → runs.Plain) (outer : Modu
   operands_read (h ∷ hs) same args = λ i. more (same.0 i) (operands_read hs same.1 args i)
 
   -- level zero, where it is written, and an offset are the constants after the operands
-  behind_read : (l : SampleLevel) (unwritten whole : Bool) (offset : List Expression)
+  after_read : (l : SampleLevel) (unwritten whole : Bool) (offset : List Expression)
       (c : Option ConstantTree) →
       arguments_read (operands offset) ≡ constant_forms outer (trees (option_to_list c)) →
       arguments_read (zero_then (zero_is_written (level_of l) unwritten) whole (operands offset)) ≡
       constant_forms outer (trees (written_zero l unwritten ++ option_to_list c))
-  behind_read level.Zero false whole offset c same =
+  after_read level.Zero false whole offset c same =
       ap (more (LiteralOf (Opaque (codes "f32") 0))) same
-  behind_read level.Zero true whole offset c same = same
-  behind_read _ unwritten whole offset c same = same
+  after_read level.Zero true whole offset c same = same
+  after_read _ unwritten whole offset c same = same
 
   -- a sampling is read as its operator over its operands and constants
   pub sampling_read : (gather : Option SwizzleComponent) (l : SampleLevel)
@@ -165,7 +165,7 @@ module _ (operand : ℕ → PlainForm) (like : ℕ → runs.Plain) (outer : Modu
       (runs.value_forms_then like (h ∷ hs)
       (constant_forms outer (trees (written_zero l unwritten ++ option_to_list c))))
   sampling_read gather l compares clamped arrayed with_offset of_depths unwritten whole is h hs same
-      offset c behind =
+      offset c following =
       let op = sample_operator of_depths gather (level_of l) compares clamped arrayed with_offset in
       let last = zero_then (zero_is_written (level_of l) unwritten) whole (operands offset) in
       let args = operands_then (value_forms operand (h ∷ hs)) last in
@@ -174,7 +174,7 @@ module _ (operand : ℕ → PlainForm) (like : ℕ → runs.Plain) (outer : Modu
       (operands_then (value_forms operand hs) last) i)
       ((component_read (gathered_component op) args
       ∙ (operands_read (h ∷ hs) same last
-      ∙ ap (runs.value_forms_then like (h ∷ hs)) (behind_read l unwritten whole offset c behind))) i)
+      ∙ ap (runs.value_forms_then like (h ∷ hs)) (after_read l unwritten whole offset c following))) i)
 
 -- ---- what is of the grammar
 then_operands : (es offset : List Expression) →

@@ -33,7 +33,7 @@ use Rattle.module_meaning.specs.ExpressionShapes.{written_zero, constant_shape, 
 use Rattle.module_meaning.specs.ExpressionShapes.{tree_within}
 use Rattle.module_meaning.specs.ExpressionShapes.{built}
 use Rattle.module_meaning.specs.Literals.{literal_value}
-use Rattle.module_meaning.specs.acceptance.ExpressionTypes.{expression_type_fits, is_wanted, only}
+use Rattle.module_meaning.specs.acceptance.ExpressionTypes.{expression_type_fits, is_expected, only}
 use Rattle.module_meaning.specs.acceptance.ExpressionTypes.{global_type}
 use Rattle.module_meaning.specs.acceptance.ExpressionTypes.{argument_type, local_type}
 use Rattle.module_meaning.specs.acceptance.ExpressionTypes.{variable_type}
@@ -69,7 +69,7 @@ alike_values m are r s p q alike =
 
 -- a type that only one type is like
 only_alike : (m : Module) (o : Option TypeResolution) (r : TypeResolution) →
-    is_wanted m.types (only o) r ≡ true →
+    is_expected m.types (only o) r ≡ true →
     (s : TypeResolution) × (o ≡ Some s) × (are_alike m.types r s ≡ true)
 only_alike m None r wanted = absurd cc
 only_alike m (Some s) r wanted = (s, refl, wanted)
@@ -147,7 +147,7 @@ module _ (m : Module) (info : ModuleInfo) (f : Function) (es : List ExpressionIn
   pub typed_only : (h : ℕ) (e : ir.Expression) → slice_get f.expressions h ≡ Some e →
       (o : Option TypeResolution) →
       ((r : TypeResolution) → expression_type_fits m (Some f) known e r ≡ true →
-      is_wanted m.types (only o) r ≡ true) →
+      is_expected m.types (only o) r ≡ true) →
       ((s : TypeResolution) → o ≡ Some s → IsFit m s) →
       (s : TypeResolution) × (o ≡ Some s) × (handle_type shape h ≡ type_of_values m s)
   typed_only h e at o wanted fit =

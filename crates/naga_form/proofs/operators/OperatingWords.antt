@@ -7,9 +7,10 @@ use Rattle.std.specs.Prelude.{◌&&◌, ◌||◌, if◌then◌else◌, not}
 use Rattle.std.specs.Option.{option_map_or}
 use Rattle.std.proofs.lemmas.Bool.{and_from, and_parts, eqb-true, false≢true, not-true, or_parts}
 use Rattle.module_meaning.specs.OperatorTable.{Operator, UnarySign, Texel, OnlyTexel, TexelChange}
-use Rattle.module_meaning.specs.OperatorTable.{Collective, RayStep, run_word, with_type, Formless}
+use Rattle.module_meaning.specs.OperatorTable.{Collective, RayStep, run_word, with_type}
+use Rattle.module_meaning.specs.OperatorTable.{Unsupported}
 use Rattle.module_meaning.specs.OperatorTable.{MatrixLoad, WithoutForm}
-use Rattle.module_meaning.specs.OperatorTable.{CooperativeLoad, formless_asks, asks, is_untyped}
+use Rattle.module_meaning.specs.OperatorTable.{CooperativeLoad, unsupported_asks, asks, is_untyped}
 use Rattle.module_meaning.specs.OperatorTable.{one_word}
 use Rattle.module_meaning.specs.ExpressionOperators.{ExpressionContext, matrix_load}
 use Rattle.naga_form.proofs.operators.OperatorEvents.{keeps_asking}
@@ -64,11 +65,11 @@ unfolding is_request is_built_in is_builtin builtin_words
 bits_free word = refl
 
 -- what stands for what has no form: a blank, and after it no blank
-pub formless_free : (what : Formless) → formless_asks what ≡ false →
+pub unsupported_free : (what : Unsupported) → unsupported_asks what ≡ false →
     operates_freely (run_word (WithoutForm what)) ≡ true
 unfolding is_request is_built_in is_builtin builtin_words
-formless_free (MatrixLoad columns rows role row_major) silent = absurd cc
-formless_free _ silent = refl
+unsupported_free (MatrixLoad columns rows role row_major) silent = absurd cc
+unsupported_free _ silent = refl
 
 -- as are the loads of matrices, which ask
 load_among_free : (columns rows : CooperativeSize) (role : CooperativeRole) (row_major : Bool)

@@ -21,7 +21,7 @@ use Rattle.naga_info.specs.declared.info.TypeResolution.TheVariants.{Handle, Val
 use Rattle.wgsl_text.specs.Reading.{type_layout}
 use Rattle.wgsl_text.specs.Types.{TypeSpecifier}
 use Rattle.module_meaning.specs.acceptance.AgreeingOperators.{operator_key, own_key, one_key}
-use Rattle.module_meaning.specs.acceptance.AgreeingOperators.{typed_key, formless_key}
+use Rattle.module_meaning.specs.acceptance.AgreeingOperators.{typed_key, unsupported_key}
 use Rattle.module_meaning.specs.acceptance.AgreeingOperators.{constructor_key, conversion_key}
 use Rattle.module_meaning.specs.acceptance.AgreeingOperators.{target_key}
 use Rattle.module_meaning.specs.AlikeTypes.{type_key, is_spelled}
@@ -59,7 +59,7 @@ module _ (m : Module) (are : TypesAreCounted m) where
   KeyIn (BinarySign op) n x = (n ≡ 2) × (own_key (BinarySign op) ≡ Some x)
   KeyIn (Construct w components) n x = IsTyped w false x
   KeyIn (Reinterpret w) n x = IsTyped w true x
-  KeyIn (WithoutForm (Cast kind width)) n x = x ≡ formless_key kind width
+  KeyIn (WithoutForm (Cast kind width)) n x = x ≡ unsupported_key kind width
   KeyIn (WithoutForm (PartAt index)) n x = x ≡ one_key 4 index
   KeyIn op n x = own_key op ≡ Some x
 
@@ -140,7 +140,7 @@ module _ (m : Module) (are : TypesAreCounted m) where
       by : (o : Option (List ℕ)) → spelled_resolution (type_names m) (Value it) ≡ o →
           (f : Bool) → is_some o ≡ f →
           IsKeyed (option_map_or (cast_to bits) o (WithoutForm (Cast kind convert))) 1
-          (if f then typed_key m.types bits (Value it) else formless_key kind convert)
+          (if f then typed_key m.types bits (Value it) else unsupported_key kind convert)
       by (Some w) at true is = typed bits w at
       by (Some w) at false is = absurd (cc)
       by None at true is = absurd (cc)

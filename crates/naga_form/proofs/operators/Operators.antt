@@ -267,9 +267,9 @@ module _ (operand : ℕ → PlainForm) (like : ℕ → runs.Plain) where
       ap runs.AsValue (called_read type op spelled hs same)
 
   -- no constants after the operands
-  none_behind : (hs : List ℕ) → runs.value_forms like hs ≡ runs.value_forms_then like hs no_more
-  none_behind [] = refl
-  none_behind (h ∷ hs) = ap (more (runs.value_form (like h))) (none_behind hs)
+  none_following : (hs : List ℕ) → runs.value_forms like hs ≡ runs.value_forms_then like hs no_more
+  none_following [] = refl
+  none_following (h ∷ hs) = ap (more (runs.value_form (like h))) (none_following hs)
 
   request_read : (type : Option TypeSpecifier) (op : Operator) → Spells type op → (hs : List ℕ) →
       AllReadLike hs → asks op ≡ true →
@@ -279,7 +279,7 @@ module _ (operand : ℕ → PlainForm) (like : ℕ → runs.Plain) where
   request_read type (UnarySign op) spelled hs same is = absurd cc
   request_read type op spelled hs same is =
       ap runs.AsValue
-      (called_read type op spelled hs same ∙ ap (Apply (run_word op)) (none_behind hs))
+      (called_read type op spelled hs same ∙ ap (Apply (run_word op)) (none_following hs))
 
   -- so is one that asks for an event
   pub applied_read : (n : Naming) (type : Option TypeSpecifier) (op : Operator) →

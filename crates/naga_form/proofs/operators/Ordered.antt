@@ -32,10 +32,10 @@ each_below h (x ∷ xs) all =
     (ltb-true x h parts.0, each_below h xs parts.1)
 
 -- what is left where the last ones are left out
-behind : (h : ℕ) (xs ys zs : List ℕ) → (AllBelow h ys → AllBelow h zs) → AllBelow h (xs ++ ys) →
+following : (h : ℕ) (xs ys zs : List ℕ) → (AllBelow h ys → AllBelow h zs) → AllBelow h (xs ++ ys) →
     AllBelow h (xs ++ zs)
-behind h [] ys zs less all = less all
-behind h (x ∷ xs) ys zs less all = (all.0, behind h xs ys zs less all.1)
+following h [] ys zs less all = less all
+following h (x ∷ xs) ys zs less all = (all.0, following h xs ys zs less all.1)
 
 pub shape_ordered : (d : Declared) (es : List ir.Expression) (h : ℕ) (e : ir.Expression) →
     AllBelow h (expression_operands e) → AllBelow h (operands_of (Some (shape_of d es h e)))
@@ -50,7 +50,7 @@ shape_ordered d es h
         level_operands level ++ (if is_some o then [] else offset ∷ []))
     by None = below
     by (Some t) =
-        behind h
+        following h
         (image ∷ sampler ∷ coordinate ∷ option_to_list array_index ++ option_to_list depth_ref ++
         level_operands level)
         (offset ∷ []) [] (λ one. tt) below

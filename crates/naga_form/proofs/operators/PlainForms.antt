@@ -7,7 +7,7 @@ use Rattle.module_meaning.specs.OperatorTable.{WithoutForm, PartAt, Operator}
 use Rattle.naga_form.proofs.operators.AllowedParts.{IsWellSelected, selected, selected_well}
 use Rattle.naga_form.proofs.operators.AllowedParts.{conversion}
 use Rattle.naga_form.proofs.operators.AllowedParts.{loaded_matrix, target_fit}
-use Rattle.naga_form.specs.Expressions.{is_handle_variable, part_plain, points, selected_part}
+use Rattle.naga_form.specs.Expressions.{is_handle_variable, part_plain, is_pointer, selected_part}
 use Rattle.naga_form.specs.Expressions.{variable_plain, PlainForm, ValueForm, ReferenceForm}
 use Rattle.naga_form.specs.Expressions.{as_value, as_reference, applied_plain, no_form, own_plain}
 use Rattle.naga_form.specs.Expressions.{own_if, availability_plain, plain_below, plain_form, Source}
@@ -260,7 +260,7 @@ module _ (flags : WriterFlags) (m : Module) (info : ModuleInfo) (g : ℕ) (f : i
       applied_is operand (notation (type_tree (type_names m) ty) (constructor d.context (Handle ty) 0)) [] tt
       (constructor_notated d.context (Handle ty) 0 [] (type_tree (type_names m) ty) form.0 form.1 form.2)
   own_is operand h (expression.Access base index) at is all =
-      part_is (points d.context base) (λ e. Index e (as_value (operand index))) (operand base) all.0
+      part_is (is_pointer d.context base) (λ e. Index e (as_value (operand index))) (operand base) all.0
       (λ e is. (is, value_is_one (operand index) all.1.0)) (λ e is. is)
   own_is operand h (expression.AccessIndex base index) at is all = by (selected m info es base index is.0)
     where
@@ -272,10 +272,10 @@ module _ (flags : WriterFlags) (m : Module) (info : ModuleInfo) (g : ℕ) (f : i
           subst
           (λ o. IsPlainForm
           (option_map_or
-          (λ x. part_plain (points d.context base) (selected_part x) (operand base)) o
+          (λ x. part_plain (is_pointer d.context base) (selected_part x) (operand base)) o
           (applied_plain no_form None operand (base ∷ []) (Some (WithoutForm (PartAt index))))))
           (sym s.1)
-          (selected_is (points d.context base) s.0 (selected_well m info es base index is.0 part fits lt s.0 s.1) (operand base) all.0)
+          (selected_is (is_pointer d.context base) s.0 (selected_well m info es base index is.0 part fits lt s.0 s.1) (operand base) all.0)
   own_is operand h (expression.Swizzle size v pattern) at is all =
       let whole =
       names_are_in_range m callees f ranges h (expression.Swizzle size v pattern) at in
@@ -286,10 +286,10 @@ module _ (flags : WriterFlags) (m : Module) (info : ModuleInfo) (g : ℕ) (f : i
   own_is operand h
       (expression.ImageSample
       image sampler gather coordinate array_index offset level depth_ref clamp) at is all =
-      let behind = option_to_list array_index ++ option_to_list depth_ref ++ level_operands level ++ [] in
-      sampling_is (as_value (operand image)) (value_forms operand (sampler ∷ coordinate ∷ behind))
+      let following = option_to_list array_index ++ option_to_list depth_ref ++ level_operands level ++ [] in
+      sampling_is (as_value (operand image)) (value_forms operand (sampler ∷ coordinate ∷ following))
       (map (constant_form source) (option_to_list offset))
-      (values_are operand (image ∷ sampler ∷ coordinate ∷ behind)
+      (values_are operand (image ∷ sampler ∷ coordinate ∷ following)
       (without_offset (λ x. IsPlainForm (operand x)) image sampler coordinate
       (option_to_list array_index) (option_to_list depth_ref) (level_operands level)
       (option_to_list offset) all))

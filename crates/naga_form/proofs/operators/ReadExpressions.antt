@@ -45,7 +45,7 @@ use Rattle.naga_ir.specs.declared.types.ScalarKind.TheVariants as kind
 use Rattle.module_meaning.specs.Types.{scalar_values, type_of_values, values_of, word_of_values}
 use Rattle.module_meaning.specs.ExpressionShapes.{part_selector, part_shape}
 use Rattle.module_meaning.specs.OperatorTable.{WithoutForm, PartAt}
-use Rattle.naga_form.specs.Expressions.{is_pointer, part_plain, points}
+use Rattle.naga_form.specs.Expressions.{is_pointer_type, part_plain, is_pointer}
 use Rattle.naga_form.specs.Expressions.{selected_part}
 use Rattle.naga_form.specs.Expressions.{variable_plain}
 use Rattle.naga_info.specs.declared.info.ExpressionInfo.{ExpressionInfo}
@@ -98,7 +98,7 @@ is_place (PointerType spelling) = true
 is_place _ = false
 
 -- the values of a type are places where it is a pointer
-inner_place : (it : TypeInner) (w : List ℕ) → is_place (values_of it w) ≡ is_pointer it
+inner_place : (it : TypeInner) (w : List ℕ) → is_place (values_of it w) ≡ is_pointer_type it
 inner_place (inner.Scalar s) w = by s.kind
   where
     truth : (b : Bool) → is_place (if b then BooleanType else OtherType w) ≡ false
@@ -114,7 +114,7 @@ inner_place _ w = refl
 
 pub places_in : (m : Module) (es : List ExpressionInfo) (h : ℕ) →
     is_place (type_at (map (λ e. type_of_values m e.ty) es) h) ≡
-    option_map_or is_pointer
+    option_map_or is_pointer_type
     (option_and_then (λ r. inner_of r m.types) (slice_get (map (λ e. e.ty) es) h)) false
 places_in m [] h = refl
 places_in m (e ∷ es) zero = by (inner_of e.ty m.types)
@@ -123,7 +123,7 @@ places_in m (e ∷ es) zero = by (inner_of e.ty m.types)
         is_place
         (option_map_or (λ it. values_of it (word_of_values m e.ty)) o
         (OtherType (word_of_values m e.ty))) ≡
-        option_map_or is_pointer o false
+        option_map_or is_pointer_type o false
     by (Some it) = inner_place it (word_of_values m e.ty)
     by None = refl
 places_in m (e ∷ es) (suc h) = places_in m es h
@@ -181,7 +181,7 @@ ArePlain operand like hs = AllByRecursion (λ x. plain_read (operand x) ≡ like
 
 module _ (m : Module) (n : Naming) (code : Source)
     (spells : SpellsTypes m code.declared.context code.type_names)
-    (places : (h : ℕ) → is_place (handle_type n.function h) ≡ points code.declared.context h)
+    (places : (h : ℕ) → is_place (handle_type n.function h) ≡ is_pointer code.declared.context h)
     (all : List ir.Expression) (es : List ExpressionInfo) where
   -- an operator where one is applied, and what stands there where none is
   applied_reads : (operand : ℕ → PlainForm) (like : ℕ → Plain) (hs : List ℕ) →
@@ -268,7 +268,7 @@ module _ (m : Module) (n : Naming) (code : Source)
       zero_reads operand like ty (declared_of_spellable m (Handle ty) w) (code.declared.context.known h)
       known.0
   own_reads operand like h (expression.Access base index) same w known =
-      index_read (handle_type n.function base) (points code.declared.context base) (places base)
+      index_read (handle_type n.function base) (is_pointer code.declared.context base) (places base)
       (as_value (operand index)) (like index)
       (value_is (operand index) ∙ ap runs.value_form same.1.0)
       (operand base) (like base) same.0
@@ -281,11 +281,11 @@ module _ (m : Module) (n : Naming) (code : Source)
       by : (o : Option Selector) →
           plain_read
           (option_map_or
-          (λ x. part_plain (points code.declared.context base) (selected_part x) (operand base)) o
+          (λ x. part_plain (is_pointer code.declared.context base) (selected_part x) (operand base)) o
           (applied_plain no_form None operand (base ∷ []) (Some without))) ≡
           runs.own_form n like (Some (part_shape base index o))
       by (Some x) =
-          part_read (handle_type n.function base) (points code.declared.context base)
+          part_read (handle_type n.function base) (is_pointer code.declared.context base)
           (places base) x
           (operand base) (like base) same.0
       by None =

@@ -23,7 +23,7 @@ use Rattle.module_meaning.specs.ExpressionOperators.{constructor, cast}
 use Rattle.module_meaning.specs.ExpressionOperators.{cast_to, matrix_load, load_operator}
 use Rattle.module_meaning.specs.ExpressionOperators.{part_operator}
 use Rattle.module_meaning.specs.ExpressionOperators.{is_atomic_pointer, sample_operator}
-use Rattle.module_meaning.specs.ExpressionOperators.{scalar_behind, type_known, has_parts}
+use Rattle.module_meaning.specs.ExpressionOperators.{pointee_scalar, type_known, has_parts}
 use Rattle.module_meaning.specs.OperatorTable.{Operator, Construct, CooperativeLoad, WithoutForm}
 use Rattle.module_meaning.specs.OperatorTable.{Cast}
 use Rattle.module_meaning.specs.OperatorTable.{ValueOf, MatrixLoad, PartAt, AtomicLoad, Level}
@@ -89,7 +89,7 @@ module _ (m : Module) (are : TypesAreCounted m) where
     cast_is_sound kind convert _ = tt
 
     load_is_sound : (columns rows : CooperativeSize) (role : CooperativeRole) (place : CooperativeData) → TypeIsSound (matrix_load context columns rows role place)
-    load_is_sound columns rows role place = by (option_and_then (scalar_behind m.types) (type_known context place.pointer))
+    load_is_sound columns rows role place = by (option_and_then (pointee_scalar m.types) (type_known context place.pointer))
       where
         spelled : (s : Scalar) (o : Option (List ℕ)) →
             spelled_resolution (type_names m) (Value (inner.CooperativeMatrix columns rows s role))

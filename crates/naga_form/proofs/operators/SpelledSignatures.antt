@@ -73,12 +73,12 @@ module _ (d : Declared) (index : ℕ) where
   no_own_selector whole (inner.Struct members span) none = absurd cc
   no_own_selector whole _ none = refl
 
-  no_selector_behind : (base : ℕ) (o : Option TypeInner) → option_and_then (λ it. own_selector d (Some base) it index) o ≡ None → option_map_or is_composite o false ≡ false
-  no_selector_behind base (Some it) none = no_own_selector (Some base) it none
-  no_selector_behind base None none = refl
+  no_pointee_selector : (base : ℕ) (o : Option TypeInner) → option_and_then (λ it. own_selector d (Some base) it index) o ≡ None → option_map_or is_composite o false ≡ false
+  no_pointee_selector base (Some it) none = no_own_selector (Some base) it none
+  no_pointee_selector base None none = refl
 
   no_selector : (whole : Option ℕ) (it : TypeInner) → selector d whole it index ≡ None → has_parts d.context.types it ≡ false
-  no_selector whole (inner.Pointer base space) none = no_selector_behind base (type_with d.context.types base) none
+  no_selector whole (inner.Pointer base space) none = no_pointee_selector base (type_with d.context.types base) none
   no_selector whole (inner.ValuePointer (Some size) s space) none = absurd cc
   no_selector whole (inner.ValuePointer None s space) none = refl
   no_selector whole it none = no_own_selector whole it none

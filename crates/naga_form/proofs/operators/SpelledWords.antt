@@ -22,7 +22,7 @@ use Rattle.wgsl_text.proofs.Types.{named_text}
 use Rattle.wgsl_text.specs.Reading.{type_layout}
 use Rattle.wgsl_text.specs.Types.{Named, TypeSpecifier}
 use Rattle.naga_form.specs.TypeTrees.{resolution_tree}
-use Rattle.naga_form.proofs.operators.OperatingWords.{formless_free, operates_freely}
+use Rattle.naga_form.proofs.operators.OperatingWords.{unsupported_free, operates_freely}
 use Rattle.naga_form.proofs.types.SameValues.{IsFit, or_nothing, TypesAreFit}
 use Rattle.naga_form.proofs.types.TypeTrees.{resolution_row}
 use Rattle.naga_form.proofs.types.WrittenTypes.{free_form, IsStructNamed}
@@ -102,7 +102,7 @@ module _ (m : Module) (types : TypesAreFit m) (W : List ℕ → Type 0)
       (unmade components ty) makes
       (without
       (free (run_word (unmade components ty))
-      (formless_free (ValueOf (context.numbers (Handle ty)) components) refl)))
+      (unsupported_free (ValueOf (context.numbers (Handle ty)) components) refl)))
 
   pub made_word : (ty components : ℕ) → W (run_word (constructor context (Handle ty) components))
   made_word ty components =

@@ -28,9 +28,9 @@ use Rattle.wgsl_text.proofs.Words.{passes}
 use Rattle.module_meaning.specs.OperatorTable.{Operator, CooperativeLoad, Construct, Convert}
 use Rattle.module_meaning.specs.OperatorTable.{Reinterpret, with_type, run_word, one_word}
 use Rattle.module_meaning.specs.OperatorTable.{is_untyped, SpellsAType, TypeIsSound}
-use Rattle.module_meaning.specs.OperatorTable.{Formless, Cast, PartAt, ValueOf, MatrixLoad}
-use Rattle.module_meaning.specs.OperatorTable.{WithoutForm, formless_code, formless_word}
-use Rattle.module_meaning.specs.OperatorTable.{one_formless}
+use Rattle.module_meaning.specs.OperatorTable.{Unsupported, Cast, PartAt, ValueOf, MatrixLoad}
+use Rattle.module_meaning.specs.OperatorTable.{WithoutForm, unsupported_code, unsupported_word}
+use Rattle.module_meaning.specs.OperatorTable.{one_unsupported}
 use Rattle.module_meaning.proofs.TypeIdentity.{kind_of, kind_distinguished, cooperative_of}
 use Rattle.module_meaning.proofs.TypeIdentity.{cooperative_distinguished}
 use Rattle.module_meaning.proofs.TypeIdentity.{role_of, role_distinguished, truth_of}
@@ -135,9 +135,9 @@ head_is (Named w) is = ap head_word (named_text w) ∙ head_alone w (word_bytes 
 head_is (Template w parts) is = head_before w (text (template_pieces parts (has_gaps w))) (word_bytes w (head_text (Template w parts) is))
 
 -- ---- which words these are
-any_behind : (w rest : List ℕ) → list_any (nat_eq 60) (w ++ (60 ∷ rest)) ≡ true
-any_behind [] rest = refl
-any_behind (b ∷ bytes) rest = by (nat_eq 60 b) (any_behind bytes rest)
+any_after : (w rest : List ℕ) → list_any (nat_eq 60) (w ++ (60 ∷ rest)) ≡ true
+any_after [] rest = refl
+any_after (b ∷ bytes) rest = by (nat_eq 60 b) (any_after bytes rest)
   where
     by : (x : Bool) → list_any (nat_eq 60) (bytes ++ (60 ∷ rest)) ≡ true → (x || list_any (nat_eq 60) (bytes ++ (60 ∷ rest))) ≡ true
     by true e = refl
@@ -146,8 +146,8 @@ any_behind (b ∷ bytes) rest = by (nat_eq 60 b) (any_behind bytes rest)
 template_opens : (w : List ℕ) (parts : TemplateArguments) → IsTemplateArgument (Template w parts) → not_open (type_layout (Template w parts)) ≡ false
 unfolding not_open
 template_opens w parts is =
-    let behind = text (template_pieces parts (has_gaps w)) in
-    λ i. not ((ap is_word_text (head_is (Template w parts) is) ∙ head_text (Template w parts) is) i && any_behind w behind i)
+    let following = text (template_pieces parts (has_gaps w)) in
+    λ i. not ((ap is_word_text (head_is (Template w parts) is) ∙ head_text (Template w parts) is) i && any_after w following i)
 
 named_is_none : (w : List ℕ) → IsType (Named w) → is_function (type_layout (Named w)) ≡ false
 named_is_none w is =
@@ -184,31 +184,31 @@ spelling_is_none w is = ap operator_of (sym is.1.1) ∙ type_is_none is.0 is.1.0
 
 -- what no text has holds a blank and a number that is no letter's: at its start, or after the word
 -- that loads a matrix
-abbrev is_formless_at : (place : ℕ) → List ℕ → Bool
-is_formless_at place w = nat_eq (get_or w place 0) 32 && nat_lt (get_or w (suc place) 4) 4
+abbrev is_unsupported_at : (place : ℕ) → List ℕ → Bool
+is_unsupported_at place w = nat_eq (get_or w place 0) 32 && nat_lt (get_or w (suc place) 4) 4
 
-abbrev is_formless : List ℕ → Bool
-is_formless w = is_formless_at 0 w || is_formless_at 8 w
+abbrev is_unsupported : List ℕ → Bool
+is_unsupported w = is_unsupported_at 0 w || is_unsupported_at 8 w
 
-not_formless : List ℕ → Bool
-not_formless w = not (is_formless w)
+not_unsupported : List ℕ → Bool
+not_unsupported w = not (is_unsupported w)
 
-none_formless_others : all_words not_formless others ≡ true
-unfolding not_formless
-none_formless_others = refl
+none_unsupported_others : all_words not_unsupported others ≡ true
+unfolding not_unsupported
+none_unsupported_others = refl
 
-none_formless_mathematical : all_words not_formless mathematical ≡ true
-unfolding not_formless
-none_formless_mathematical = refl
+none_unsupported_mathematical : all_words not_unsupported mathematical ≡ true
+unfolding not_unsupported
+none_unsupported_mathematical = refl
 
-formless_begins : (x : Formless) → not_formless (formless_word x) ≡ false
-unfolding not_formless
-formless_begins (Cast kind width) = refl
-formless_begins _ = refl
+unsupported_begins : (x : Unsupported) → not_unsupported (unsupported_word x) ≡ false
+unfolding not_unsupported
+unsupported_begins (Cast kind width) = refl
+unsupported_begins _ = refl
 
-formless_is_none : (x : Formless) → operator_of (formless_word x) ≡ None
-formless_is_none x =
-    no_operator not_formless (formless_word x) (formless_begins x) none_formless_others none_formless_mathematical
+unsupported_is_none : (x : Unsupported) → operator_of (unsupported_word x) ≡ None
+unsupported_is_none x =
+    no_operator not_unsupported (unsupported_word x) (unsupported_begins x) none_unsupported_others none_unsupported_mathematical
 
 typed_is_none : (o : Operator) → is_untyped o ≡ false → TypeIsSound o → operator_of (run_word o) ≡ None
 typed_is_none (CooperativeLoad false w) u is = open_is_none (with_type (codes "coopLoad") w) (load_opens w)
@@ -216,7 +216,7 @@ typed_is_none (CooperativeLoad true w) u is = open_is_none (with_type (codes "co
 typed_is_none (Construct w n) u is = spelling_is_none w is
 typed_is_none (Convert w) u is = spelling_is_none w is
 typed_is_none (Reinterpret w) u is = open_is_none (with_type (codes "bitcast") w) (reinterpret_opens w)
-typed_is_none (WithoutForm x) u is = formless_is_none x
+typed_is_none (WithoutForm x) u is = unsupported_is_none x
 typed_is_none _ u is = absurd (true≢false u)
 
 -- ---- two words with types
@@ -259,35 +259,35 @@ other_call v u a b apart w x e =
 
 -- ---- what no text has
 -- its word tells it
-abbrev formless_of : List ℕ → Formless
-formless_of code =
+abbrev unsupported_of : List ℕ → Unsupported
+unsupported_of code =
     if nat_eq (get_or code 0 0) 32 then get_or (
     Cast (kind_of (get_or code 2 0)) (slice_get code 3) ∷ PartAt (get_or code 2 0) ∷ ValueOf (drop 2 code) 1 ∷
     []) (get_or code 1 0) (PartAt 0)
     else MatrixLoad (cooperative_of (get_or code 10 0)) (cooperative_of (get_or code 11 0)) (role_of (get_or code 12 0)) (truth_of (get_or code 13 0))
 
-formless_distinguished : (x : Formless) → formless_of (formless_word x) ≡ one_formless x
-formless_distinguished (Cast kind None) = λ i. Cast (kind_distinguished kind i) None
-formless_distinguished (Cast kind (Some width)) = λ i. Cast (kind_distinguished kind i) (Some width)
-formless_distinguished (PartAt index) = refl
-formless_distinguished (ValueOf numbers components) = refl
-formless_distinguished (MatrixLoad columns rows role row_major) =
+unsupported_distinguished : (x : Unsupported) → unsupported_of (unsupported_word x) ≡ one_unsupported x
+unsupported_distinguished (Cast kind None) = λ i. Cast (kind_distinguished kind i) None
+unsupported_distinguished (Cast kind (Some width)) = λ i. Cast (kind_distinguished kind i) (Some width)
+unsupported_distinguished (PartAt index) = refl
+unsupported_distinguished (ValueOf numbers components) = refl
+unsupported_distinguished (MatrixLoad columns rows role row_major) =
     λ i. MatrixLoad (cooperative_distinguished columns i) (cooperative_distinguished rows i) (role_distinguished role i) (truth_distinguished row_major i)
 
-formless_share : (x y : Formless) → formless_word x ≡ formless_word y → one_formless x ≡ one_formless y
-formless_share x y e = sym (formless_distinguished x)
-    ∙ (ap formless_of e ∙ formless_distinguished y)
+unsupported_share : (x y : Unsupported) → unsupported_word x ≡ unsupported_word y → one_unsupported x ≡ one_unsupported y
+unsupported_share x y e = sym (unsupported_distinguished x)
+    ∙ (ap unsupported_of e ∙ unsupported_distinguished y)
 
 -- no type is spelled so
 pub no_blank : (w code : List ℕ) → SpellsAType w → w ≡ 32 ∷ code → ⊥
 no_blank w code is e =
     false≢true (ap is_word_text (sym (ap head_word (is.1.1 ∙ e)) ∙ head_is is.0 is.1.0.part) ∙ head_text is.0 is.1.0.part)
 
-no_formless : (w : List ℕ) (x : Formless) → SpellsAType w → w ≡ formless_word x → ⊥
-no_formless w (Cast kind width) is e = no_blank w (formless_code (Cast kind width)) is e
-no_formless w (PartAt index) is e = no_blank w (formless_code (PartAt index)) is e
-no_formless w (ValueOf numbers components) is e = no_blank w (formless_code (ValueOf numbers components)) is e
-no_formless w (MatrixLoad columns rows role row_major) is e =
+no_unsupported : (w : List ℕ) (x : Unsupported) → SpellsAType w → w ≡ unsupported_word x → ⊥
+no_unsupported w (Cast kind width) is e = no_blank w (unsupported_code (Cast kind width)) is e
+no_unsupported w (PartAt index) is e = no_blank w (unsupported_code (PartAt index)) is e
+no_unsupported w (ValueOf numbers components) is e = no_blank w (unsupported_code (ValueOf numbers components)) is e
+no_unsupported w (MatrixLoad columns rows role row_major) is e =
     no_type_begins (codes "coopLoad") load_takes.named load_takes.rule is.0 is.1.0
     (sym (head_is is.0 is.1.0.part) ∙ ap head_word (is.1.1 ∙ e))
 
@@ -295,17 +295,17 @@ no_formless w (MatrixLoad columns rows role row_major) is e =
 abbrev has_byte : (place byte : ℕ) → List ℕ → Bool
 has_byte place byte w = nat_eq (get_or w place 0) byte
 
-no_formless_reinterpret : (w : List ℕ) (x : Formless) → with_type (codes "bitcast") w ≡ formless_word x → ⊥
-no_formless_reinterpret w (MatrixLoad columns rows role row_major) e = false≢true (ap (has_byte 0 99) e)
-no_formless_reinterpret w _ e = false≢true (ap (has_byte 0 32) e)
+no_unsupported_reinterpret : (w : List ℕ) (x : Unsupported) → with_type (codes "bitcast") w ≡ unsupported_word x → ⊥
+no_unsupported_reinterpret w (MatrixLoad columns rows role row_major) e = false≢true (ap (has_byte 0 99) e)
+no_unsupported_reinterpret w _ e = false≢true (ap (has_byte 0 32) e)
 
-no_formless_load : (w : List ℕ) (x : Formless) → with_type (codes "coopLoad") w ≡ formless_word x → ⊥
-no_formless_load w (MatrixLoad columns rows role row_major) e = false≢true (ap (has_byte 8 32) e)
-no_formless_load w _ e = false≢true (ap (has_byte 0 32) e)
+no_unsupported_load : (w : List ℕ) (x : Unsupported) → with_type (codes "coopLoad") w ≡ unsupported_word x → ⊥
+no_unsupported_load w (MatrixLoad columns rows role row_major) e = false≢true (ap (has_byte 8 32) e)
+no_unsupported_load w _ e = false≢true (ap (has_byte 0 32) e)
 
-no_formless_transposed : (w : List ℕ) (x : Formless) → with_type (codes "coopLoadT") w ≡ formless_word x → ⊥
-no_formless_transposed w (MatrixLoad columns rows role row_major) e = false≢true (ap (has_byte 8 32) e)
-no_formless_transposed w _ e = false≢true (ap (has_byte 0 32) e)
+no_unsupported_transposed : (w : List ℕ) (x : Unsupported) → with_type (codes "coopLoadT") w ≡ unsupported_word x → ⊥
+no_unsupported_transposed w (MatrixLoad columns rows role row_major) e = false≢true (ap (has_byte 8 32) e)
+no_unsupported_transposed w _ e = false≢true (ap (has_byte 0 32) e)
 
 -- ---- the law
 some_none : (o : Operator) → Some o ≡ None → ⊥
@@ -337,17 +337,17 @@ typed_share (CooperativeLoad true w) (Convert x) ua ub sa sb e = absurd (type_is
 typed_share (CooperativeLoad true w) (Reinterpret x) ua ub sa sb e = absurd (other_call (codes "coopLoadT") (codes "bitcast") transposed_takes reinterpret_takes refl w x e)
 typed_share (CooperativeLoad true w) (CooperativeLoad false x) ua ub sa sb e = absurd (other_call (codes "coopLoadT") (codes "coopLoad") transposed_takes load_takes refl w x e)
 typed_share (CooperativeLoad true w) (CooperativeLoad true x) ua ub sa sb e = ap (CooperativeLoad true) (same_call (codes "coopLoadT") w x e)
-typed_share (WithoutForm x) (WithoutForm y) ua ub sa sb e = ap WithoutForm (formless_share x y e)
-typed_share (WithoutForm x) (Construct w n) ua ub sa sb e = absurd (no_formless w x sb (sym e))
-typed_share (WithoutForm x) (Convert w) ua ub sa sb e = absurd (no_formless w x sb (sym e))
-typed_share (WithoutForm x) (Reinterpret w) ua ub sa sb e = absurd (no_formless_reinterpret w x (sym e))
-typed_share (WithoutForm x) (CooperativeLoad false w) ua ub sa sb e = absurd (no_formless_load w x (sym e))
-typed_share (WithoutForm x) (CooperativeLoad true w) ua ub sa sb e = absurd (no_formless_transposed w x (sym e))
-typed_share (Construct w n) (WithoutForm x) ua ub sa sb e = absurd (no_formless w x sa e)
-typed_share (Convert w) (WithoutForm x) ua ub sa sb e = absurd (no_formless w x sa e)
-typed_share (Reinterpret w) (WithoutForm x) ua ub sa sb e = absurd (no_formless_reinterpret w x e)
-typed_share (CooperativeLoad false w) (WithoutForm x) ua ub sa sb e = absurd (no_formless_load w x e)
-typed_share (CooperativeLoad true w) (WithoutForm x) ua ub sa sb e = absurd (no_formless_transposed w x e)
+typed_share (WithoutForm x) (WithoutForm y) ua ub sa sb e = ap WithoutForm (unsupported_share x y e)
+typed_share (WithoutForm x) (Construct w n) ua ub sa sb e = absurd (no_unsupported w x sb (sym e))
+typed_share (WithoutForm x) (Convert w) ua ub sa sb e = absurd (no_unsupported w x sb (sym e))
+typed_share (WithoutForm x) (Reinterpret w) ua ub sa sb e = absurd (no_unsupported_reinterpret w x (sym e))
+typed_share (WithoutForm x) (CooperativeLoad false w) ua ub sa sb e = absurd (no_unsupported_load w x (sym e))
+typed_share (WithoutForm x) (CooperativeLoad true w) ua ub sa sb e = absurd (no_unsupported_transposed w x (sym e))
+typed_share (Construct w n) (WithoutForm x) ua ub sa sb e = absurd (no_unsupported w x sa e)
+typed_share (Convert w) (WithoutForm x) ua ub sa sb e = absurd (no_unsupported w x sa e)
+typed_share (Reinterpret w) (WithoutForm x) ua ub sa sb e = absurd (no_unsupported_reinterpret w x e)
+typed_share (CooperativeLoad false w) (WithoutForm x) ua ub sa sb e = absurd (no_unsupported_load w x e)
+typed_share (CooperativeLoad true w) (WithoutForm x) ua ub sa sb e = absurd (no_unsupported_transposed w x e)
 typed_share (WithoutForm x) _ ua ub sa sb e = absurd (true≢false ub)
 typed_share (Construct w n) _ ua ub sa sb e = absurd (true≢false ub)
 typed_share (Convert w) _ ua ub sa sb e = absurd (true≢false ub)

@@ -23,7 +23,7 @@ use Rattle.shader_runs.specs.Text.{Apply}
 use Rattle.std.proofs.Common.{subst, ◌<◌}
 use Rattle.std.proofs.lemmas.List.{map-append}
 use Rattle.naga_ir.specs.declared.statement.SwitchValue.{SwitchValue}
-use Rattle.naga_ir.specs.declared.statement.SwitchValue.TheVariants as label
+use Rattle.naga_ir.specs.declared.statement.SwitchValue.TheVariants as switch_value
 use Rattle.naga_ir.specs.StatementTree.{SimpleStatement, StatementTree, simple}
 use Rattle.naga_ir.specs.StatementTree.{block, branch, switch, loop, BlockTree, no_statements}
 use Rattle.naga_ir.specs.StatementTree.{statement, CaseTrees, no_cases, case}
@@ -35,7 +35,7 @@ use Rattle.naga_ir.specs.declared.module.Module.{Module}
 use Rattle.naga_ir.specs.declared.types.AddressSpace.TheVariants as space
 use Rattle.naga_ir.specs.declared.types.TypeInner.TheVariants as inner
 use Rattle.std.specs.Prelude.{if◌then◌else◌}
-use Rattle.naga_form.specs.Expressions.{points}
+use Rattle.naga_form.specs.Expressions.{is_pointer}
 use Rattle.naga_info.specs.declared.info.TypeResolution.TheVariants.{Value}
 use Rattle.naga_info.specs.declared.info.ExpressionInfo.{ExpressionInfo}
 use Rattle.naga_info.specs.declared.info.ModuleInfo.{ModuleInfo}
@@ -70,7 +70,8 @@ use Rattle.naga_form.specs.Expressions.{plain_below, plain_form, value_form, Sou
 use Rattle.naga_form.specs.Expressions.{function_source, unnamed_form}
 use Rattle.naga_form.specs.Functions.{locals_form, parameters_form, function_form}
 use Rattle.naga_form.specs.Statements.{let_form, then_if, lets_form, return_line, simple_form}
-use Rattle.naga_form.specs.Statements.{loop_form, label_form, labels_form, line_form, lines_form}
+use Rattle.naga_form.specs.Statements.{loop_form, case_value_form, case_values_form, line_form}
+use Rattle.naga_form.specs.Statements.{lines_form}
 use Rattle.naga_form.specs.Statements.{cases_form, optional_form, act_line, barrier_lines}
 use Rattle.naga_form.specs.Statements.{shape_form}
 use Rattle.naga_form.proofs.statements.SimpleShapes.{has_no_blocks, no_blocks, shape_roots}
@@ -87,12 +88,13 @@ use Rattle.module_meaning.specs.ExpressionShapes.{Declared}
 use Rattle.module_meaning.specs.FunctionShapes.{statement_shape, statements_shape, cases_shape}
 use Rattle.module_meaning.specs.FunctionShapes.{function_shape}
 use Rattle.module_meaning.specs.Namings.{function_naming, outer_names}
-use Rattle.module_meaning.specs.Shapes.{label_shape}
+use Rattle.module_meaning.specs.Shapes.{case_value_shape}
 use Rattle.module_meaning.specs.StatementShapes.{simple_shape}
 use Rattle.wgsl_text.proofs.Types.{named_text}
 use Rattle.naga_form.proofs.ModulePlaces.{expression_is, shapes_length}
 use Rattle.naga_ir.specs.Operands.{expression_operands}
-use Rattle.text_meaning.specs.Abstraction.{expression_read, label_read, labels_read, called_word}
+use Rattle.text_meaning.specs.Abstraction.{expression_read, case_value_read, case_values_read}
+use Rattle.text_meaning.specs.Abstraction.{called_word}
 use Rattle.text_meaning.specs.Abstraction.{arguments_read}
 use Rattle.wgsl_text.specs.Expressions.{operands}
 use Rattle.text_meaning.specs.Abstraction.{statements_read, optional_read, cases_read}
@@ -118,22 +120,22 @@ names_counted names m g n (a ∷ args) =
     (names_counted names m g (n + 1) args
     ∙ ap (λ k. names_from (argument_name m names g) k (length args)) (add-one n))
 
--- ---- labels
-label_reads : (value : SwitchValue) → label_read (label_form value) ≡ label_shape value
-label_reads (label.I32 (pos n)) = refl
-label_reads (label.I32 (negsuc n)) = refl
-label_reads (label.U32 n) = refl
-label_reads label.Default = refl
+-- ---- case values
+case_value_reads : (value : SwitchValue) → case_value_read (case_value_form value) ≡ case_value_shape value
+case_value_reads (switch_value.I32 (pos n)) = refl
+case_value_reads (switch_value.I32 (negsuc n)) = refl
+case_value_reads (switch_value.U32 n) = refl
+case_value_reads switch_value.Default = refl
 
--- a label after others
-labels_with : (labels : List tree.Label) (value : SwitchValue) → map label_read (labels ++ label_form value ∷ []) ≡ map label_read labels ++ label_shape value ∷ []
-labels_with labels value =
-    map-append label_read labels (label_form value ∷ [])
-    ∙ ap (λ l. map label_read labels ++ l ∷ []) (label_reads value)
+-- a case value after others
+case_values_with : (labels : List tree.CaseValue) (value : SwitchValue) → map case_value_read (labels ++ case_value_form value ∷ []) ≡ map case_value_read labels ++ case_value_shape value ∷ []
+case_values_with labels value =
+    map-append case_value_read labels (case_value_form value ∷ [])
+    ∙ ap (λ l. map case_value_read labels ++ l ∷ []) (case_value_reads value)
 
-labels_read_as : (labels : List tree.Label) (value : SwitchValue) → labels_read (labels_form labels (label_form value)) ≡ map label_read labels ++ label_shape value ∷ []
-labels_read_as [] value = ap (λ l. l ∷ []) (label_reads value)
-labels_read_as (l ∷ ls) value = ap (λ more. label_read l ∷ more) (labels_read_as ls value)
+case_values_read_as : (labels : List tree.CaseValue) (value : SwitchValue) → case_values_read (case_values_form labels (case_value_form value)) ≡ map case_value_read labels ++ case_value_shape value ∷ []
+case_values_read_as [] value = ap (λ l. l ∷ []) (case_value_reads value)
+case_values_read_as (l ∷ ls) value = ap (λ more. case_value_read l ∷ more) (case_values_read_as ls value)
 
 -- a loop, of which a `continuing` without statements has no lines
 loop_reads : (body : tree.Statements) (b : BlockTree) (continuing : tree.Statements)
@@ -188,7 +190,7 @@ module _ (flags : WriterFlags) (named : ℕ → List ℕ) (m : Module) (info : M
       ap is_some (element types h below).1
 
   -- what is known to be a pointer has places for values
-  places_are : (h : ℕ) → is_place (handle_type own.function h) ≡ points d.context h
+  places_are : (h : ℕ) → is_place (handle_type own.function h) ≡ is_pointer d.context h
   places_are h = places_in m es h
 
   -- a constant that is written out
@@ -292,20 +294,20 @@ module _ (flags : WriterFlags) (named : ℕ → List ℕ) (m : Module) (info : M
       e : PlainForm
       e = unnamed_form own source s h
 
-      behind : tree.Statements
-      behind = lets_form own annotated source (named_after own.function h k) hs (after_one own k h s) rest
+      following : tree.Statements
+      following = lets_form own annotated source (named_after own.function h k) hs (after_one own k h s) rest
 
       by : (b : Bool) → bound h ≡ b → Writes (if b then h ∷ filter bound hs else filter bound hs) →
-          (Writes (filter bound hs) → statements_read behind ≡ runs.lets own (named_after own.function h k) hs (after_one own k h s) (statements_read rest)) →
+          (Writes (filter bound hs) → statements_read following ≡ runs.lets own (named_after own.function h k) hs (after_one own k h s) (statements_read rest)) →
           statements_read
-          (then_if b (let_form (annotated h) (bound_name own k h) (as_value e)) behind) ≡
+          (then_if b (let_form (annotated h) (bound_name own k h) (as_value e)) following) ≡
           let_if b (bound_name own k h)
           (runs.value_form
           (runs.own_form own (runs.written_form own s) (expression_of own.function h)))
           (runs.lets own (named_after own.function h k) hs (after_one own k h s)
           (statements_read rest))
       by true is w more =
-          then_if_reads true (annotated h) (bound_name own k h) (as_value e) behind
+          then_if_reads true (annotated h) (bound_name own k h) (as_value e) following
           ∙ λ i. let_if true (bound_name own k h)
           ((value_is e ∙ ap runs.value_form (handle_reads (plain_form own source s) (runs.written_form own s) (plain_reads s) h w.0)) i)
           (more w.1 i)
@@ -383,24 +385,24 @@ module _ (flags : WriterFlags) (named : ℕ → List ℕ) (m : Module) (info : M
     line_reads annotated k (simple st) s rest w = simple_reads annotated k st s rest w
     line_reads annotated k (block b) s rest w = ap (λ ls. before (Braces ls) (statements_read rest)) (lines_read annotated k b s w)
     line_reads annotated k (branch condition accept reject) s rest w =
-        let behind = named_by_all own.function (statements_shape d.context accept) k in
+        let following = named_by_all own.function (statements_shape d.context accept) k in
         let one = all_front W (block_roots bound accept) (block_roots bound reject) w.1 in
         let other = all_rest W (block_roots bound accept) (block_roots bound reject) w.1 in
         λ i. before (IfElse (value_reads s condition w.0 i) (lines_read annotated k accept s one i)
-        ((optional_reads annotated behind reject s ∙ lines_read annotated behind reject s other) i)) (statements_read rest)
+        ((optional_reads annotated following reject s ∙ lines_read annotated following reject s other) i)) (statements_read rest)
     line_reads annotated k (switch selector cases) s rest w =
         λ i. before (SwitchOn (value_reads s selector w.0 i) (cases_read_as annotated k [] cases s w.1 i)) (statements_read rest)
     line_reads annotated k (loop body continuing break_if) s rest w =
-        let behind = named_by_all own.function (statements_shape d.context body) k in
+        let following = named_by_all own.function (statements_shape d.context body) k in
         let inside = after_all own k (statements_shape d.context body) s in
-        let last = after_all own behind (statements_shape d.context continuing) inside in
+        let last = after_all own following (statements_shape d.context continuing) inside in
         let one = all_front W (block_roots bound body) (block_roots bound continuing ++ option_to_list break_if) w in
         let more = all_rest W (block_roots bound body) (block_roots bound continuing ++ option_to_list break_if) w in
         let other = all_front W (block_roots bound continuing) (option_to_list break_if) more in
         let value = all_rest W (block_roots bound continuing) (option_to_list break_if) more in
-        ap (λ l. before l (statements_read rest)) (loop_reads (lines_form own annotated source k body s) continuing (lines_form own annotated source behind continuing inside)
-        (option_map (value_form own source last) break_if) (optional_reads annotated behind continuing inside))
-        ∙ λ i. before (LoopOf (lines_read annotated k body s one i) (lines_read annotated behind continuing inside other i) (value_if_reads last break_if value i)) (statements_read rest)
+        ap (λ l. before l (statements_read rest)) (loop_reads (lines_form own annotated source k body s) continuing (lines_form own annotated source following continuing inside)
+        (option_map (value_form own source last) break_if) (optional_reads annotated following continuing inside))
+        ∙ λ i. before (LoopOf (lines_read annotated k body s one i) (lines_read annotated following continuing inside other i) (value_if_reads last break_if value i)) (statements_read rest)
 
     lines_read : (annotated : ℕ → Option TypeSpecifier) (k : ℕ) (b : BlockTree) (s : Handles) →
         Writes (block_roots bound b) →
@@ -415,21 +417,21 @@ module _ (flags : WriterFlags) (named : ℕ → List ℕ) (m : Module) (info : M
         (lines_read annotated (named_by own.function (statement_shape d.context st) k) b
         (after own k (statement_shape d.context st) s) more)
 
-    cases_read_as : (annotated : ℕ → Option TypeSpecifier) (k : ℕ) (labels : List tree.Label)
+    cases_read_as : (annotated : ℕ → Option TypeSpecifier) (k : ℕ) (labels : List tree.CaseValue)
         (cs : CaseTrees) (s : Handles) → Writes (cases_roots bound cs) →
         cases_read (cases_form own annotated source k labels cs s) ≡
-        runs.form_cases own k (map label_read labels) (cases_shape d.context cs) s
+        runs.form_cases own k (map case_value_read labels) (cases_shape d.context cs) s
     cases_read_as annotated k labels no_cases s w = refl
     cases_read_as annotated k labels (case value body true cs) s w =
-        let behind = named_by_all own.function (statements_shape d.context body) k in
-        cases_read_as annotated behind (labels ++ label_form value ∷ []) cs s
+        let following = named_by_all own.function (statements_shape d.context body) k in
+        cases_read_as annotated following (labels ++ case_value_form value ∷ []) cs s
         (all_rest W (block_roots bound body) (cases_roots bound cs) w)
-        ∙ ap (λ ls. runs.form_cases own behind ls (cases_shape d.context cs) s) (labels_with labels value)
+        ∙ ap (λ ls. runs.form_cases own following ls (cases_shape d.context cs) s) (case_values_with labels value)
     cases_read_as annotated k labels (case value body false cs) s w =
-        let behind = named_by_all own.function (statements_shape d.context body) k in
+        let following = named_by_all own.function (statements_shape d.context body) k in
         let one = all_front W (block_roots bound body) (cases_roots bound cs) w in
         let more = all_rest W (block_roots bound body) (cases_roots bound cs) w in
-        λ i. group (labels_read_as labels value i) (lines_read annotated k body s one i) (cases_read_as annotated behind [] cs s more i)
+        λ i. group (case_values_read_as labels value i) (lines_read annotated k body s one i) (cases_read_as annotated following [] cs s more i)
 
 -- the declared type of a local tells the spelling of a pointer to it
 pointer_reads : (m : Module) (ty : ℕ) (t : TypeSpecifier) → type_tree (type_names m) ty ≡ Some t → local_pointer_read (type_form (type_names m) ty) ≡ local_pointer m ty

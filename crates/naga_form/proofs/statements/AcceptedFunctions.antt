@@ -3,7 +3,7 @@
 use Rattle.naga_ir.specs.Operands.{expression_operands}
 use Rattle.naga_ir.specs.declared.expression.Expression.{Expression}
 use Rattle.module_meaning.specs.acceptance.Ranges.{expression_in_range, names_in_range, all_below}
-use Rattle.module_meaning.proofs.FunctionNumbers.{behind_left, in_append, which_function}
+use Rattle.module_meaning.proofs.FunctionNumbers.{after_left, in_append, which_function}
 use Rattle.module_meaning.proofs.FunctionNumbers.{IsNumbered}
 use Rattle.module_meaning.proofs.FunctionNumbers.{OfEntryPoint, OfFunction}
 use Rattle.module_meaning.proofs.SideBySide.{paired_at, zip_at, zip_parts}
@@ -304,7 +304,7 @@ module _ (m : Module) (info : ModuleInfo) (accepted : IsTrue (is_accepted m info
       slice_get (all_infos info) (length m.functions + j) ≡ Some es
   entry_info_among j es there =
       ap (λ n. slice_get (all_infos info) (n + j)) functions_counted
-      ∙ behind_left info.functions.items info.entry_points.items j es there
+      ∙ after_left info.functions.items info.entry_points.items j es there
 
   -- of each something is known
   pub known_there : (g : ℕ) (f : Function) → slice_get (all_functions m) g ≡ Some f →

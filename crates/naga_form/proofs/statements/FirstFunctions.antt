@@ -46,7 +46,7 @@ use Rattle.naga_form.proofs.declarations.AcceptedGroups.{declarations_are, types
 use Rattle.naga_form.proofs.names.DistinguishedItems.{types_are_distinguished}
 use Rattle.naga_form.proofs.statements.FunctionsFit.{IsLeft, Tells, all_distinguished}
 use Rattle.naga_form.proofs.statements.FunctionsFit.{function_fits, one_more}
-use Rattle.naga_form.proofs.statements.FunctionsFit.{regular_at, shape_numbered, stand_behind}
+use Rattle.naga_form.proofs.statements.FunctionsFit.{regular_at, shape_numbered, stand_after}
 use Rattle.naga_form.proofs.statements.FunctionsFit.{worded_at}
 use Rattle.naga_form.proofs.ModuleFits.{constants_typed, counts}
 use Rattle.naga_form.proofs.names.NamedFits.{is_free}
@@ -150,25 +150,25 @@ module _ (m : Module) (info : ModuleInfo) (accepted : IsTrue (is_accepted m info
     module _ (count : ℕ) (forms_before : WrittenHaveFormsBefore false m info count)
         (scopes_before : ScopesHoldBefore m info count) where
       -- those from a number on, after the others
-      fit_behind : (g : ℕ) (ks : List (ir_function.Function × List ExpressionInfo)) →
+      fit_after : (g : ℕ) (ks : List (ir_function.Function × List ExpressionInfo)) →
           ((i : ℕ) (k : ir_function.Function × List ExpressionInfo) → slice_get ks i ≡ Some k →
           (g + i < count) × (slice_get known (g + i) ≡ Some k)) →
-          (behind : List Naming) → length (functions_of behind) ≡ g →
-          Tells (shape_numbered m info accepted) (functions_of behind) → AllFit p n behind →
-          AllFit p n (reverse_aux (namings_from named (module_names m) m g (map shape_of ks)) behind)
-      fit_behind g [] there behind at tells fit = fit
-      fit_behind g (k ∷ ks) there behind at tells fit =
+          (following : List Naming) → length (functions_of following) ≡ g →
+          Tells (shape_numbered m info accepted) (functions_of following) → AllFit p n following →
+          AllFit p n (reverse_aux (namings_from named (module_names m) m g (map shape_of ks)) following)
+      fit_after g [] there following at tells fit = fit
+      fit_after g (k ∷ ks) there following at tells fit =
           let here : g + 0 ≡ g = omega arith in
           let first = there 0 k refl in
           let lt : g < count = subst (λ h. h < count) here first.0 in
           let found = subst (λ h. slice_get known h ≡ Some k) here first.1 in
           let own = function_naming (module_names m) (named g) m info g k.0 k.1 in
           let this =
-          function_fits_at g k.0 k.1 found (forms_before g lt) (scopes_before g lt) (functions_of behind) at tells in
-          let numbered : shape_numbered m info accepted (length (functions_of behind)) ≡ Some own.function =
+          function_fits_at g k.0 k.1 found (forms_before g lt) (scopes_before g lt) (functions_of following) at tells in
+          let numbered : shape_numbered m info accepted (length (functions_of following)) ≡ Some own.function =
           ap (shape_numbered m info accepted) at ∙ (slice_get-map shape_of known g ∙ ap (option_map shape_of) found) in
-          fit_behind (g + 1) ks further (own ∷ behind) (ap suc at ∙ sym (add-one g))
-          (one_more (shape_numbered m info accepted) own.function (functions_of behind) tells numbered)
+          fit_after (g + 1) ks further (own ∷ following) (ap suc at ∙ sym (add-one g))
+          (one_more (shape_numbered m info accepted) own.function (functions_of following) tells numbered)
           (this, fit)
         where
           further : (i : ℕ) (x : ir_function.Function × List ExpressionInfo) → slice_get ks i ≡ Some x →
@@ -183,7 +183,7 @@ module _ (m : Module) (info : ModuleInfo) (accepted : IsTrue (is_accepted m info
 
       first_all_fit : AllFit p n first_namings
       first_all_fit =
-          fit_behind 0 (take count known) among [] refl (λ g lt. absurd (omega (arith, lt))) tt
+          fit_after 0 (take count known) among [] refl (λ g lt. absurd (omega (arith, lt))) tt
         where
           taken : {X : Type 0} (c : ℕ) (xs : List X) (i : ℕ) (x : X) → slice_get (take c xs) i ≡ Some x →
               (i < c) × (slice_get xs i ≡ Some x)
@@ -343,7 +343,7 @@ module _ (m : Module) (info : ModuleInfo) (accepted : IsTrue (is_accepted m info
                   subst (λ fs. AreRegular p fs own own.function.body) callees
                   (regular_at m info accepted g f es at p own.function.body own.names
                   (types_are_distinguished m) (first_shapes count)
-                  (stand_behind m info accepted is.callees (first_shapes count)
+                  (stand_after m info accepted is.callees (first_shapes count)
                   (omega (arith, enough, first)) (first_shapes_tell count)) (omega arith)
                   (left_at g f es at have scope (first_shapes g) before_counted).worded);
               all = first_all_fit;

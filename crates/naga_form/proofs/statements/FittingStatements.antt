@@ -1,6 +1,6 @@
 -- What makes a statement one of the grammar, beside its operands: its words may be called, its result is
--- bound to an identifier, and its cases have labels and one default. So it is with the accepted ones that have
--- a form.
+-- bound to an identifier, and its cases have values and one default. So it is with the accepted
+-- ones that have a form.
 use Rattle.std.proofs.Common.{◌≡◌, ℕ, ◌<◌, Bool, true, false, not, ◌&&◌, ◌||◌, List, nat_lt}
 use Rattle.std.proofs.Common.{Option, Some, None, refl}
 use Rattle.std.specs.Prelude.{IsTrue}
@@ -16,7 +16,7 @@ use Rattle.naga_ir.specs.declared.module.Function.{Function}
 use Rattle.naga_ir.specs.declared.module.Module.{Module}
 use Rattle.naga_info.specs.declared.info.TypeResolution.{TypeResolution}
 use Rattle.module_meaning.specs.ExpressionOperators.{ExpressionContext, is_atomic_pointer}
-use Rattle.module_meaning.specs.acceptance.Numbers.{label_fits_32_bits}
+use Rattle.module_meaning.specs.acceptance.Numbers.{case_value_fits_32_bits}
 use Rattle.module_meaning.specs.acceptance.Ranges.{block_in_range, cases_in_range}
 use Rattle.module_meaning.specs.acceptance.Ranges.{is_below, simple_in_range}
 use Rattle.module_meaning.specs.acceptance.Ranges.{statement_in_range}
@@ -50,7 +50,8 @@ abbrev pub ShapeFits : Naming → shapes.Statement → Type 0
 ShapeFits n (Act action xs outcome) = IsCallee (Named (word_of n.names action)) × ResultIs n outcome
 ShapeFits n s = Unit {0}
 
--- so it is with each statement, labels are integers of their types, and a switch has one default
+-- so it is with each statement, case values are integers of their types, and a switch has one
+-- default
 abbrev mutual
   pub StatementFits : Naming → ExpressionContext → StatementTree → Type 0
   StatementFits n a (simple s) = ShapeFits n (simple_shape a s)
@@ -65,7 +66,7 @@ abbrev mutual
 
   pub CasesFit : Naming → ExpressionContext → CaseTrees → Type 0
   CasesFit n a no_cases = Unit {0}
-  CasesFit n a (case value body falls cs) = IsTrue (label_fits_32_bits value) × AllFit n a body × CasesFit n a cs
+  CasesFit n a (case value body falls cs) = IsTrue (case_value_fits_32_bits value) × AllFit n a body × CasesFit n a cs
 
 -- ---- accepted statements that have forms
 module _ (n : Naming) (a : ExpressionContext) (callees expressions : ℕ)
@@ -147,7 +148,7 @@ module _ (n : Naming) (a : ExpressionContext) (callees expressions : ℕ)
           cases_are_sound m f known true continues cs ≡ true → cases_have_forms cs ≡ true → CasesFit n a cs
       cases_fit continues no_cases within sound has = tt
       cases_fit continues (case value body falls cs) within sound has =
-          let labels = and_parts (label_fits_32_bits value) _ within in
+          let labels = and_parts (case_value_fits_32_bits value) _ within in
           let ranges = and_parts (block_in_range callees expressions body) (cases_in_range callees expressions cs) labels.1 in
           let one = and_parts (block_is_sound m f known true continues body) (cases_are_sound m f known true continues cs) sound in
           let empty = and_parts (not falls || has_no_statements body) (block_has_forms body && cases_have_forms cs) has in

@@ -32,7 +32,7 @@ use Rattle.naga_form.proofs.declarations.AcceptedGroups.{types_are_counted}
 use Rattle.module_meaning.proofs.FunctionNumbers.{function_among}
 use Rattle.naga_form.proofs.operators.Leaves.{ConstantsAreTyped, leaves}
 use Rattle.naga_form.proofs.operators.Ordered.{ordered}
-use Rattle.naga_form.proofs.statements.Regular.{AreWorded, StandBehind, regular}
+use Rattle.naga_form.proofs.statements.Regular.{AreWorded, StandAfter, regular}
 use Rattle.naga_form.proofs.statements.Worded.{AsksFreely, worded}
 
 -- ---- functions by their numbers
@@ -53,14 +53,14 @@ one_more at f fs tells is g lt = by (nat_eq g (length fs)) refl
         tells g (omega (arith, before, apart))
 
 -- so they have in a list that is turned round
-turned : (at : ℕ → Option shapes.Function) (xs behind : List shapes.Function) → Tells at behind →
-    ((i : ℕ) (f : shapes.Function) → slice_get xs i ≡ Some f → at (length behind + i) ≡ Some f) →
-    Tells at (reverse_aux xs behind)
-turned at [] behind tells each = tells
-turned at (f ∷ xs) behind tells each =
-    turned at xs (f ∷ behind)
-    (one_more at f behind tells (let same : length behind ≡ length behind + 0 = omega arith in ap at same ∙ each 0 f refl))
-    (λ i g there. let same : suc (length behind) + i ≡ length behind + suc i = omega arith in
+turned : (at : ℕ → Option shapes.Function) (xs following : List shapes.Function) → Tells at following →
+    ((i : ℕ) (f : shapes.Function) → slice_get xs i ≡ Some f → at (length following + i) ≡ Some f) →
+    Tells at (reverse_aux xs following)
+turned at [] following tells each = tells
+turned at (f ∷ xs) following tells each =
+    turned at xs (f ∷ following)
+    (one_more at f following tells (let same : length following ≡ length following + 0 = omega arith in ap at same ∙ each 0 f refl))
+    (λ i g there. let same : suc (length following) + i ≡ length following + suc i = omega arith in
     ap at same ∙ each (suc i) g there)
 
 pub first_distinguished : (at : ℕ → Option shapes.Function) (f : shapes.Function) (fs : List shapes.Function) →
@@ -101,9 +101,9 @@ pub record IsFree (all : Bool) (p : shapes.Module) (n : ModuleNames) (callees : 
   pub scope : IsTrue (fits_function f)
 
 -- each function after those before it
-abbrev pub AllBehind : (List shapes.Function → Naming → Type 0) → List Naming → Type 0
-AllBehind L [] = Unit {0}
-AllBehind L (f ∷ fs) = L (functions_of fs) f × AllBehind L fs
+abbrev pub AllAfter : (List shapes.Function → Naming → Type 0) → List Naming → Type 0
+AllAfter L [] = Unit {0}
+AllAfter L (f ∷ fs) = L (functions_of fs) f × AllAfter L fs
 
 abbrev pub named : shapes.Function → Names → Naming
 named f names = record { function = f; names = names }
@@ -124,9 +124,9 @@ module _ (m : Module) (info : ModuleInfo) (accepted : IsTrue (is_accepted m info
       (λ i f there. let at : 0 + i ≡ i = omega arith in ap shape_numbered at ∙ there)
 
   -- the functions of the module among those that are numbered so
-  pub stand_behind : (count : ℕ) (callees : List shapes.Function) → count ≤ length callees →
-      Tells shape_numbered callees → StandBehind m info count callees
-  stand_behind count callees le tells = record {
+  pub stand_after : (count : ℕ) (callees : List shapes.Function) → count ≤ length callees →
+      Tells shape_numbered callees → StandAfter m info count callees
+  stand_after count callees le tells = record {
     shape_of_callee = λ g f lt there.
         let known = function_there m info accepted g f (function_among m g f there) in (
           known.0,
@@ -156,15 +156,15 @@ module _ (m : Module) (info : ModuleInfo) (accepted : IsTrue (is_accepted m info
 
     -- its statements are regular
     pub regular_at : TypesAreDistinguished m → (callees : List shapes.Function) →
-        StandBehind m info (accepted_at m info accepted k f es at).callees callees →
+        StandAfter m info (accepted_at m info accepted k f es at).callees callees →
         k ≤ names.earlier → AreWorded q own (function_shape m info f es).body →
         AreRegular q callees own (function_shape m info f es).body
-    regular_at distinguished callees behind earlier words =
+    regular_at distinguished callees following earlier words =
         let is = accepted_at m info accepted k f es at in
         let group = group_at m info accepted k f es at in
         let before = is.before in
         regular m info f es (types_are_counted m info accepted distinguished) group body q names
-        is.callees callees behind
+        is.callees callees following
         (omega (arith, before, earlier)) (ranges_are m is.callees f is.ranges).1
         (soundness_is m f es is.sound).1 words
 
@@ -189,7 +189,7 @@ module _ (m : Module) (info : ModuleInfo) (accepted : IsTrue (is_accepted m info
         leaves = leaves m info f es (types_are_counted m info accepted distinguished) group
             constants;
         regular = regular_at k f es at p (function_shape m info f es).body names distinguished
-            callees (stand_behind is.callees callees (omega (arith, before, number)) tells)
+            callees (stand_after is.callees callees (omega (arith, before, number)) tells)
             (omega (arith, number, earlier)) left.worded;
         cases = only;
         distinct = left.distinct;
@@ -204,7 +204,7 @@ module _ (m : Module) (info : ModuleInfo) (accepted : IsTrue (is_accepted m info
       (callees : List shapes.Function) → length callees ≡ k → Tells shape_numbered callees →
       L callees (named (function_shape m info f es) names) →
       F callees (named (function_shape m info f es) names)) →
-      (fs : List Naming) → Tells shape_numbered (functions_of fs) → AllBehind L fs → AllBehind F fs
+      (fs : List Naming) → Tells shape_numbered (functions_of fs) → AllAfter L fs → AllAfter F fs
   all_from L F each [] tells left = tt
   all_from L F each (f ∷ fs) tells left =
       (here, all_from L F each fs (rest_distinguished shape_numbered f.function (functions_of fs) tells) left.1)
@@ -224,7 +224,7 @@ module _ (m : Module) (info : ModuleInfo) (accepted : IsTrue (is_accepted m info
           (subst (λ g. L callees (named g f.names)) (sym found.2) left.0))
 
   all_are : (p : shapes.Module) (n : ModuleNames) (fs : List Naming) →
-      AllBehind (FunctionFits p n) fs → AllFit p n fs
+      AllAfter (FunctionFits p n) fs → AllFit p n fs
   all_are p n [] all = tt
   all_are p n (f ∷ fs) all = (all.0, all_are p n fs all.1)
 
@@ -238,7 +238,7 @@ module _ (m : Module) (info : ModuleInfo) (accepted : IsTrue (is_accepted m info
       (n : ModuleNames) (fs : List Naming) (same : functions_of fs ≡ p.functions) where
     -- the functions of an accepted module meet what the law of runs asks of them, where this is
     -- shown beside
-    pub all_fit : AllBehind (IsLeft p n) fs → AllFit p n fs
+    pub all_fit : AllAfter (IsLeft p n) fs → AllFit p n fs
     all_fit left =
         all_are p n fs
         (all_from (IsLeft p n) (FunctionFits p n)
@@ -251,7 +251,7 @@ module _ (m : Module) (info : ModuleInfo) (accepted : IsTrue (is_accepted m info
     pub all_fit_freely : (all : Bool) → ((k : ℕ) (f : Function) (es : List ExpressionInfo) →
         slice_get (functions_known m info) k ≡ Some (f, es) →
         (all || block_has_forms f.body) ≡ true) →
-        AllBehind (IsFree all p n) fs → AllFit p n fs
+        AllAfter (IsFree all p n) fs → AllFit p n fs
     all_fit_freely all has free =
         all_fit
         (all_from (IsFree all p n) (IsLeft p n)

@@ -18,13 +18,13 @@ use Rattle.naga_back.specs.declared.context.FunctionType.TheVariants as item
 use Rattle.shader_runs.specs.Program as shapes
 use Rattle.shader_runs.specs.Value.{has_types}
 use Rattle.shader_runs.specs.World.{Vocabulary}
-use Rattle.shader_runs.specs.Bindings.{bound_names, lines_lets}
+use Rattle.shader_runs.specs.NamedLets.{bound_names, lines_lets}
 use Rattle.shader_runs.specs.Constants.{follow_module}
 use Rattle.shader_runs.specs.Form.{form_function, form_module_with}
 use Rattle.shader_runs.specs.Resolution.{function_targets, text_function_targets, text_names}
 use Rattle.shader_runs.specs.Scope.{Naming}
 use Rattle.shader_runs.specs.Text.{TextModule}
-use Rattle.shader_runs.proofs.Bindings.{function_binds_as_meant}
+use Rattle.shader_runs.proofs.NamedLets.{function_binds_as_meant}
 use Rattle.shader_runs.proofs.Calls.{numbered_within}
 use Rattle.shader_runs.proofs.OneRun.{one_runs_alike}
 use Rattle.shader_runs.proofs.Resolution.{function_resolves_as_meant}
@@ -33,7 +33,7 @@ use Rattle.text_meaning.specs.Abstraction.{statements_read}
 use Rattle.text_meaning.specs.Resolution.{hides_no_type}
 use Rattle.wgsl_text.specs.Functions.{Function}
 use Rattle.module_meaning.specs.acceptance.Accepted.{is_accepted}
-use Rattle.module_meaning.specs.Bindings.{BindsAt}
+use Rattle.module_meaning.specs.FunctionLets.{BindsAt}
 use Rattle.module_meaning.specs.DeclarationForms.{ItemsHaveForms}
 use Rattle.module_meaning.specs.Faithful.{RunsAt}
 use Rattle.module_meaning.specs.FunctionNumbers.{all_functions, all_infos, callee_count}
@@ -51,7 +51,7 @@ use Rattle.naga_form.proofs.names.DeclaredNames.{one_vocabulary}
 use Rattle.naga_form.proofs.statements.Abstraction.{function_reads}
 use Rattle.naga_form.proofs.statements.AcceptedFunctions.{accepted_at, functions_known, of_number}
 use Rattle.naga_form.proofs.declarations.AcceptedGroups.{declarations_are}
-use Rattle.naga_form.proofs.statements.Bindings.{annotations_are}
+use Rattle.naga_form.proofs.statements.WrittenLets.{annotations_are}
 use Rattle.naga_form.proofs.names.DeclaredItems.{constants_resolve, initialisers_resolve}
 use Rattle.naga_form.proofs.names.DeclaredItems.{items_resolve}
 use Rattle.naga_form.proofs.statements.FirstFunctions.{between, first_namings, first_shapes}

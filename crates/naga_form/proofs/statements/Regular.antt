@@ -26,12 +26,12 @@ use Rattle.naga_info.specs.declared.info.ExpressionInfo.{ExpressionInfo}
 use Rattle.naga_info.specs.declared.info.ModuleInfo.{ModuleInfo}
 use Rattle.naga_info.specs.declared.info.TypeResolution.{TypeResolution}
 use Rattle.naga_info.specs.declared.info.TypeResolution.TheVariants.{Handle}
-use Rattle.module_meaning.specs.acceptance.Numbers.{label_fits_32_bits}
+use Rattle.module_meaning.specs.acceptance.Numbers.{case_value_fits_32_bits}
 use Rattle.module_meaning.specs.acceptance.AgreeingOperators.{function_group}
 use Rattle.module_meaning.specs.AlikeTypes.{are_alike}
 use Rattle.module_meaning.specs.ExpressionOperators.{is_atomic_pointer}
 use Rattle.module_meaning.specs.ExpressionShapes.{Declared, shape_of}
-use Rattle.module_meaning.specs.acceptance.ExpressionTypes.{is_wanted, only, result_type}
+use Rattle.module_meaning.specs.acceptance.ExpressionTypes.{is_expected, only, result_type}
 use Rattle.module_meaning.specs.FunctionShapes.{function_shape, statement_shape, statements_shape}
 use Rattle.module_meaning.specs.FunctionShapes.{cases_shape}
 use Rattle.module_meaning.specs.acceptance.Ranges.{simple_in_range, statement_in_range}
@@ -119,7 +119,7 @@ module _ (d : Declared) (es : List ir.Expression) (h : ℕ) where
 
 -- ---- callees
 -- so many functions of the module stand after, each with its shape, but perhaps another body
-pub record StandBehind (m : Module) (info : ModuleInfo) (count : ℕ) (callees : List shapes.Function) :
+pub record StandAfter (m : Module) (info : ModuleInfo) (count : ℕ) (callees : List shapes.Function) :
     Type 0 where
   pub shape_of_callee : (g : ℕ) (f : Function) → g < count → slice_get m.functions g ≡ Some f →
       (es : List ExpressionInfo) × (body : Statements) ×
@@ -195,7 +195,7 @@ module _ (m : Module) (info : ModuleInfo) (f : Function) (es : List ExpressionIn
           let one =
           typed_only m info f es are group h (expression.CallResult c) at
           (option_map (λ r. Handle r.ty) callee.result)
-          (λ r fits. subst (λ o. is_wanted m.types (only o) r ≡ true) answers fits)
+          (λ r fits. subst (λ o. is_expected m.types (only o) r ≡ true) answers fits)
           (λ s has. let found = map_some (λ r. Handle r.ty) callee.result s has in
           subst (IsFit m) found.2 tt) in
           let found = map_some (λ r. Handle r.ty) callee.result one.0 one.1 in
@@ -204,7 +204,7 @@ module _ (m : Module) (info : ModuleInfo) (f : Function) (es : List ExpressionIn
       by _ at is = absurd cc
 
   module _ (p : shapes.Module) (n : Names) (count : ℕ) (callees : List shapes.Function)
-      (behind : StandBehind m info count callees) (earlier : count ≤ n.earlier) where
+      (following : StandAfter m info count callees) (earlier : count ≤ n.earlier) where
     abbrev own : Naming
     own = record { function = shape; names = n }
 
@@ -214,7 +214,7 @@ module _ (m : Module) (info : ModuleInfo) (f : Function) (es : List ExpressionIn
         let one = passing (calls m.types known f g xs r) (slice_get m.functions g) fits in
         let two =
         and_parts (are_passed m.types known one.0.arguments.items xs) (is_answered one.0 g f r) one.2 in
-        let callee = behind.shape_of_callee g one.0 lt one.1 in (
+        let callee = following.shape_of_callee g one.0 lt one.1 in (
           (omega (arith, lt, earlier), no_name, subst (λ o. CallFits shape o xs r) (sym callee.2) (passed one.0.arguments.items xs two.0, answered one.0 g one.1 r two.1)),
           by one.0 r two.1,
         )
@@ -340,7 +340,7 @@ module _ (m : Module) (info : ModuleInfo) (f : Function) (es : List ExpressionIn
           let ranges =
           and_parts (block_in_range count (length f.expressions) b)
           (cases_in_range count (length f.expressions) cs)
-          (and_parts (label_fits_32_bits v) _ within).1 in
+          (and_parts (case_value_fits_32_bits v) _ within).1 in
           let one =
           and_parts (block_is_sound m f known true continues b)
           (cases_are_sound m f known true continues cs) fits in (

@@ -24,7 +24,7 @@ use Rattle.module_meaning.specs.FunctionShapes.{function_shapes}
 use Rattle.module_meaning.specs.Namings.{namings_from, namings_under}
 use Rattle.module_meaning.specs.ModuleShapes.{module_shape}
 use Rattle.naga_form.proofs.statements.AcceptedFunctions.{accepted_at}
-use Rattle.naga_form.proofs.statements.FunctionsFit.{AllBehind, all_from, all_distinguished}
+use Rattle.naga_form.proofs.statements.FunctionsFit.{AllAfter, all_from, all_distinguished}
 use Rattle.naga_form.proofs.statements.FunctionsFit.{shape_numbered}
 use Rattle.naga_form.proofs.statements.FunctionsFit.{Tells}
 use Rattle.naga_form.proofs.operators.Ordered.{ordered}
@@ -53,11 +53,11 @@ same_functions m info named =
 abbrev IsOrdered : List shapes.Function → Naming → Type 0
 IsOrdered callees n = (h : ℕ) → AllBelow h (operands_of (expression_of n.function h))
 
-nothing_asked : (ns : List Naming) → AllBehind (λ callees n. Unit {0}) ns
+nothing_asked : (ns : List Naming) → AllAfter (λ callees n. Unit {0}) ns
 nothing_asked [] = tt
 nothing_asked (n ∷ ns) = (tt, nothing_asked ns)
 
-each_is_checked : (ns : List Naming) → AllBehind IsOrdered ns → (IsTrue (list_all fits_function ns) ↔ EachScopeHolds (functions_of ns))
+each_is_checked : (ns : List Naming) → AllAfter IsOrdered ns → (IsTrue (list_all fits_function ns) ↔ EachScopeHolds (functions_of ns))
 each_is_checked [] all = (λ t. tt, λ r. refl)
 each_is_checked (n ∷ ns) all =
     let here = scope_check_is_the_rules n all.0 in
@@ -72,7 +72,7 @@ module _ (m : Module) (info : ModuleInfo) (accepted : IsTrue (is_accepted m info
     abbrev all_named : List Naming
     all_named = namings_under named (module_names m) m info
 
-    all_are_ordered : AllBehind IsOrdered all_named
+    all_are_ordered : AllAfter IsOrdered all_named
     all_are_ordered =
         all_from m info accepted (λ callees n. Unit {0}) IsOrdered
         (λ k f es at names callees number tells none.

@@ -42,13 +42,15 @@ use Rattle.wgsl_text.specs.Expressions as tree_expressions
 use Rattle.wgsl_text.specs.Expressions.{Call, IsCallee, IsExpression, operands}
 use Rattle.wgsl_text.specs.Functions.{Each}
 use Rattle.wgsl_text.specs.Statements as tree
-use Rattle.wgsl_text.specs.Statements.{IsCases, IsLabel, IsOptionalBlock, IsStatement, IsStatements}
+use Rattle.wgsl_text.specs.Statements.{IsCases, IsCaseValue, IsOptionalBlock, IsStatement}
+use Rattle.wgsl_text.specs.Statements.{IsStatements}
 use Rattle.wgsl_text.specs.Types.{IsType, Named, TypeSpecifier}
 use Rattle.wgsl_text.specs.Words.{IsIdentifier}
 use Rattle.wgsl_text.proofs.Building.{called_words}
 use Rattle.naga_form.specs.Expressions.{Source, as_value, function_source, plain_form, unnamed_form}
 use Rattle.naga_form.specs.Expressions.{value_form, value_forms}
-use Rattle.naga_form.specs.Statements.{act_line, barrier_lines, cases_form, label_form, let_form}
+use Rattle.naga_form.specs.Statements.{act_line, barrier_lines, cases_form, case_value_form}
+use Rattle.naga_form.specs.Statements.{let_form}
 use Rattle.naga_form.specs.Statements.{lets_form, line_form, lines_form, loop_form, optional_form}
 use Rattle.naga_form.specs.Statements.{return_line, shape_form, then_if}
 use Rattle.naga_form.proofs.operators.CalledWords.{AreCalled, barriers_called}
@@ -61,7 +63,7 @@ use Rattle.naga_form.proofs.operators.PlainForms.{IsPlainForm, NamesAre, referen
 use Rattle.naga_form.proofs.operators.PlainForms.{value_is_one}
 use Rattle.naga_form.proofs.operators.PlainForms.{values_are}
 use Rattle.naga_form.proofs.statements.SimpleShapes.{roots_are, shape_roots}
-use Rattle.naga_form.proofs.statements.Switches.{labels_are, labels_more, one_is_written}
+use Rattle.naga_form.proofs.statements.Switches.{labels_are, case_values_more, one_is_written}
 use Rattle.naga_form.proofs.statements.WrittenHandles.{all_front, all_map, all_rest}
 use Rattle.naga_back.specs.declared.flags.WriterFlags.{WriterFlags}
 
@@ -194,9 +196,9 @@ module _ (flags : WriterFlags) (m : Module) (info : ModuleInfo) (g : ℕ) (f : i
   after_is k _ fit s well room = well
 
   -- after a statement, and after a block
-  room_behind : (k : ℕ) (st : StatementTree) (b : BlockTree) → HasRoom k (labels_in f st ++ block_labels f b) →
+  room_after : (k : ℕ) (st : StatementTree) (b : BlockTree) → HasRoom k (labels_in f st ++ block_labels f b) →
       HasRoom (named_by own.function (statement_shape d.context st) k) (block_labels f b)
-  room_behind k st b room = room_rest k (named_by own.function (statement_shape d.context st) k) (labels_in f st) (block_labels f b) room (named_by_is m info f es st k)
+  room_after k st b room = room_rest k (named_by own.function (statement_shape d.context st) k) (labels_in f st) (block_labels f b) room (named_by_is m info f es st k)
 
   room_beyond : (k : ℕ) (b : BlockTree) (rest : List (List ℕ)) → HasRoom k (block_labels f b ++ rest) → HasRoom (named_by_all own.function (statements_shape d.context b) k) rest
   room_beyond k b rest room = room_rest k (named_by_all own.function (statements_shape d.context b) k) (block_labels f b) rest room (named_by_all_is m info f es b k)
@@ -208,7 +210,7 @@ module _ (flags : WriterFlags) (m : Module) (info : ModuleInfo) (g : ℕ) (f : i
       (after_all_is (named_by own.function (statement_shape d.context st) k) b fit.1
       (after own k (statement_shape d.context st) s)
       (after_is k st fit.0 s well (room_front k (labels_in f st) (block_labels f b) room))
-      (room_behind k st b room))
+      (room_after k st b room))
     where
       last : Handles
       last = after_all own (named_by own.function (statement_shape d.context st) k) (statements_shape d.context b) (after own k (statement_shape d.context st) s)
@@ -252,13 +254,13 @@ module _ (flags : WriterFlags) (m : Module) (info : ModuleInfo) (g : ℕ) (f : i
         e : tree_expressions.Expression
         e = as_value (unnamed_form own source s h)
 
-        behind : tree.Statements
-        behind = lets_form own annotated source (named_after own.function h k) hs (after_one own k h s) rest
+        following : tree.Statements
+        following = lets_form own annotated source (named_after own.function h k) hs (after_one own k h s) rest
 
         then_is : (b : Bool) → bound h ≡ b →
             Writes (if b then h ∷ filter bound hs else filter bound hs) →
-            (Writes (filter bound hs) → IsStatements behind) →
-            IsStatements (then_if b (let_form (annotated h) (bound_name own k h) e) behind)
+            (Writes (filter bound hs) → IsStatements following) →
+            IsStatements (then_if b (let_form (annotated h) (bound_name own k h) e) following)
         then_is true is_bound w more = (
           let_is (annotated h) (annotated_well h) (bound_name own k h) e (bound_is k h is_bound here)
               (value_is_one (unnamed_form own source s h) (unnamed_is s well h w.0)),
@@ -312,13 +314,13 @@ module _ (flags : WriterFlags) (m : Module) (info : ModuleInfo) (g : ℕ) (f : i
           (subst Writes (roots_are bound d.context st) w)
       line_is k (block b) fit s well room rest is w = (lines_are k b fit s well room w, is)
       line_is k (branch condition accept reject) fit s well room rest is w =
-          let behind = named_by_all own.function (statements_shape d.context accept) k in
+          let following = named_by_all own.function (statements_shape d.context accept) k in
           let one = all_front W (block_roots bound accept) (block_roots bound reject) w.1 in
           let other = all_rest W (block_roots bound accept) (block_roots bound reject) w.1 in (
             (
               value_at_is s well condition w.0,
               lines_are k accept fit.0 s well (room_front k (block_labels f accept) (block_labels f reject) room) one,
-              optional_is reject _ (lines_are behind reject fit.1 s well (room_beyond k accept (block_labels f reject) room) other),
+              optional_is reject _ (lines_are following reject fit.1 s well (room_beyond k accept (block_labels f reject) room) other),
             ),
             is,
           )
@@ -327,17 +329,17 @@ module _ (flags : WriterFlags) (m : Module) (info : ModuleInfo) (g : ℕ) (f : i
       line_is k (loop body continuing break_if) fit s well room rest is w =
           let front = room_front k (block_labels f body) (block_labels f continuing) room in
           let beyond = room_beyond k body (block_labels f continuing) room in
-          let behind = named_by_all own.function (statements_shape d.context body) k in
+          let following = named_by_all own.function (statements_shape d.context body) k in
           let inside = after_all own k (statements_shape d.context body) s in
           let inside_well = after_all_is k body fit.0 s well front in
           let one = all_front W (block_roots bound body) (block_roots bound continuing ++ option_to_list break_if) w in
           let more = all_rest W (block_roots bound body) (block_roots bound continuing ++ option_to_list break_if) w in
           let other = all_front W (block_roots bound continuing) (option_to_list break_if) more in
           let value = all_rest W (block_roots bound continuing) (option_to_list break_if) more in (
-            loop_is _ continuing _ (after_all own behind (statements_shape d.context continuing) inside)
-                (after_all_is behind continuing fit.1 inside inside_well beyond) break_if value
+            loop_is _ continuing _ (after_all own following (statements_shape d.context continuing) inside)
+                (after_all_is following continuing fit.1 inside inside_well beyond) break_if value
                 (lines_are k body fit.0 s well front one)
-                (lines_are behind continuing fit.1 inside inside_well beyond other),
+                (lines_are following continuing fit.1 inside inside_well beyond other),
             is,
           )
 
@@ -349,18 +351,18 @@ module _ (flags : WriterFlags) (m : Module) (info : ModuleInfo) (g : ℕ) (f : i
           let here = room_front k (labels_in f st) (block_labels f b) room in
           let one = all_front W (statement_roots bound st) (block_roots bound b) w in
           let more = all_rest W (statement_roots bound st) (block_roots bound b) w in
-          let behind = named_by own.function (statement_shape d.context st) k in
+          let following = named_by own.function (statement_shape d.context st) k in
           let after_it = after own k (statement_shape d.context st) s in
-          line_is k st fit.0 s well here (lines_form own annotated source behind b after_it)
-          (lines_are behind b fit.1 after_it (after_is k st fit.0 s well here) (room_behind k st b room) more) one
+          line_is k st fit.0 s well here (lines_form own annotated source following b after_it)
+          (lines_are following b fit.1 after_it (after_is k st fit.0 s well here) (room_after k st b room) more) one
 
-      cases_are : (k : ℕ) (labels : List tree.Label) → Each IsLabel labels → (cs : CaseTrees) →
+      cases_are : (k : ℕ) (labels : List tree.CaseValue) → Each IsCaseValue labels → (cs : CaseTrees) →
           CasesFit own d.context cs → (s : Handles) → NamesAre s → HasRoom k (cases_labels f cs) →
           Writes (cases_roots bound cs) → IsCases (cases_form own annotated source k labels cs s)
       cases_are k labels are no_cases fit s well room w = tt
       cases_are k labels are (case value body true cs) fit s well room w =
           cases_are (named_by_all own.function (statements_shape d.context body) k)
-          (labels ++ label_form value ∷ []) (labels_more labels value are fit.0) cs fit.2 s well
+          (labels ++ case_value_form value ∷ []) (case_values_more labels value are fit.0) cs fit.2 s well
           (room_beyond k body (cases_labels f cs) room)
           (all_rest W (block_roots bound body) (cases_roots bound cs) w)
       cases_are k labels are (case value body false cs) fit s well room w = (

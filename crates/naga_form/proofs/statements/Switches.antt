@@ -1,5 +1,5 @@
--- The cases of a switch that is accepted: their labels are of the grammar, and what is written has
--- exactly one default, since one label is the default and the last case does not fall through.
+-- The cases of a switch that is accepted: their values are of the grammar, and what is written has
+-- exactly one default, since one value is the default and the last case does not fall through.
 use Rattle.std.proofs.Common.{◌≡◌, ℕ, Bool, true, false, not, ◌&&◌, List, [], ◌∷◌, ◌++◌, ◌^◌, refl}
 use Rattle.std.proofs.Common.{pos, negsuc, ◌+◌, ◌==◌, sym, ap, ◌∙◌, true≢false, add-zero, zero-add}
 use Rattle.std.proofs.Common.{Option}
@@ -8,76 +8,77 @@ use Rattle.std.proofs.Math.Nat.{add_assoc}
 use Rattle.std.proofs.lemmas.Bool.{and_parts, ltb-true, not-true}
 use Rattle.naga_ir.specs.StatementTree.{CaseTrees, no_cases, case}
 use Rattle.naga_ir.specs.declared.statement.SwitchValue.{SwitchValue}
-use Rattle.naga_ir.specs.declared.statement.SwitchValue.TheVariants as label
+use Rattle.naga_ir.specs.declared.statement.SwitchValue.TheVariants as switch_value
 use Rattle.naga_ir.specs.declared.types.TypeInner.{TypeInner}
 use Rattle.naga_ir.specs.declared.types.TypeInner.TheVariants as inner
 use Rattle.naga_ir.specs.declared.types.Type_.{Type_}
 use Rattle.naga_info.specs.declared.info.TypeResolution.{TypeResolution}
-use Rattle.module_meaning.specs.acceptance.Numbers.{label_fits_32_bits}
-use Rattle.module_meaning.specs.acceptance.StatementsFit.{has_label, is_selection, labels_are_of}
-use Rattle.module_meaning.specs.acceptance.StatementsFit.{labels_differ}
-use Rattle.module_meaning.specs.acceptance.StatementsFit.{labels_fit, last_falls_through}
+use Rattle.module_meaning.specs.acceptance.Numbers.{case_value_fits_32_bits}
+use Rattle.module_meaning.specs.acceptance.StatementsFit.{has_case_value, is_selection}
+use Rattle.module_meaning.specs.acceptance.StatementsFit.{case_values_are_of}
+use Rattle.module_meaning.specs.acceptance.StatementsFit.{case_values_differ}
+use Rattle.module_meaning.specs.acceptance.StatementsFit.{case_values_fit, last_falls_through}
 use Rattle.module_meaning.specs.acceptance.StatementsFit.{selection_fits, selects}
 use Rattle.wgsl_text.specs.Functions.{Each}
 use Rattle.module_meaning.specs.FunctionShapes.{statements_shape}
 use Rattle.shader_runs.specs.Scope.{Handles, Naming, named_by_all}
-use Rattle.wgsl_text.specs.Statements.{IsLabel, IsLabels, default_count, defaults_among}
+use Rattle.wgsl_text.specs.Statements.{IsCaseValue, AreCaseValues, default_count, defaults_among}
 use Rattle.wgsl_text.specs.Statements.{defaults_at}
 use Rattle.wgsl_text.specs.Statements as tree
 use Rattle.wgsl_text.specs.Types.{TypeSpecifier}
 use Rattle.naga_form.specs.Expressions.{Source}
-use Rattle.naga_form.specs.Statements.{cases_form, label_form, labels_form}
+use Rattle.naga_form.specs.Statements.{cases_form, case_value_form, case_values_form}
 use Rattle.naga_form.proofs.statements.WellFormed.{operand_at}
 
--- ---- labels
-label_is : (value : SwitchValue) → label_fits_32_bits value ≡ true → IsLabel (label_form value)
-label_is (label.I32 (pos n)) fits = ltb-true n (2 ^ 31) fits
-label_is (label.I32 (negsuc n)) fits = ltb-true n (2 ^ 31) fits
-label_is (label.U32 n) fits = ltb-true n (2 ^ 32) fits
-label_is label.Default fits = tt
+-- ---- case values
+label_is : (value : SwitchValue) → case_value_fits_32_bits value ≡ true → IsCaseValue (case_value_form value)
+label_is (switch_value.I32 (pos n)) fits = ltb-true n (2 ^ 31) fits
+label_is (switch_value.I32 (negsuc n)) fits = ltb-true n (2 ^ 31) fits
+label_is (switch_value.U32 n) fits = ltb-true n (2 ^ 32) fits
+label_is switch_value.Default fits = tt
 
--- a label after those that wait for it
-pub labels_are : (labels : List tree.Label) (value : SwitchValue) → Each IsLabel labels →
-    label_fits_32_bits value ≡ true → IsLabels (labels_form labels (label_form value))
+-- a case value after those that wait for it
+pub labels_are : (labels : List tree.CaseValue) (value : SwitchValue) → Each IsCaseValue labels →
+    case_value_fits_32_bits value ≡ true → AreCaseValues (case_values_form labels (case_value_form value))
 labels_are [] value are fits = label_is value fits
 labels_are (l ∷ ls) value are fits = (are.0, labels_are ls value are.1 fits)
 
-pub labels_more : (labels : List tree.Label) (value : SwitchValue) → Each IsLabel labels →
-    label_fits_32_bits value ≡ true → Each IsLabel (labels ++ label_form value ∷ [])
-labels_more [] value are fits = (label_is value fits, tt)
-labels_more (l ∷ ls) value are fits = (are.0, labels_more ls value are.1 fits)
+pub case_values_more : (labels : List tree.CaseValue) (value : SwitchValue) → Each IsCaseValue labels →
+    case_value_fits_32_bits value ≡ true → Each IsCaseValue (labels ++ case_value_form value ∷ [])
+case_values_more [] value are fits = (label_is value fits, tt)
+case_values_more (l ∷ ls) value are fits = (are.0, case_values_more ls value are.1 fits)
 
 -- ---- the default
--- how many of the labels are the default
+-- how many of the case values are the default
 abbrev pub defaults_in : CaseTrees → ℕ
 defaults_in no_cases = 0
-defaults_in (case value body falls cs) = defaults_at (label_form value) + defaults_in cs
+defaults_in (case value body falls cs) = defaults_at (case_value_form value) + defaults_in cs
 
-no_default : (cs : CaseTrees) → has_label label.Default cs ≡ false → defaults_in cs ≡ 0
+no_default : (cs : CaseTrees) → has_case_value switch_value.Default cs ≡ false → defaults_in cs ≡ 0
 no_default no_cases has = refl
-no_default (case (label.I32 (pos n)) body falls cs) has = zero-add (defaults_in cs) ∙ no_default cs has
-no_default (case (label.I32 (negsuc n)) body falls cs) has = zero-add (defaults_in cs) ∙ no_default cs has
-no_default (case (label.U32 n) body falls cs) has = zero-add (defaults_in cs) ∙ no_default cs has
-no_default (case label.Default body falls cs) has = absurd cc
+no_default (case (switch_value.I32 (pos n)) body falls cs) has = zero-add (defaults_in cs) ∙ no_default cs has
+no_default (case (switch_value.I32 (negsuc n)) body falls cs) has = zero-add (defaults_in cs) ∙ no_default cs has
+no_default (case (switch_value.U32 n) body falls cs) has = zero-add (defaults_in cs) ∙ no_default cs has
+no_default (case switch_value.Default body falls cs) has = absurd cc
 
--- labels that differ have one at most
-one_default : (cs : CaseTrees) → labels_differ cs ≡ true → has_label label.Default cs ≡ true →
+-- case values that differ have one at most
+one_default : (cs : CaseTrees) → case_values_differ cs ≡ true → has_case_value switch_value.Default cs ≡ true →
     defaults_in cs ≡ 1
 one_default no_cases differ has = absurd cc
-one_default (case (label.I32 (pos n)) body falls cs) differ has =
-    let rest = and_parts (not (has_label (label.I32 (pos n)) cs)) (labels_differ cs) differ in
+one_default (case (switch_value.I32 (pos n)) body falls cs) differ has =
+    let rest = and_parts (not (has_case_value (switch_value.I32 (pos n)) cs)) (case_values_differ cs) differ in
     zero-add (defaults_in cs) ∙ one_default cs rest.1 has
-one_default (case (label.I32 (negsuc n)) body falls cs) differ has =
-    let rest = and_parts (not (has_label (label.I32 (negsuc n)) cs)) (labels_differ cs) differ in
+one_default (case (switch_value.I32 (negsuc n)) body falls cs) differ has =
+    let rest = and_parts (not (has_case_value (switch_value.I32 (negsuc n)) cs)) (case_values_differ cs) differ in
     zero-add (defaults_in cs) ∙ one_default cs rest.1 has
-one_default (case (label.U32 n) body falls cs) differ has =
-    let rest = and_parts (not (has_label (label.U32 n) cs)) (labels_differ cs) differ in
+one_default (case (switch_value.U32 n) body falls cs) differ has =
+    let rest = and_parts (not (has_case_value (switch_value.U32 n) cs)) (case_values_differ cs) differ in
     zero-add (defaults_in cs) ∙ one_default cs rest.1 has
-one_default (case label.Default body falls cs) differ has =
-    let only = and_parts (not (has_label label.Default cs)) (labels_differ cs) differ in
-    ap (λ count. 1 + count) (no_default cs (not-true (has_label label.Default cs) only.0))
+one_default (case switch_value.Default body falls cs) differ has =
+    let only = and_parts (not (has_case_value switch_value.Default cs)) (case_values_differ cs) differ in
+    ap (λ count. 1 + count) (no_default cs (not-true (has_case_value switch_value.Default cs) only.0))
 
--- the last case does not fall through, and one label is the default
+-- the last case does not fall through, and one value is the default
 abbrev pub HasOneDefault : CaseTrees → Type 0
 HasOneDefault cs = (last_falls_through false cs ≡ false) × (defaults_in cs ≡ 1)
 
@@ -87,14 +88,14 @@ module _ (types : List Type_) (known : List TypeResolution) (selector : ℕ) (cs
     where
       by : (it : TypeInner) → selection_fits cs it ≡ true → HasOneDefault cs
       by (inner.Scalar s) fits =
-          let one = and_parts (selects s) (labels_fit s cs) fits in
+          let one = and_parts (selects s) (case_values_fit s cs) fits in
           let two =
-          and_parts (labels_are_of s cs)
-          (labels_differ cs && (has_label label.Default cs && not (last_falls_through false cs))) one.1 in
+          and_parts (case_values_are_of s cs)
+          (case_values_differ cs && (has_case_value switch_value.Default cs && not (last_falls_through false cs))) one.1 in
           let three =
-          and_parts (labels_differ cs)
-          (has_label label.Default cs && not (last_falls_through false cs)) two.1 in
-          let four = and_parts (has_label label.Default cs) (not (last_falls_through false cs)) three.1 in
+          and_parts (case_values_differ cs)
+          (has_case_value switch_value.Default cs && not (last_falls_through false cs)) two.1 in
+          let four = and_parts (has_case_value switch_value.Default cs) (not (last_falls_through false cs)) three.1 in
           (not-true (last_falls_through false cs) four.1, one_default cs three.0 four.0)
       by _ fits = absurd cc
 
@@ -103,44 +104,44 @@ module _ (types : List Type_) (known : List TypeResolution) (selector : ℕ) (cs
   last_stays = has_one_default.0
 
 -- ---- the default of what is written
--- how many of the labels that wait are the default
-abbrev waiting_defaults : List tree.Label → ℕ
+-- how many of the case values that wait are the default
+abbrev waiting_defaults : List tree.CaseValue → ℕ
 waiting_defaults [] = 0
 waiting_defaults (l ∷ ls) = defaults_at l + waiting_defaults ls
 
--- a label after those that wait
-waiting_more : (labels : List tree.Label) (l : tree.Label) →
+-- a case value after those that wait
+waiting_more : (labels : List tree.CaseValue) (l : tree.CaseValue) →
     waiting_defaults (labels ++ l ∷ []) ≡ waiting_defaults labels + defaults_at l
 waiting_more [] l = add-zero (defaults_at l) ∙ sym (zero-add (defaults_at l))
 waiting_more (one ∷ labels) l =
     ap (λ count. defaults_at one + count) (waiting_more labels l)
     ∙ sym (add_assoc (defaults_at one) (waiting_defaults labels) (defaults_at l))
 
-group_defaults : (labels : List tree.Label) (l : tree.Label) →
-    defaults_among (labels_form labels l) ≡ waiting_defaults labels + defaults_at l
+group_defaults : (labels : List tree.CaseValue) (l : tree.CaseValue) →
+    defaults_among (case_values_form labels l) ≡ waiting_defaults labels + defaults_at l
 group_defaults [] l = sym (zero-add (defaults_at l))
 group_defaults (one ∷ labels) l =
     ap (λ count. defaults_at one + count) (group_defaults labels l)
     ∙ sym (add_assoc (defaults_at one) (waiting_defaults labels) (defaults_at l))
 
 module _ (n : Naming) (annotated : ℕ → Option TypeSpecifier) (source : Source) where
-  -- labels wait only where a case before fell through
-  defaults_kept : (k : ℕ) (labels : List tree.Label) (before : Bool) → (before ≡ false → labels ≡ []) →
+  -- values wait only where a case before fell through
+  defaults_kept : (k : ℕ) (labels : List tree.CaseValue) (before : Bool) → (before ≡ false → labels ≡ []) →
       (cs : CaseTrees) → last_falls_through before cs ≡ false → (s : Handles) →
       default_count (cases_form n annotated source k labels cs s) ≡
       waiting_defaults labels + defaults_in cs
   defaults_kept k labels before none no_cases last s =
       ap (λ ls. waiting_defaults ls + 0) (sym (none last))
   defaults_kept k labels before none (case value body true cs) last s =
-      let behind = named_by_all n.function (statements_shape source.declared.context body) k in
-      defaults_kept behind (labels ++ label_form value ∷ []) true (λ e. absurd (true≢false e)) cs last s
-      ∙ ap (λ count. count + defaults_in cs) (waiting_more labels (label_form value))
-      ∙ add_assoc (waiting_defaults labels) (defaults_at (label_form value)) (defaults_in cs)
+      let following = named_by_all n.function (statements_shape source.declared.context body) k in
+      defaults_kept following (labels ++ case_value_form value ∷ []) true (λ e. absurd (true≢false e)) cs last s
+      ∙ ap (λ count. count + defaults_in cs) (waiting_more labels (case_value_form value))
+      ∙ add_assoc (waiting_defaults labels) (defaults_at (case_value_form value)) (defaults_in cs)
   defaults_kept k labels before none (case value body false cs) last s =
-      let behind = named_by_all n.function (statements_shape source.declared.context body) k in
-      let more = defaults_kept behind [] false (λ e. refl) cs last s ∙ zero-add (defaults_in cs) in
-      (λ i. group_defaults labels (label_form value) i + more i)
-      ∙ add_assoc (waiting_defaults labels) (defaults_at (label_form value)) (defaults_in cs)
+      let following = named_by_all n.function (statements_shape source.declared.context body) k in
+      let more = defaults_kept following [] false (λ e. refl) cs last s ∙ zero-add (defaults_in cs) in
+      (λ i. group_defaults labels (case_value_form value) i + more i)
+      ∙ add_assoc (waiting_defaults labels) (defaults_at (case_value_form value)) (defaults_in cs)
 
   -- what is written has one default
   pub one_is_written : (k : ℕ) (cs : CaseTrees) → HasOneDefault cs → (s : Handles) →

@@ -49,7 +49,7 @@ use Rattle.module_meaning.specs.Shapes.{operator_shape}
 use Rattle.module_meaning.specs.acceptance.Soundness.{function_is_sound}
 use Rattle.module_meaning.specs.StatementShapes.{simple_shape, store_shape}
 use Rattle.module_meaning.specs.acceptance.StatementsFit.{value_has_type, is_condition, selects}
-use Rattle.module_meaning.specs.acceptance.StatementsFit.{labels_fit}
+use Rattle.module_meaning.specs.acceptance.StatementsFit.{case_values_fit}
 use Rattle.module_meaning.specs.acceptance.StatementsFit.{selection_fits, is_selection, is_stored}
 use Rattle.module_meaning.specs.acceptance.StatementsFit.{simple_is_sound, statement_is_sound}
 use Rattle.module_meaning.specs.acceptance.StatementsFit.{block_is_sound}
@@ -169,7 +169,7 @@ integers _ w is = absurd cc
 pub selector_values : (m : Module) (r : TypeResolution) (it : TypeInner) (cs : CaseTrees) →
     inner_of r m.types ≡ Some it → selection_fits cs it ≡ true → IsInteger (type_of_values m r)
 selector_values m r (inner.Scalar s) cs is fits =
-    let one = and_parts (selects s) (labels_fit s cs) fits in
+    let one = and_parts (selects s) (case_values_fit s cs) fits in
     let two = and_parts (is_signed s.kind || is_unsigned s.kind) (s.width == 4) one.0 in
     subst IsInteger (sym (values_are m r (inner.Scalar s) is))
     (integers s.kind (word_of_values m r) two.0)
@@ -384,12 +384,12 @@ module _ (m : Module) (info : ModuleInfo) (f : Function) (es : List ExpressionIn
 
 -- ---- a module
 -- what is well-formed is so turned round
-turned : (xs behind : List shapes.Function) →
+turned : (xs following : List shapes.Function) →
     ((k : ℕ) (f : shapes.Function) → slice_get xs k ≡ Some f → FunctionIsWellFormed f) →
-    AllWellFormed behind → AllWellFormed (reverse_aux xs behind)
-turned [] behind each all = all
-turned (f ∷ xs) behind each all =
-    turned xs (f ∷ behind) (λ k g at. each (suc k) g at) (each 0 f refl, all)
+    AllWellFormed following → AllWellFormed (reverse_aux xs following)
+turned [] following each all = all
+turned (f ∷ xs) following each all =
+    turned xs (f ∷ following) (λ k g at. each (suc k) g at) (each 0 f refl, all)
 
 pub all_well_formed : (m : Module) (info : ModuleInfo) → IsTrue (is_accepted m info) →
     AllWellFormed (module_shape m info).functions

@@ -13,7 +13,7 @@ use Rattle.naga_ir.specs.StatementTree.{StatementTree, simple, block, branch}
 use Rattle.naga_ir.specs.StatementTree.{switch, loop, BlockTree, no_statements, statement}
 use Rattle.naga_ir.specs.StatementTree.{CaseTrees, no_cases, case, has_no_statements}
 use Rattle.wgsl_text.specs.Requests.{is_request}
-use Rattle.module_meaning.specs.acceptance.Numbers.{label_fits_32_bits}
+use Rattle.module_meaning.specs.acceptance.Numbers.{case_value_fits_32_bits}
 use Rattle.module_meaning.specs.ExpressionOperators.{ExpressionContext, is_atomic_pointer}
 use Rattle.module_meaning.specs.FunctionShapes.{statement_shape, statements_shape, cases_shape}
 use Rattle.module_meaning.specs.OperatorTable.{Operator, AtomicStore, Barrier, StorageKept}
@@ -155,7 +155,7 @@ module _ (all : Bool) (p : shapes.Module) (f : Naming) (free : AsksFreely all p 
       cases_worded (case v b falls cs) within has =
           let ranges =
           and_parts (block_in_range count expressions b) (cases_in_range count expressions cs)
-          (and_parts (label_fits_32_bits v) _ within).1 in
+          (and_parts (case_value_fits_32_bits v) _ within).1 in
           let formed = each_part all (not falls || has_no_statements b) (block_has_forms b && cases_have_forms cs) has in
           let words = each_part all (block_has_forms b) (cases_have_forms cs) formed.1 in
           (worded b ranges.0 words.0, cases_worded cs ranges.1 words.1)

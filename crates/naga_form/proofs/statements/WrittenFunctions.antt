@@ -89,8 +89,8 @@ pub entry_point_at : (m : Module) (j : ℕ) →
     entry_point_numbered m (length m.functions + j) ≡ slice_get m.entry_points.items j
 entry_point_at m j =
     let number = length m.functions + j in
-    let behind : length m.functions ≤ number = omega arith in
+    let following : length m.functions ≤ number = omega arith in
     let rest : number - length m.functions ≡ j = omega arith in
     ap (λ b. if b then None else slice_get m.entry_points.items (number - length m.functions))
-    (le-ltb number (length m.functions) behind)
+    (le-ltb number (length m.functions) following)
     ∙ ap (slice_get m.entry_points.items) rest

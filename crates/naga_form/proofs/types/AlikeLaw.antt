@@ -22,7 +22,7 @@ use Rattle.module_meaning.specs.TypeIdentity.{Identity, Nothing, StructAt, Itsel
 use Rattle.module_meaning.specs.TypeIdentity.{identity_at, identity_code, word_of_unspelled_type}
 use Rattle.module_meaning.proofs.Lists.{list_all_at}
 use Rattle.module_meaning.proofs.TypeIdentity.{word_tells}
-use Rattle.naga_form.specs.Readable.{AreAlike, SpelledAlike, Formless, handle_names}
+use Rattle.naga_form.specs.Readable.{AreAlike, SpelledAlike, Unsupported, handle_names}
 use Rattle.naga_form.proofs.types.AlikeTypes.{form_read, form_is_read, other_read}
 use Rattle.naga_form.proofs.types.AlikeNumbers.{tree_numbers, own_handle, handles_are_distinguished}
 use Rattle.naga_form.proofs.types.AlikeNumbers.{resolution_is_distinguished, form_is_distinguished}
@@ -44,7 +44,7 @@ itself_back (Some it) = refl
 module _ (types : List Type_) where
   pub distinguished_by_itself : (r : TypeResolution) → resolution_is_fit r ≡ true → type_key types r ≡ None → identity types r ≡ by_itself (inner_of r types)
   unfolding handle_key
-  distinguished_by_itself (Handle h) fit formless = found (slice_get types h) formless
+  distinguished_by_itself (Handle h) fit unsupported = found (slice_get types h) unsupported
     where
       named : (it : TypeInner) (b : Bool) (form : Option (List ℕ)) → (if b then Some (level 8 h 0 0 0 0) else form) ≡ None → (if b then StructAt h else Itself it) ≡ Itself it
       named it true form e = absurd (cc)
@@ -53,7 +53,7 @@ module _ (types : List Type_) where
       found : (o : Option Type_) → found_key_by (key_within h types) h o ≡ None → identity_at h (option_map (λ t. t.inner) o) ≡ by_itself (option_map (λ t. t.inner) o)
       found None e = refl
       found (Some t) e = named t.inner (is_struct t.inner) (inner_key_by (key_within h types) t.inner) e
-  distinguished_by_itself (Value it) fit formless =
+  distinguished_by_itself (Value it) fit unsupported =
       let parts = and_parts _ _ fit in
       ap (λ b. if b then Nothing else Itself it) (not-true (is_struct it) parts.0)
 
@@ -90,7 +90,7 @@ module _ (types : List Type_) where
         by None at (Some y) bt e = absurd (form_apart b q y (identity_code (identity types a)) bt (sym e))
         by None at None bt e =
             let same = sym (distinguished_by_itself a p at) ∙ (word_tells types a b e ∙ distinguished_by_itself b q bt) in
-            Formless (form_is_read (handle_names types) a
+            Unsupported (form_is_read (handle_names types) a
             ∙ ap (option_map (form_read (handle_names types))) at)
             (form_is_read (handle_names types) b
             ∙ ap (option_map (form_read (handle_names types))) bt)
@@ -105,7 +105,7 @@ module _ (types : List Type_) where
         (handles_are_distinguished types) named b (resolution_is_distinguished types b) q
         ∙ ap (option_map (tree_numbers own_handle)) y in
         ap (λ o. unwrap_or o (word_of_unspelled_type (identity types a))) of_a ∙ sym (ap (λ o. unwrap_or o (word_of_unspelled_type (identity types b))) of_b)
-    to_numbers a b p q (Formless x y same) =
+    to_numbers a b p q (Unsupported x y same) =
         let of_a = form_is_distinguished own_handle (handle_names types)
         (handles_are_distinguished types) named a (resolution_is_distinguished types a) p
         ∙ ap (option_map (tree_numbers own_handle)) x in

@@ -79,10 +79,10 @@ kind_at base (inner.Struct members span) = MemberKind base
 kind_at base _ = NoKind
 
 -- of what a pointer points to
-abbrev pub kind_behind : List Type_ → TypeInner → PartKind
-kind_behind types (inner.Pointer base at) = option_map_or (kind_at base) (inner_at types base) NoKind
-kind_behind types (inner.ValuePointer (Some n) s at) = ComponentKind (vector_number n)
-kind_behind types _ = NoKind
+abbrev pub pointee_kind : List Type_ → TypeInner → PartKind
+pointee_kind types (inner.Pointer base at) = option_map_or (kind_at base) (inner_at types base) NoKind
+pointee_kind types (inner.ValuePointer (Some n) s at) = ComponentKind (vector_number n)
+pointee_kind types _ = NoKind
 
 -- the members of a struct
 abbrev pub has_members : PartKind → Bool
@@ -162,14 +162,14 @@ module _ (m : Module) (are : TypesAreCounted m) (stand : PartsStand m) where
   PartIs _ _ = ⊥
 
   -- ---- pointers by their forms
-  abbrev behind : AddressSpace → List ℕ → List ℕ
-  behind at y = level 5 (space_number at) (access_number at) 0 0 0 ++ y
+  abbrev following : AddressSpace → List ℕ → List ℕ
+  following at y = level 5 (space_number at) (access_number at) 0 0 0 ++ y
 
   -- what a pointer of this form points to: a type that is no struct, or one
   data Pointed (it : TypeInner) (form : List ℕ) : Type 0 where
     Plain : (number access : ℕ) (y : List ℕ) → form ≡ level 5 number access 0 0 0 ++ y → nat_eq (get_or y 0 0) 8 ≡ false →
-        ((index : Option ℕ) → PartIs (part_form number access y) (part_type m.types it index)) → kind_behind m.types it ≡ kind_of_form y → Pointed it form
-    Whole : (at : AddressSpace) (h : ℕ) → form ≡ behind at (level 8 h 0 0 0 0) → it ≡ inner.Pointer h at → kind_behind m.types it ≡ MemberKind h → Pointed it form
+        ((index : Option ℕ) → PartIs (part_form number access y) (part_type m.types it index)) → pointee_kind m.types it ≡ kind_of_form y → Pointed it form
+    Whole : (at : AddressSpace) (h : ℕ) → form ≡ following at (level 8 h 0 0 0 0) → it ≡ inner.Pointer h at → pointee_kind m.types it ≡ MemberKind h → Pointed it form
 
   -- a space that is not that of handles has a word
   has_word : (at : AddressSpace) → is_handle_space at ≡ false → is_none (space_word at) ≡ false
@@ -177,7 +177,7 @@ module _ (m : Module) (are : TypesAreCounted m) (stand : PartsStand m) where
   has_word _ not_handle = refl
 
   -- a pointer to a value of a form
-  value_pointer : (at : AddressSpace) → is_none (space_word at) ≡ false → (form : Option (List ℕ)) (y : List ℕ) → form ≡ Some y → value_pointer_key at form ≡ Some (behind at y)
+  value_pointer : (at : AddressSpace) → is_none (space_word at) ≡ false → (form : Option (List ℕ)) (y : List ℕ) → form ≡ Some y → value_pointer_key at form ≡ Some (following at y)
   value_pointer at named form y is = (λ i. if named i then None else pointer_key at form) ∙ ap (pointer_key at) is
 
   scalar_is : (tag : ℕ) (s : Scalar) (c d e : ℕ) → is_some (scalar_word s) ≡ true → over_scalar tag s c d e ≡ Some (level tag (kind_number s.kind) s.width c d e)
@@ -222,19 +222,19 @@ module _ (m : Module) (are : TypesAreCounted m) (stand : PartsStand m) where
     parts_are : (it : TypeInner) → t.inner ≡ it → (index : Option ℕ) → part_type m.types (inner.Pointer base at) index ≡ pointed_part at it index
     parts_are it is index = ap (λ o. option_and_then (λ it. pointed_part at it index) (option_map (λ t. t.inner) o)) there ∙ ap (λ it. pointed_part at it index) is
 
-    kind_is : (it : TypeInner) → t.inner ≡ it → kind_behind m.types (inner.Pointer base at) ≡ kind_at base it
+    kind_is : (it : TypeInner) → t.inner ≡ it → pointee_kind m.types (inner.Pointer base at) ≡ kind_at base it
     kind_is it is = ap (λ o. option_map_or (kind_at base) (option_map (λ t. t.inner) o) NoKind) there ∙ ap (kind_at base) is
 
     plain : (it : TypeInner) → t.inner ≡ it → (y : List ℕ) → nat_eq (get_or y 0 0) 8 ≡ false →
         ((index : Option ℕ) → PartIs (part_form (space_number at) (access_number at) y) (pointed_part at it index)) → kind_at base it ≡ kind_of_form y →
-        (form : Option (List ℕ)) → form ≡ Some y → (x : List ℕ) → form ≡ Some x → Pointed (inner.Pointer base at) (behind at x)
+        (form : Option (List ℕ)) → form ≡ Some y → (x : List ℕ) → form ≡ Some x → Pointed (inner.Pointer base at) (following at x)
     plain it is y other parts kind form f x g =
-        Plain (space_number at) (access_number at) y (ap (behind at) (same_Some x y (sym g ∙ f))) other
+        Plain (space_number at) (access_number at) y (ap (following at) (same_Some x y (sym g ∙ f))) other
         (λ index. subst (PartIs (part_form (space_number at) (access_number at) y)) (sym (parts_are it is index)) (parts index))
         (kind_is it is ∙ kind)
 
     partless : (it : TypeInner) → t.inner ≡ it → ((index : Option ℕ) → pointed_part at it index ≡ None) → kind_at base it ≡ NoKind →
-        (form : Option (List ℕ)) → OfNoParts form → (x : List ℕ) → form ≡ Some x → Pointed (inner.Pointer base at) (behind at x)
+        (form : Option (List ℕ)) → OfNoParts form → (x : List ℕ) → form ≡ Some x → Pointed (inner.Pointer base at) (following at x)
     partless it is none kind None lacks x g = absurd cc
     partless it is none kind (Some y) lacks x g =
         plain it is y lacks.0
@@ -245,27 +245,27 @@ module _ (m : Module) (are : TypesAreCounted m) (stand : PartsStand m) where
       -- an array's elements
       elements : (it : TypeInner) → t.inner ≡ it → (element : ℕ) (size : List ℕ → List ℕ) →
           ((z : List ℕ) → nat_eq (get_or (size z) 0 0) 8 ≡ false) →
-          ((z : List ℕ) → part_form (space_number at) (access_number at) (size z) ≡ Some (behind at z)) →
+          ((z : List ℕ) → part_form (space_number at) (access_number at) (size z) ≡ Some (following at z)) →
           ((index : Option ℕ) → pointed_part at it index ≡ Some (Value (inner.Pointer element at))) → ((z : List ℕ) → kind_at base it ≡ kind_of_form (size z)) →
           element < base →
-          (o : Option (List ℕ)) → key_within n m.types element ≡ o → (x : List ℕ) → option_map size o ≡ Some x → Pointed (inner.Pointer base at) (behind at x)
+          (o : Option (List ℕ)) → key_within n m.types element ≡ o → (x : List ℕ) → option_map size o ≡ Some x → Pointed (inner.Pointer base at) (following at x)
       elements it is element size other form parts kind before None f x g = absurd cc
       elements it is element size other form parts kind before (Some z) f x g =
           plain it is (size z) (other z)
-          (λ index. subst (λ o. PartIs o (pointed_part at it index)) (sym (form z)) (subst (PartIs (Some (behind at z))) (sym (parts index))
+          (λ index. subst (λ o. PartIs o (pointed_part at it index)) (sym (form z)) (subst (PartIs (Some (following at z))) (sym (parts index))
           (ap (pointer_key at) (sym (at_depth m stand n element (depth before deep)) ∙ f))))
           (kind z) (Some (size z)) refl x g
         where
           depth : element < base → base ≤ n → element < n
           depth a b = omega (arith, a, b)
 
-      pointee : (it : TypeInner) → t.inner ≡ it → (x : List ℕ) → named_key_by (key_within n m.types) base it ≡ Some x → Pointed (inner.Pointer base at) (behind at x)
+      pointee : (it : TypeInner) → t.inner ≡ it → (x : List ℕ) → named_key_by (key_within n m.types) base it ≡ Some x → Pointed (inner.Pointer base at) (following at x)
       pointee (inner.Scalar s) is x g = partless (inner.Scalar s) is (λ index. refl) refl _ (over_no_parts 0 s 0 0 0 (refl, λ number access. refl, refl)) x g
       pointee (inner.Vector k s) is x g = by (is_some (scalar_word s)) refl g
         where
           by : (b : Bool) → is_some (scalar_word s) ≡ b →
               (if b then Some (level 1 (kind_number s.kind) s.width (vector_number k) 0 0)
-              else None) ≡ Some x → Pointed (inner.Pointer base at) (behind at x)
+              else None) ≡ Some x → Pointed (inner.Pointer base at) (following at x)
           by false word g = absurd cc
           by true word g =
               plain (inner.Vector k s) is (level 1 (kind_number s.kind) s.width (vector_number k) 0 0) refl
@@ -275,7 +275,7 @@ module _ (m : Module) (are : TypesAreCounted m) (stand : PartsStand m) where
           by : (b : Bool) → is_some (scalar_word s) ≡ b →
               (if b then Some (level 2 (kind_number s.kind) s.width (vector_number columns)
               (vector_number rows) 0) else None) ≡ Some x →
-              Pointed (inner.Pointer base at) (behind at x)
+              Pointed (inner.Pointer base at) (following at x)
           by false word g = absurd cc
           by true word g =
               plain (inner.Matrix columns rows s) is (level 2 (kind_number s.kind) s.width (vector_number columns) (vector_number rows) 0) refl
@@ -294,7 +294,7 @@ module _ (m : Module) (are : TypesAreCounted m) (stand : PartsStand m) where
           (λ z. refl) (λ z. refl) (λ index. refl) (λ z. ap ElementKind (counted_by_form size))
           (ltb-true element base (sym (ap (parts_before base) is) ∙ stand base t there)) (key_within n m.types element) refl x g
       pointee (inner.Struct members span) is x g =
-          Whole at base (ap (behind at) (sym (same_Some _ x g))) refl (kind_is (inner.Struct members span) is)
+          Whole at base (ap (following at) (sym (same_Some _ x g))) refl (kind_is (inner.Struct members span) is)
       pointee (inner.Image dim arrayed c) is x g = partless (inner.Image dim arrayed c) is (λ index. refl) refl _ (image_no_parts dim arrayed c) x g
       pointee (inner.Sampler comparison) is x g = partless (inner.Sampler comparison) is (λ index. refl) refl _ (refl, λ number access. refl, refl) x g
       pointee (inner.AccelerationStructure vertex_return) is x g = partless (inner.AccelerationStructure vertex_return) is (λ index. refl) refl _ (refl, λ number access. refl, refl) x g
@@ -308,34 +308,34 @@ module _ (m : Module) (are : TypesAreCounted m) (stand : PartsStand m) where
   pointed_module base at free n deep (Some y) f x g =
       subst (Pointed (inner.Pointer base at)) (same_Some _ x g) (by (slice_get m.types base) refl f)
     where
-      by : (o : Option Type_) → slice_get m.types base ≡ o → found_key_by (key_within n m.types) base o ≡ Some y → Pointed (inner.Pointer base at) (behind at y)
+      by : (o : Option Type_) → slice_get m.types base ≡ o → found_key_by (key_within n m.types) base o ≡ Some y → Pointed (inner.Pointer base at) (following at y)
       by None there f = absurd cc
       by (Some t) there f = pointee base at t there (has_word at free) n deep t.inner refl y f
 
   pointed_value : (size : Option VectorSize) (s : Scalar) (at : AddressSpace) (x : List ℕ) → value_pointer_key at (value_key size s) ≡ Some x → Pointed (inner.ValuePointer size s at) x
   pointed_value size s at x g = by (is_none (space_word at)) refl g
     where
-      behind_word : (size : Option VectorSize) → is_none (space_word at) ≡ false →
+      after_word : (size : Option VectorSize) → is_none (space_word at) ≡ false →
           (b : Bool) → is_some (scalar_word s) ≡ b →
           (x : List ℕ) → pointer_key at (value_key size s) ≡ Some x →
           Pointed (inner.ValuePointer size s at) x
-      behind_word None named true word x g =
+      after_word None named true word x g =
           Plain (space_number at) (access_number at) (level 0 (kind_number s.kind) s.width 0 0 0) (same_Some x _ (sym g ∙ ap (pointer_key at) (scalar_is 0 s 0 0 0 word))) refl
           (λ index. tt) refl
-      behind_word (Some k) named true word x g =
+      after_word (Some k) named true word x g =
           Plain (space_number at) (access_number at)
           (level 1 (kind_number s.kind) s.width (vector_number k) 0 0)
           (same_Some x _ (sym g
           ∙ ap (pointer_key at) (scalar_is 1 s (vector_number k) 0 0 word))) refl
           (λ index. value_pointer at named (over_scalar 0 s 0 0 0) _ (scalar_is 0 s 0 0 0 word)) refl
-      behind_word None named false word x g =
+      after_word None named false word x g =
           let none : None ≡ Some x = sym (ap (λ b. pointer_key at (if b then Some (level 0 (kind_number s.kind) s.width 0 0 0) else None)) word) ∙ g in absurd cc
-      behind_word (Some k) named false word x g =
+      after_word (Some k) named false word x g =
           let none : None ≡ Some x = sym (ap (λ b. pointer_key at (if b then Some (level 1 (kind_number s.kind) s.width (vector_number k) 0 0) else None)) word) ∙ g in absurd cc
 
       by : (b : Bool) → is_none (space_word at) ≡ b → (if b then None else pointer_key at (value_key size s)) ≡ Some x → Pointed (inner.ValuePointer size s at) x
       by true named g = absurd cc
-      by false named g = behind_word size named (is_some (scalar_word s)) refl x g
+      by false named g = after_word size named (is_some (scalar_word s)) refl x g
 
   -- a pointer that is fit is in no space of handles
   abbrev pub IsFree : TypeInner → Type 0
@@ -460,12 +460,12 @@ module _ (m : Module) (are : TypesAreCounted m) (stand : PartsStand m) where
   record OneLevel (n a : ℕ) (y : List ℕ) (k b : ℕ) (z : List ℕ) : Type 0 where
     numbers : n ≡ k
     accesses : a ≡ b
-    behinds : y ≡ z
+    followings : y ≡ z
 
   one_level : (n a : ℕ) (y : List ℕ) (k b : ℕ) (z : List ℕ) (x : List ℕ) → x ≡ level 5 n a 0 0 0 ++ y → x ≡ level 5 k b 0 0 0 ++ z → OneLevel n a y k b z
   one_level n a y k b z x f g =
       let same : level 5 n a 0 0 0 ++ y ≡ level 5 k b 0 0 0 ++ z = sym f ∙ g in
-      record { numbers = ap (λ x. get_or x 1 0) same; accesses = ap (λ x. get_or x 2 0) same; behinds = ap (drop 6) same }
+      record { numbers = ap (λ x. get_or x 1 0) same; accesses = ap (λ x. get_or x 2 0) same; followings = ap (drop 6) same }
 
   -- a struct's form is none of a type that is none
   not_whole : {A : Type 0} (y : List ℕ) (h : ℕ) → nat_eq (get_or y 0 0) 8 ≡ false → y ≡ level 8 h 0 0 0 0 → A
@@ -490,9 +490,9 @@ module _ (m : Module) (are : TypesAreCounted m) (stand : PartsStand m) where
   -- struct, in spaces that are told by the same.
   pub data AlikePlaces (ia ib : TypeInner) : Type 0 where
     Same : ia ≡ ib → AlikePlaces ia ib
-    OneKind : kind_behind m.types ia ≡ kind_behind m.types ib → has_members (kind_behind m.types ia) ≡ false →
+    OneKind : pointee_kind m.types ia ≡ pointee_kind m.types ib → has_members (pointee_kind m.types ia) ≡ false →
         ((index : Option ℕ) → PartsAlike (part_type m.types ia index) (part_type m.types ib index)) → AlikePlaces ia ib
-    OneStruct : (base : ℕ) (at to : AddressSpace) → ia ≡ inner.Pointer base at → ib ≡ inner.Pointer base to → kind_behind m.types ia ≡ MemberKind base →
+    OneStruct : (base : ℕ) (at to : AddressSpace) → ia ≡ inner.Pointer base at → ib ≡ inner.Pointer base to → pointee_kind m.types ia ≡ MemberKind base →
         ((o : Option (List ℕ)) → pointer_key at o ≡ pointer_key to o) → AlikePlaces ia ib
 
   pub alike_places : (a b : TypeResolution) → IsFit m a → IsFit m b → type_identity m.types a ≡ type_identity m.types b →
@@ -512,17 +512,17 @@ module _ (m : Module) (are : TypesAreCounted m) (stand : PartsStand m) where
       both : (x : List ℕ) → Pointed ia x → Pointed ib x → AlikePlaces ia ib
       both x (Plain n k y f other parts kind) (Plain l j z g another others other_kind) =
           let one = one_level n k y l j z x f g in
-          OneKind (one_kind (kind_behind m.types ia) y z kind one.behinds ∙ sym other_kind) (ap has_members kind ∙ no_members_of_form y) (λ index.
+          OneKind (one_kind (pointee_kind m.types ia) y z kind one.followings ∙ sym other_kind) (ap has_members kind ∙ no_members_of_form y) (λ index.
           parts_of_form (part_form n k y) (part_type m.types ia index) (part_type m.types ib index) (parts index)
-          (subst (λ o. PartIs o (part_type m.types ib index)) (sym (λ i. part_form (one.numbers i) (one.accesses i) (one.behinds i))) (others index))
+          (subst (λ o. PartIs o (part_type m.types ib index)) (sym (λ i. part_form (one.numbers i) (one.accesses i) (one.followings i))) (others index))
           (part_fits ia free first index) (part_fits ib loose second index))
       both x (Plain n k y f other parts kind) (Whole at h g is members) =
-          not_whole y h other (one_level n k y (space_number at) (access_number at) (level 8 h 0 0 0 0) x f g).behinds
+          not_whole y h other (one_level n k y (space_number at) (access_number at) (level 8 h 0 0 0 0) x f g).followings
       both x (Whole at h f is members) (Plain n k y g other parts kind) =
-          not_whole y h other (one_level n k y (space_number at) (access_number at) (level 8 h 0 0 0 0) x g f).behinds
+          not_whole y h other (one_level n k y (space_number at) (access_number at) (level 8 h 0 0 0 0) x g f).followings
       both x (Whole at h f is members) (Whole to j g other others) =
           let one = one_level (space_number at) (access_number at) (level 8 h 0 0 0 0) (space_number to) (access_number to) (level 8 j 0 0 0 0) x f g in
-          let bases : h ≡ j = ap (λ y. get_or y 1 0) one.behinds in
+          let bases : h ≡ j = ap (λ y. get_or y 1 0) one.followings in
           OneStruct h at to is (other ∙ ap (λ base. inner.Pointer base to) (sym bases)) members
           (one_spelling (space_number at) (access_number at) (space_number to) (access_number to) one.numbers one.accesses)
 

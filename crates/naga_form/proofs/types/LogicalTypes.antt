@@ -29,8 +29,8 @@ use Rattle.module_meaning.specs.acceptance.AgreeingOperators.{Group}
 use Rattle.module_meaning.specs.AlikeTypes.{type_key, type_identity, handle_key, inner_key}
 use Rattle.module_meaning.specs.AlikeTypes.{key_within, found_key_by, named_key_by, scalar_key}
 use Rattle.module_meaning.specs.acceptance.ExpressionTypes.{is_bool, is_bool_of, logical_type}
-use Rattle.module_meaning.specs.acceptance.ExpressionTypes.{binary_type, wanted_type, Anything}
-use Rattle.module_meaning.specs.acceptance.ExpressionTypes.{LikeThis, is_wanted}
+use Rattle.module_meaning.specs.acceptance.ExpressionTypes.{binary_type, expected_type, Anything}
+use Rattle.module_meaning.specs.acceptance.ExpressionTypes.{LikeThis, is_expected}
 use Rattle.module_meaning.specs.TypeIdentity.{identity, word_of_unspelled_type, level, kind_number}
 use Rattle.module_meaning.specs.TypeParts.{known_inner}
 use Rattle.module_meaning.specs.Types.{type_of_values, word_of_values, values_of}
@@ -99,10 +99,10 @@ module _ (m : ir_module.Module) (info : ModuleInfo) (are : TypesAreCounted m) (f
       operand = (operands_known m info f g sound h (expression.Binary op left right) at).0
 
       -- where one type is wanted, its own is alike to it
-      own_alike : (p : TypeResolution) → wanted_type m f g.known (expression.Binary op left right) ≡ LikeThis p → type_identity m.types own.0 ≡ type_identity m.types p
+      own_alike : (p : TypeResolution) → expected_type m f g.known (expression.Binary op left right) ≡ LikeThis p → type_identity m.types own.0 ≡ type_identity m.types p
       own_alike p wants =
           (bytes_eq-Decides (type_identity m.types own.0) (type_identity m.types p)).0
-          (sym (ap (λ w. is_wanted m.types w own.0) wants) ∙ sound.typed h (expression.Binary op left right) own.0 at own.1)
+          (sym (ap (λ w. is_expected m.types w own.0) wants) ∙ sound.typed h (expression.Binary op left right) own.0 at own.1)
 
       by : (x : ValueType) → value left ≡ x → (z : ValueType) → value h ≡ z → LogicalFits x z
       by BooleanType is z gives =

@@ -40,12 +40,13 @@ use Rattle.module_meaning.specs.ExpressionOperators.{constructor, cast, cast_to,
 use Rattle.module_meaning.specs.ExpressionOperators.{is_atomic_pointer, matrix_load, query_operator}
 use Rattle.module_meaning.specs.ExpressionShapes.{part_selector, selector, part_shape, shape_of}
 use Rattle.module_meaning.specs.ExpressionShapes.{applied_or}
-use Rattle.module_meaning.specs.acceptance.ExpressionTypes.{logical_type, binary_type, wanted_type}
-use Rattle.module_meaning.specs.acceptance.ExpressionTypes.{LikeThis, is_wanted, if_any, only}
+use Rattle.module_meaning.specs.acceptance.ExpressionTypes.{logical_type, binary_type}
+use Rattle.module_meaning.specs.acceptance.ExpressionTypes.{expected_type}
+use Rattle.module_meaning.specs.acceptance.ExpressionTypes.{LikeThis, is_expected, if_any, only}
 use Rattle.module_meaning.specs.FunctionShapes.{function_shape}
 use Rattle.module_meaning.specs.acceptance.OperandDemands.{operand_is, is_integer, is_integer_kind}
 use Rattle.module_meaning.specs.OperatorTable.{Operator as TableOperator, BinarySign, WithoutForm}
-use Rattle.module_meaning.specs.OperatorTable.{Formless, ValueOf, Construct, CooperativeLoad}
+use Rattle.module_meaning.specs.OperatorTable.{Unsupported, ValueOf, Construct, CooperativeLoad}
 use Rattle.module_meaning.specs.OperatorTable.{AtomicLoad, asks, run_word}
 use Rattle.module_meaning.specs.Shapes.{operator_shape}
 use Rattle.module_meaning.specs.ExpressionContexts.{declared, expression_context, types_known}
@@ -116,10 +117,10 @@ module _ (m : ir_module.Module) (info : ModuleInfo) (accepted : IsTrue (is_accep
       own = let k = own_known m info (Some function) g sound h e at in known_as h k.0 k.1
 
       -- where one type is wanted, its own is alike to it
-      own_alike : (p : TypeResolution) → wanted_type m (Some function) g.known e ≡ LikeThis p → type_identity m.types own.r ≡ type_identity m.types p
+      own_alike : (p : TypeResolution) → expected_type m (Some function) g.known e ≡ LikeThis p → type_identity m.types own.r ≡ type_identity m.types p
       own_alike p wanted =
           (bytes_eq-Decides (type_identity m.types own.r) (type_identity m.types p)).0
-          (sym (ap (λ w. is_wanted m.types w own.r) wanted) ∙ sound.typed h e own.r at own.there)
+          (sym (ap (λ w. is_expected m.types w own.r) wanted) ∙ sound.typed h e own.r at own.there)
 
     -- a pointer
     pointer_is : (base : ℕ) (b : IsKnown base) (whole : Bytes) → type_of_values m b.r ≡ PointerType whole → IsPointer m info accepted distinguished b.r whole
@@ -269,12 +270,12 @@ module _ (m : ir_module.Module) (info : ModuleInfo) (accepted : IsTrue (is_accep
         by None = tt
         by (Some w) = tt
 
-    no_cast : (bits : Bool) (o : Option Bytes) (what : Formless) → IsNoSign (Some (option_map_or (cast_to bits) o (WithoutForm what)))
+    no_cast : (bits : Bool) (o : Option Bytes) (what : Unsupported) → IsNoSign (Some (option_map_or (cast_to bits) o (WithoutForm what)))
     no_cast bits None what = tt
     no_cast true (Some w) what = tt
     no_cast false (Some w) what = tt
 
-    no_matrix_load : (row_major : Bool) (o : Option Bytes) (what : Formless) → IsNoSign (Some (option_map_or (CooperativeLoad row_major) o (WithoutForm what)))
+    no_matrix_load : (row_major : Bool) (o : Option Bytes) (what : Unsupported) → IsNoSign (Some (option_map_or (CooperativeLoad row_major) o (WithoutForm what)))
     no_matrix_load row_major None what = tt
     no_matrix_load row_major (Some w) what = tt
 

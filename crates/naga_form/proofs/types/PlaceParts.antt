@@ -36,7 +36,7 @@ use Rattle.module_meaning.specs.Names.{ItemsAreDistinguished}
 use Rattle.module_meaning.specs.PlaceParts.{place_spaces, column_pointers, pointers_to, pointers_in}
 use Rattle.module_meaning.specs.PlaceParts.{own_types, pointer_types, pointer_spelled}
 use Rattle.module_meaning.specs.PlaceParts.{members_taken, member_word, member_part, parts_at}
-use Rattle.module_meaning.specs.PlaceParts.{parts_behind, place_parts}
+use Rattle.module_meaning.specs.PlaceParts.{pointee_parts, place_parts}
 use Rattle.module_meaning.specs.TypeIdentity.{identity, word_of_unspelled_type}
 use Rattle.module_meaning.specs.TypeParts.{inner_at, part_type}
 use Rattle.module_meaning.specs.Types.{type_of_values, word_of_values}
@@ -49,7 +49,7 @@ use Rattle.naga_form.proofs.operators.AgreeingUses.{IsIn, in_flat_map}
 use Rattle.naga_form.proofs.ListPlaces.{made_at, made_from}
 use Rattle.naga_form.proofs.types.AlikeParts.{is_pointer, PartsStand, PartsAlike, IsFree, is_free}
 use Rattle.naga_form.proofs.types.AlikeParts.{part_fits, FitPart, PartKind, NoKind, ElementKind}
-use Rattle.naga_form.proofs.types.AlikeParts.{ComponentKind, MemberKind, kind_at, kind_behind}
+use Rattle.naga_form.proofs.types.AlikeParts.{ComponentKind, MemberKind, kind_at, pointee_kind}
 use Rattle.naga_form.proofs.types.AlikeParts.{has_members, AlikePlaces, Same, OneKind, OneStruct}
 use Rattle.naga_form.proofs.types.AlikeParts.{alike_places}
 use Rattle.naga_form.proofs.ModulePlaces.{in_row, in_image}
@@ -196,15 +196,15 @@ module _ (m : ir_module.Module) (info : ModuleInfo) (accepted : IsTrue (is_accep
               (numbers_by_values m are r found.first a.fit fit (a.values ∙ sym values)) a.it k.it a.itself k.itself a.points k.points;
         }
 
-    table_is : place_parts m info whole ≡ parts_behind m info whole first.it
+    table_is : place_parts m info whole ≡ pointee_parts m info whole first.it
     table_is =
-        ap (λ o. option_map_or (λ r. option_map_or (parts_behind m info whole) (inner_of r m.types) NoParts) o NoParts) first.spelled
-        ∙ ap (λ o. option_map_or (parts_behind m info whole) o NoParts) first.itself
+        ap (λ o. option_map_or (λ r. option_map_or (pointee_parts m info whole) (inner_of r m.types) NoParts) o NoParts) first.spelled
+        ∙ ap (λ o. option_map_or (pointee_parts m info whole) o NoParts) first.itself
 
     -- ---- elements
     module _ (p : TypeResolution) (part : part_type m.types a.it None ≡ Some p) where
       abbrev kind : PartKind
-      kind = kind_behind m.types a.it
+      kind = pointee_kind m.types a.it
 
       part_fit : IsFit m p
       part_fit = subst (FitPart m are stand) part (part_fits m are stand a.it (is_free m are stand r a.it a.fit a.itself) a.points None)
@@ -229,7 +229,7 @@ module _ (m : ir_module.Module) (info : ModuleInfo) (accepted : IsTrue (is_accep
               by (ComponentKind count) elements is = absurd cc
               by (MemberKind base) elements is = absurd cc
 
-          by_kind : kind ≡ kind_behind m.types first.it → (q : TypeResolution) → part_type m.types first.it None ≡ Some q → word_of_values m p ≡ word_of_values m q → HasTable
+          by_kind : kind ≡ pointee_kind m.types first.it → (q : TypeResolution) → part_type m.types first.it None ≡ Some q → word_of_values m p ≡ word_of_values m q → HasTable
           by_kind one q is words =
               let other = has_elements m info whole first.it first.points q is in
               record {
@@ -241,7 +241,7 @@ module _ (m : ir_module.Module) (info : ModuleInfo) (accepted : IsTrue (is_accep
           words_alike q alike fit other is =
               own_word m p (word_of_values m q) (values_by_numbers m are p q fit other alike ∙ part_points m first.it first.points None q is)
 
-          by_parts : kind ≡ kind_behind m.types first.it → (o u : Option TypeResolution) → part_type m.types a.it None ≡ o → part_type m.types first.it None ≡ u →
+          by_parts : kind ≡ pointee_kind m.types first.it → (o u : Option TypeResolution) → part_type m.types a.it None ≡ o → part_type m.types first.it None ≡ u →
               PartsAlike m are stand o u → HasTable
           by_parts one None u at bt parts = let none : None ≡ Some p = sym at ∙ part in absurd cc
           by_parts one (Some s) None at bt parts = absurd parts
@@ -250,7 +250,7 @@ module _ (m : ir_module.Module) (info : ModuleInfo) (accepted : IsTrue (is_accep
               by_kind one q bt (words_alike q (ap (type_identity m.types) (sym same) ∙ parts.0) part_fit parts.2 bt)
 
           by : AlikePlaces m are stand a.it first.it → HasTable
-          by (Same same) = by_kind (ap (kind_behind m.types) same) p (ap (λ it. part_type m.types it None) (sym same) ∙ part) refl
+          by (Same same) = by_kind (ap (pointee_kind m.types) same) p (ap (λ it. part_type m.types it None) (sym same) ∙ part) refl
           by (OneKind one none parts) = by_parts one (part_type m.types a.it None) (part_type m.types first.it None) refl refl (parts None)
           by (OneStruct base at to is other members spaces) = absurd (no_members (ap has_members members))
 
@@ -287,8 +287,8 @@ module _ (m : ir_module.Module) (info : ModuleInfo) (accepted : IsTrue (is_accep
       inner_is : inner_at m.types k.base ≡ Some (inner.Struct k.members k.span)
       inner_is = ap (option_map (λ t. t.inner)) k.there ∙ ap Some k.struct_is
 
-      member_kind : kind_behind m.types a.it ≡ MemberKind k.base
-      member_kind = ap (kind_behind m.types) k.itself ∙ ap (λ o. option_map_or (kind_at k.base) o NoKind) inner_is
+      member_kind : pointee_kind m.types a.it ≡ MemberKind k.base
+      member_kind = ap (pointee_kind m.types) k.itself ∙ ap (λ o. option_map_or (kind_at k.base) o NoKind) inner_is
 
       -- the table's pointer is one to the same struct, in a space that is told by the same
       record IsOneStruct : Type 0 where
@@ -335,7 +335,7 @@ module _ (m : ir_module.Module) (info : ModuleInfo) (accepted : IsTrue (is_accep
 
       table_of_members : place_parts m info whole ≡ Members entries
       table_of_members =
-          table_is ∙ (ap (parts_behind m info whole) one_struct.itself ∙ ap (λ o. option_map_or (parts_at m info whole one_struct.to k.base) o NoParts) inner_is)
+          table_is ∙ (ap (pointee_parts m info whole) one_struct.itself ∙ ap (λ o. option_map_or (parts_at m info whole one_struct.to k.base) o NoParts) inner_is)
 
       entry_there : slice_get entries index ≡ Some entry
       entry_there = made_at (λ p. member_part m info whole one_struct.to k.base p.0 p.1.ty) k.members.items index k.member k.member_there

@@ -28,13 +28,13 @@ use Rattle.shader_runs.specs.Value.{step_to_component, step_to_element, componen
 use Rattle.module_meaning.specs.ExpressionShapes.{Declared, own_selector, selector}
 use Rattle.module_meaning.specs.ExpressionShapes.{component_letters}
 use Rattle.module_meaning.specs.ExpressionContexts.{declared}
-use Rattle.module_meaning.specs.PlaceParts.{parts_at, parts_behind, member_word}
+use Rattle.module_meaning.specs.PlaceParts.{parts_at, pointee_parts, member_word}
 use Rattle.module_meaning.specs.TypeIdentity.{vector_number}
 use Rattle.module_meaning.specs.Types.{type_of_values, word_of_values, values_of, scalar_values}
 use Rattle.module_meaning.specs.TypeParts.{part_type, pointed_part, inner_at, member_type}
 use Rattle.module_meaning.specs.TypeParts.{is_part_number, value_part_count, element_count}
 use Rattle.naga_form.proofs.types.AlikeParts.{is_pointer, PartKind, NoKind, ElementKind}
-use Rattle.naga_form.proofs.types.AlikeParts.{ComponentKind, kind_at, kind_behind}
+use Rattle.naga_form.proofs.types.AlikeParts.{ComponentKind, kind_at, pointee_kind}
 
 -- ---- pointers
 -- the values of all others are no places
@@ -139,7 +139,7 @@ module _ (m : ir_module.Module) (info : ModuleInfo) (known : ℕ → Option Type
   abbrev context : Declared
   context = declared m info known
 
-  -- the member of a struct that stands behind a pointer
+  -- the member of a struct that a pointer points to
   pub record IsMember (it : TypeInner) (index : ℕ) (s : Selector) : Type 0 where
     pub base : ℕ
     pub at : AddressSpace
@@ -156,18 +156,18 @@ module _ (m : ir_module.Module) (info : ModuleInfo) (known : ℕ → Option Type
   -- The part that a selector names: the same as that of any index, to which it leads, or a member.
   pub data IsPart (it : TypeInner) (index : ℕ) (s : Selector) : Type 0 where
     ElementPart : (p : TypeResolution) → part_type m.types it (Some index) ≡ Some p → part_type m.types it None ≡ Some p →
-        ((w : Bytes) → step_to (parts_of_kind (kind_behind m.types it) w) s ≡ Some (At (pos index))) → IsPart it index s
+        ((w : Bytes) → step_to (parts_of_kind (pointee_kind m.types it) w) s ≡ Some (At (pos index))) → IsPart it index s
     MemberPart : IsMember it index s → IsPart it index s
 
   module _ (index : ℕ) (s : Selector) where
-    behind : (base : ℕ) (t : Type_) → slice_get m.types base ≡ Some t → (it : TypeInner) → t.inner ≡ it → inner_at m.types base ≡ Some it
-    behind base t there it is = ap (option_map (λ t. t.inner)) there ∙ ap Some is
+    following : (base : ℕ) (t : Type_) → slice_get m.types base ≡ Some t → (it : TypeInner) → t.inner ≡ it → inner_at m.types base ≡ Some it
+    following base t there it is = ap (option_map (λ t. t.inner)) there ∙ ap Some is
 
-    element_behind : (base : ℕ) (space : AddressSpace) (t : Type_) → slice_get m.types base ≡ Some t → (it : TypeInner) → t.inner ≡ it →
+    element_after : (base : ℕ) (space : AddressSpace) (t : Type_) → slice_get m.types base ≡ Some t → (it : TypeInner) → t.inner ≡ it →
         (p : TypeResolution) → pointed_part space it (Some index) ≡ Some p → pointed_part space it None ≡ Some p →
         ((w : Bytes) → step_to (parts_of_kind (kind_at base it) w) s ≡ Some (At (pos index))) → IsPart (inner.Pointer base space) index s
-    element_behind base space t there it is p here any step =
-        let at = behind base t there it is in
+    element_after base space t there it is p here any step =
+        let at = following base t there it is in
         ElementPart p (ap (option_and_then (λ it. pointed_part space it (Some index))) at ∙ here) (ap (option_and_then (λ it. pointed_part space it None)) at ∙ any)
         (λ w. ap (λ o. step_to (parts_of_kind (option_map_or (kind_at base) o NoKind) w) s) at ∙ step w)
 
@@ -186,21 +186,21 @@ module _ (m : ir_module.Module) (info : ModuleInfo) (known : ℕ → Option Type
     component count within None at selected w = numbered (Components count w) (component_within count within) selected
     component count within (Some letter) at selected w = ap (step_to (Components count w)) (sym (same_Some _ s selected)) ∙ letter_step count index within letter at
 
-    part_behind : (base : ℕ) (space : AddressSpace) (t : Type_) → slice_get m.types base ≡ Some t → (it : TypeInner) → t.inner ≡ it →
+    pointee_part : (base : ℕ) (space : AddressSpace) (t : Type_) → slice_get m.types base ≡ Some t → (it : TypeInner) → t.inner ≡ it →
         own_selector context (Some base) it index ≡ Some s → option_map_or (λ count. nat_lt index count) (value_part_count it) true ≡ true → IsPart (inner.Pointer base space) index s
-    part_behind base space t there (inner.Vector n scalar) is selected within =
-        element_behind base space t there (inner.Vector n scalar) is (Value (inner.ValuePointer None scalar space)) refl refl
+    pointee_part base space t there (inner.Vector n scalar) is selected within =
+        element_after base space t there (inner.Vector n scalar) is (Value (inner.ValuePointer None scalar space)) refl refl
         (component (vector_number n) within (slice_get component_letters index) refl selected)
-    part_behind base space t there (inner.Matrix columns rows scalar) is selected within =
-        element_behind base space t there (inner.Matrix columns rows scalar) is
+    pointee_part base space t there (inner.Matrix columns rows scalar) is selected within =
+        element_after base space t there (inner.Matrix columns rows scalar) is
         (Value (inner.ValuePointer (Some rows) scalar space)) refl refl (λ w. numbered (Elements (Some (vector_number columns)) w) (component_within (vector_number columns) within) selected)
-    part_behind base space t there (inner.Array item n stride) is selected within =
-        element_behind base space t there (inner.Array item n stride) is (Value (inner.Pointer item space)) refl refl
+    pointee_part base space t there (inner.Array item n stride) is selected within =
+        element_after base space t there (inner.Array item n stride) is (Value (inner.Pointer item space)) refl refl
         (λ w. numbered (Elements (element_count n) w) (element_within (element_count n) within) selected)
-    part_behind base space t there (inner.BindingArray item n) is selected within =
-        element_behind base space t there (inner.BindingArray item n) is (Value (inner.Pointer item space)) refl refl
+    pointee_part base space t there (inner.BindingArray item n) is selected within =
+        element_after base space t there (inner.BindingArray item n) is (Value (inner.Pointer item space)) refl refl
         (λ w. numbered (Elements (element_count n) w) (element_within (element_count n) within) selected)
-    part_behind base space t there (inner.Struct members span) is selected within =
+    pointee_part base space t there (inner.Struct members span) is selected within =
         let lt : index < length members.items = ltb-true index (length members.items) within in
         let k = element members.items index lt in
         MemberPart (record {
@@ -216,7 +216,7 @@ module _ (m : ir_module.Module) (info : ModuleInfo) (known : ℕ → Option Type
           member_there = k.1;
           selected = sym (same_Some _ s selected);
         })
-    part_behind base space t there _ is selected within = absurd cc
+    pointee_part base space t there _ is selected within = absurd cc
 
     pub part_of : (it : TypeInner) → is_pointer it ≡ true → (whole : Option ℕ) → selector context whole it index ≡ Some s → is_part_number m.types it index ≡ true → IsPart it index s
     part_of (inner.Pointer base space) points whole selected within = by (slice_get m.types base) refl selected within
@@ -225,7 +225,7 @@ module _ (m : ir_module.Module) (info : ModuleInfo) (known : ℕ → Option Type
             option_and_then (λ it. own_selector context (Some base) it index) (option_map (λ t. t.inner) o) ≡ Some s →
             option_map_or (λ count. nat_lt index count) (option_and_then value_part_count (option_map (λ t. t.inner) o)) true ≡ true → IsPart (inner.Pointer base space) index s
         by None there selected within = absurd cc
-        by (Some t) there selected within = part_behind base space t there t.inner refl selected within
+        by (Some t) there selected within = pointee_part base space t there t.inner refl selected within
     part_of (inner.ValuePointer (Some n) scalar space) points whole selected within =
         ElementPart (Value (inner.ValuePointer None scalar space)) refl refl
         (λ w. numbered (Components (vector_number n) w) (component_within (vector_number n) within) selected)
@@ -244,8 +244,8 @@ module _ (m : ir_module.Module) (info : ModuleInfo) (known : ℕ → Option Type
 module _ (m : ir_module.Module) (info : ModuleInfo) (whole : Bytes) where
   -- the parts of what a pointer points to, to which a computed index leads
   pub record HasElements (it : TypeInner) (p : TypeResolution) : Type 0 where
-    pub elements : are_elements (kind_behind m.types it) ≡ true
-    pub parts : parts_behind m info whole it ≡ parts_of_kind (kind_behind m.types it) (word_of_values m p)
+    pub elements : are_elements (pointee_kind m.types it) ≡ true
+    pub parts : pointee_parts m info whole it ≡ parts_of_kind (pointee_kind m.types it) (word_of_values m p)
 
   pub has_elements : (it : TypeInner) → is_pointer it ≡ true → (p : TypeResolution) → part_type m.types it None ≡ Some p → HasElements it p
   has_elements (inner.Pointer base at) points p is = by (inner_at m.types base) refl is

@@ -8,20 +8,20 @@ use Rattle.naga_ir.specs.declared.types.ArraySize.{ArraySize}
 use Rattle.naga_ir.specs.declared.types.Type_.{Type_}
 use Rattle.naga_ir.specs.declared.types.TypeInner.TheVariants as inner
 use Rattle.wgsl_text.specs.Types.{TypeSpecifier}
-use Rattle.naga_form.specs.Readable.{is_readable, handle_names, AreAlike, SpelledAlike, Formless}
+use Rattle.naga_form.specs.Readable.{is_readable, handle_names, AreAlike, SpelledAlike, Unsupported}
 use Rattle.naga_form.specs.TypeTrees.{resolution_tree}
 
 module _ (types : List Type_) where
   by_tree : (a : TypeResolution) (o : Option TypeSpecifier) → resolution_tree (handle_names types) a ≡ o → AreAlike types a a
   by_tree a (Some t) at = SpelledAlike t at at
-  by_tree a None at = Formless at at refl
+  by_tree a None at = Unsupported at at refl
 
   pub alike_itself : (a : TypeResolution) → AreAlike types a a
   alike_itself a = by_tree a (resolution_tree (handle_names types) a) refl
 
   pub alike_back : (a b : TypeResolution) → AreAlike types a b → AreAlike types b a
   alike_back a b (SpelledAlike t p q) = SpelledAlike t q p
-  alike_back a b (Formless p q same) = Formless q p (sym same)
+  alike_back a b (Unsupported p q same) = Unsupported q p (sym same)
 
   one_tree : (o : Option TypeSpecifier) (t u : TypeSpecifier) → o ≡ Some t → o ≡ Some u → t ≡ u
   one_tree o t u p q = cc
@@ -29,9 +29,9 @@ module _ (types : List Type_) where
   pub alike_through : (a b c : TypeResolution) → AreAlike types a b → AreAlike types b c → AreAlike types a c
   alike_through a b c (SpelledAlike t p q) (SpelledAlike u r s) =
       SpelledAlike t p (s ∙ ap Some (sym (one_tree (resolution_tree (handle_names types) b) t u q r)))
-  alike_through a b c (SpelledAlike t p q) (Formless r s same) = let none : Some t ≡ None = sym q ∙ r in absurd (cc)
-  alike_through a b c (Formless p q same) (SpelledAlike u r s) = let none : Some u ≡ None = sym r ∙ q in absurd (cc)
-  alike_through a b c (Formless p q same) (Formless r s other) = Formless p s (same ∙ other)
+  alike_through a b c (SpelledAlike t p q) (Unsupported r s same) = let none : Some t ≡ None = sym q ∙ r in absurd (cc)
+  alike_through a b c (Unsupported p q same) (SpelledAlike u r s) = let none : Some u ≡ None = sym r ∙ q in absurd (cc)
+  alike_through a b c (Unsupported p q same) (Unsupported r s other) = Unsupported p s (same ∙ other)
 
   pub strides_are_alike : (base : ℕ) (l : ArraySize) (s t : ℕ) →
       IsTrue (is_readable (handle_names types) (resolution.Value (inner.Array base l s))) →

@@ -93,29 +93,29 @@ lacks_unknown (Word w ∷ ps) h = lacks_word w (known_text ps) (lacks_unknown ps
 lacks_unknown (Shown ∷ ps) h = refl
 lacks_unknown (Missing ∷ ps) h = refl
 
-none_behind : (w : List ℕ) (ps qs : List Segment) (o : Option (List ℕ)) → known_text ps ≡ o →
+none_following : (w : List ℕ) (ps qs : List Segment) (o : Option (List ℕ)) → known_text ps ≡ o →
     (known_text ps ≡ None → known_text (ps ++ qs) ≡ None) → option_map (λ r. w ++ r) o ≡ None →
     option_map (λ r. w ++ r) (known_text (ps ++ qs)) ≡ None
-none_behind w ps qs None k same e = rw (same k) refl
-none_behind w ps qs (Some u) k same e = cc
+none_following w ps qs None k same e = rw (same k) refl
+none_following w ps qs (Some u) k same e = cc
 
 known_none : (ps qs : List Segment) → known_text ps ≡ None → known_text (ps ++ qs) ≡ None
 known_none [] qs e = cc
-known_none (Word w ∷ ps) qs e = none_behind w ps qs (known_text ps) refl (known_none ps qs) e
+known_none (Word w ∷ ps) qs e = none_following w ps qs (known_text ps) refl (known_none ps qs) e
 known_none (Shown ∷ ps) qs e = refl
 known_none (Missing ∷ ps) qs e = refl
 
-some_behind : (w : List ℕ) (ps qs : List Segment) (s t : List ℕ) (o : Option (List ℕ)) →
+some_after : (w : List ℕ) (ps qs : List Segment) (s t : List ℕ) (o : Option (List ℕ)) →
     known_text ps ≡ o →
     ((u : List ℕ) → known_text ps ≡ Some u → known_text (ps ++ qs) ≡ Some (u ++ t)) →
     option_map (λ r. w ++ r) o ≡ Some s → option_map (λ r. w ++ r) (known_text (ps ++ qs)) ≡
     Some (s ++ t)
-some_behind w ps qs s t None k same e = cc
-some_behind w ps qs s t (Some u) k same e = let l : w ++ u ≡ s = cc in rw (same u k) (ap Some (sym (append_assoc w u t) ∙ ap (λ v. v ++ t) l))
+some_after w ps qs s t None k same e = cc
+some_after w ps qs s t (Some u) k same e = let l : w ++ u ≡ s = cc in rw (same u k) (ap Some (sym (append_assoc w u t) ∙ ap (λ v. v ++ t) l))
 
 known_append : (ps qs : List Segment) (s t : List ℕ) → known_text ps ≡ Some s → known_text qs ≡ Some t → known_text (ps ++ qs) ≡ Some (s ++ t)
 known_append [] qs s t e h = let k : [] ≡ s = cc in rw (← k) h
-known_append (Word w ∷ ps) qs s t e h = some_behind w ps qs s t (known_text ps) refl (λ u k. known_append ps qs u t k h) e
+known_append (Word w ∷ ps) qs s t e h = some_after w ps qs s t (known_text ps) refl (λ u k. known_append ps qs u t k h) e
 known_append (Shown ∷ ps) qs s t e h = cc
 known_append (Missing ∷ ps) qs s t e h = cc
 

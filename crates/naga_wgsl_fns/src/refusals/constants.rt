@@ -18,7 +18,7 @@ use naga_scope::ModuleTables;
 use std::alloc::Global;
 
 /// What a constant that has no form is, by the first part of its initialiser that has none.
-pub(crate) fn formless_constant(
+pub(crate) fn unsupported_constant(
     module: &Module,
     tables: &ModuleTables,
     constant: Handle<Constant>,
@@ -26,17 +26,17 @@ pub(crate) fn formless_constant(
     requires ordered { GlobalsStandInOrder «module».now }
     requires tables { AreTablesOf «module».now tables.now }
     requires there { constant < length «module».now.constants }
-    requires formless { IsFalse (constant_is_written «module».now constant) }
+    requires unsupported { IsFalse (constant_is_written «module».now constant) }
     ensures names { Tells result (NamesConstant «module».now constant) }
     ensures carries { CarriesOfConstant «module».now constant result }
 {
-    formless_global(module, tables, module.constants[constant].init)
+    unsupported_global(module, tables, module.constants[constant].init)
 }
 
 /// What one of the module's own expressions that has no form is. Through constants without names it
 /// takes one step, however many name one another.
-#[cycle(formless)]
-pub(crate) fn formless_global(
+#[cycle(unsupported)]
+pub(crate) fn unsupported_global(
     module: &Module,
     tables: &ModuleTables,
     handle: Handle<Expression>,
@@ -44,11 +44,11 @@ pub(crate) fn formless_global(
     requires ordered { GlobalsStandInOrder «module».now }
     requires tables { AreTablesOf «module».now tables.now }
     requires there { handle < length «module».now.global_expressions }
-    requires formless { IsFalse (global_is_written «module».now handle) }
+    requires unsupported { IsFalse (global_is_written «module».now handle) }
     ensures names { Tells result (λ e. NamesGlobal «module».now e handle) }
     ensures carries { CarriesOfGlobal «module».now handle result }
 {
-    formless_representative(module, tables, tables.representative(handle))
+    unsupported_representative(module, tables, tables.representative(handle))
 }
 
 /// The refusal that names one of the module's own expressions that has no form; want of memory where
@@ -62,15 +62,15 @@ pub(crate) fn global_without_form(
     requires ordered { GlobalsStandInOrder «module».now }
     requires tables { AreTablesOf «module».now tables.now }
     requires there { handle < length «module».now.global_expressions }
-    requires formless { IsFalse (global_is_written «module».now handle) }
+    requires unsupported { IsFalse (global_is_written «module».now handle) }
     ensures { NamesGlobal «module».now result handle }
 {
-    formless_global(module, tables, handle).to_error(alloc)
+    unsupported_global(module, tables, handle).to_error(alloc)
 }
 
 /// The same, by what it is.
-#[cycle(formless)]
-fn formless_representative(
+#[cycle(unsupported)]
+fn unsupported_representative(
     module: &Module,
     tables: &ModuleTables,
     handle: Handle<Expression>,
@@ -78,14 +78,14 @@ fn formless_representative(
     requires ordered { GlobalsStandInOrder «module».now }
     requires tables { AreTablesOf «module».now tables.now }
     requires there { handle < length «module».now.global_expressions }
-    requires formless { IsFalse (global_is_written «module».now handle) }
+    requires unsupported { IsFalse (global_is_written «module».now handle) }
     ensures names { Tells result (λ e. NamesGlobal «module».now e handle) }
     ensures carries { CarriesOfGlobal «module».now handle result }
 {
     match &module.global_expressions[handle] {
         Expression::Literal(literal) => literal_without_form(literal),
         Expression::Constant(constant) => {
-            formless_global(module, tables, module.constants[*constant].init)
+            unsupported_global(module, tables, module.constants[*constant].init)
         }
         Expression::Override(_) => unreachable!(),
         Expression::ZeroValue(ty) => {
@@ -93,11 +93,11 @@ fn formless_representative(
         }
         Expression::Compose { ty, components } => {
             match first_unwritten(module, tables, components.as_slice()) {
-                Some(component) => formless_global(module, tables, component),
+                Some(component) => unsupported_global(module, tables, component),
                 None => type_without_form(module, tables, &TypeResolution::Handle(*ty)),
             }
         }
-        Expression::Splat { value, .. } => formless_global(module, tables, *value),
+        Expression::Splat { value, .. } => unsupported_global(module, tables, *value),
         _ => Construct::ConstantOperator,
     }
 }

@@ -4,23 +4,23 @@ ghost use Rattle.std.specs.Prelude.{ℕ, IsTrue};
 ghost use Rattle.module_meaning.specs.acceptance.Accepted.{is_accepted};
 ghost use Rattle.naga_info.specs.declared.info.ModuleInfo.{ModuleInfo};
 ghost use Rattle.naga_ir.specs.declared.module.Module.{Module};
-ghost use Rattle.naga_scope.specs.Declarations.{IsFormlessDeclaration, IsFormlessHead};
+ghost use Rattle.naga_scope.specs.Declarations.{IsUnsupportedDeclaration, IsUnsupportedHead};
 ghost use Rattle.naga_scope.specs.Tables.{AreTablesOf};
 ghost use Rattle.naga_wgsl_fns.specs.Carried.{CarriesOfDeclaration, CarriesOfHead};
 ghost use Rattle.naga_wgsl_fns.specs.Constructs.{Tells};
 ghost use Rattle.naga_wgsl_fns.specs.DeclarationRefusals.{NamesDeclaration};
-ghost use Rattle.naga_wgsl_fns.specs.DeclarationRefusals.{NamesFormlessDeclaration};
+ghost use Rattle.naga_wgsl_fns.specs.DeclarationRefusals.{NamesUnsupportedDeclaration};
 ghost use Rattle.naga_wgsl_fns.specs.DeclarationRefusals.{IsToldOfDeclaration, NamesHead};
-ghost use Rattle.naga_wgsl_fns.specs.DeclarationRefusals.{NamesFormlessHead};
+ghost use Rattle.naga_wgsl_fns.specs.DeclarationRefusals.{NamesUnsupportedHead};
 ghost use Rattle.naga_wgsl_fns.specs.DeclarationRefusals.{NamesMisplaced};
 
-use crate::refusals::constants::formless_global;
+use crate::refusals::constants::unsupported_global;
 use crate::refusals::construct::Construct;
 use crate::refusals::error::Error;
 use crate::refusals::forms::type_without_form;
 use naga_info::TypeResolution;
 use naga_ir::Module;
-use naga_scope::{FormlessDeclaration, FormlessHead, ModuleTables};
+use naga_scope::{ModuleTables, UnsupportedDeclaration, UnsupportedHead};
 use std::alloc::Global;
 use wgsl_layout::Misplaced;
 
@@ -30,39 +30,39 @@ pub fn declaration_without_form(
     alloc: Global,
     module: &Module,
     tables: &ModuleTables,
-    declaration: FormlessDeclaration,
+    declaration: UnsupportedDeclaration,
 ) -> Error
     requires accepted { (info : ModuleInfo) × IsTrue (is_accepted «module».now info) }
     requires tables { AreTablesOf «module».now tables.now }
-    requires formless { IsFormlessDeclaration «module».now declaration }
+    requires unsupported { IsUnsupportedDeclaration «module».now declaration }
     ensures names { NamesDeclaration «module».now result }
     ensures told { IsToldOfDeclaration «module».now declaration result }
 {
-    formless_construct(module, tables, declaration).to_error(alloc)
+    unsupported_construct(module, tables, declaration).to_error(alloc)
 }
 
 /// What has no form in a declaration of an accepted module, or why a struct can't keep the offsets of
 /// its members.
-pub fn formless_construct(
+pub fn unsupported_construct(
     module: &Module,
     tables: &ModuleTables,
-    declaration: FormlessDeclaration,
+    declaration: UnsupportedDeclaration,
 ) -> Construct
     requires accepted { (info : ModuleInfo) × IsTrue (is_accepted «module».now info) }
     requires tables { AreTablesOf «module».now tables.now }
-    requires formless { IsFormlessDeclaration «module».now declaration }
-    ensures names { Tells result (NamesFormlessDeclaration «module».now declaration) }
+    requires unsupported { IsUnsupportedDeclaration «module».now declaration }
+    ensures names { Tells result (NamesUnsupportedDeclaration «module».now declaration) }
     ensures carries { CarriesOfDeclaration «module».now declaration result }
 {
     match declaration {
-        FormlessDeclaration::Type_(ty) => {
+        UnsupportedDeclaration::Type_(ty) => {
             type_without_form(module, tables, &TypeResolution::Handle(ty))
         }
-        FormlessDeclaration::Initialiser(handle) => formless_global(module, tables, handle),
-        FormlessDeclaration::BuiltIn(value) => Construct::BuiltIn(value),
-        FormlessDeclaration::Head(head) => head_construct(head),
-        FormlessDeclaration::Misplaced(fault) => misplaced_construct(fault),
-        FormlessDeclaration::Stride(_) => Construct::ArrayStride,
+        UnsupportedDeclaration::Initialiser(handle) => unsupported_global(module, tables, handle),
+        UnsupportedDeclaration::BuiltIn(value) => Construct::BuiltIn(value),
+        UnsupportedDeclaration::Head(head) => head_construct(head),
+        UnsupportedDeclaration::Misplaced(fault) => misplaced_construct(fault),
+        UnsupportedDeclaration::Stride(_) => Construct::ArrayStride,
     }
 }
 
@@ -78,20 +78,20 @@ fn misplaced_construct(fault: Misplaced) -> Construct
 
 /// The refusal that names what has no form of what a function takes or gives, or of its stage; want
 /// of memory where there is none for its text.
-pub fn head_without_form(alloc: Global, head: FormlessHead) -> Error
-    ensures { (m : Module) (number : ℕ) → IsFormlessHead m number head →
+pub fn head_without_form(alloc: Global, head: UnsupportedHead) -> Error
+    ensures { (m : Module) (number : ℕ) → IsUnsupportedHead m number head →
         NamesHead m number result }
 {
     head_construct(head).to_error(alloc)
 }
 
 /// What has no form of what a function takes or gives, or of its stage.
-fn head_construct(head: FormlessHead) -> Construct
-    ensures names { Tells result (NamesFormlessHead head) }
+fn head_construct(head: UnsupportedHead) -> Construct
+    ensures names { Tells result (NamesUnsupportedHead head) }
     ensures carries { CarriesOfHead head result }
 {
     match head {
-        FormlessHead::BuiltIn(value) => Construct::BuiltIn(value),
-        FormlessHead::Stage => Construct::StageVariable,
+        UnsupportedHead::BuiltIn(value) => Construct::BuiltIn(value),
+        UnsupportedHead::Stage => Construct::StageVariable,
     }
 }

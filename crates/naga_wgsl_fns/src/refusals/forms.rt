@@ -3,7 +3,7 @@
 ghost use Rattle.std.specs.Prelude.{Bool, IsFalse, List, None, ◌&&◌};
 ghost use Rattle.module_meaning.specs.ExpressionForms.{expression_has_form, is_written_literal};
 ghost use Rattle.module_meaning.specs.ExpressionForms.{known_passes};
-ghost use Rattle.module_meaning.specs.ExpressionOperators.{has_parts, scalar_behind};
+ghost use Rattle.module_meaning.specs.ExpressionOperators.{has_parts, pointee_scalar};
 ghost use Rattle.module_meaning.specs.Conversions.{conversion_target};
 ghost use Rattle.module_meaning.specs.Sampling.{sampling_is_written};
 ghost use Rattle.naga_ir.specs.declared.expression.Expression.{Expression};
@@ -19,7 +19,7 @@ ghost use Rattle.naga_wgsl_fns.specs.Refusals.{NamesMatrix, NamesPart, NamesType
 ghost use Rattle.naga_wgsl_fns.specs.Refusals.{NamesStatement, converted};
 ghost use Rattle.naga_wgsl_fns.specs.Refusals.{NamesItemsOf, pointed_scalar};
 
-use crate::refusals::constants::formless_constant;
+use crate::refusals::constants::unsupported_constant;
 use crate::refusals::construct::Construct;
 use crate::refusals::lacking::lacking_scalar;
 use module_meaning::type_parts::{converted_scalar, known_has_parts};
@@ -28,7 +28,7 @@ use naga_ir::{
     Expression, Handle, Literal, Module, SampleLevel, ScalarKind, SwizzleComponent, Type_,
     TypeInner, UniqueArena,
 };
-use naga_scope::{FormlessStatement, ModuleTables, sampling_has_form, scalar_behind};
+use naga_scope::{ModuleTables, UnsupportedStatement, pointee_scalar, sampling_has_form};
 
 /// What an expression that has no form among the others of its function is.
 pub(crate) fn without_form(
@@ -41,7 +41,7 @@ pub(crate) fn without_form(
     requires ordered { GlobalsStandInOrder «module».now }
     requires tables { AreTablesOf «module».now tables.now }
     requires named { NamesItemsOf «module».now expression.now }
-    requires formless { (es : List Expression) ×
+    requires unsupported { (es : List Expression) ×
         IsFalse (expression_has_form «module».now info.now es expression.now) }
     ensures names { (es : List Expression) →
         IsFalse (expression_has_form «module».now info.now es expression.now) →
@@ -50,7 +50,7 @@ pub(crate) fn without_form(
 {
     let types = &module.types;
     match expression {
-        Expression::Constant(constant) => formless_constant(module, tables, *constant),
+        Expression::Constant(constant) => unsupported_constant(module, tables, *constant),
         Expression::Literal(literal) => literal_without_form(literal),
         Expression::Math { fun, .. } => Construct::MathFunction(*fun),
         Expression::Relational { fun, .. } => Construct::RelationalFunction(*fun),
@@ -80,14 +80,14 @@ pub(crate) fn without_form(
 }
 
 /// What a statement that has no form is.
-pub(crate) fn statement_without_form(statement: FormlessStatement) -> Construct
+pub(crate) fn statement_without_form(statement: UnsupportedStatement) -> Construct
     ensures { Tells result (NamesStatement statement) }
 {
     match statement {
-        FormlessStatement::RayQuery => Construct::RayQuery,
-        FormlessStatement::SubgroupOperation => Construct::SubgroupOperation,
-        FormlessStatement::FallThrough => Construct::FallThrough,
-        FormlessStatement::ImageCompareExchange => Construct::ImageCompareExchange,
+        UnsupportedStatement::RayQuery => Construct::RayQuery,
+        UnsupportedStatement::SubgroupOperation => Construct::SubgroupOperation,
+        UnsupportedStatement::FallThrough => Construct::FallThrough,
+        UnsupportedStatement::ImageCompareExchange => Construct::ImageCompareExchange,
     }
 }
 
@@ -178,10 +178,10 @@ fn load_without_form(
 }
 
 fn matrix_without_form(types: &UniqueArena<Type_>, pointer: &TypeInner) -> Construct
-    ensures names { Tells result (NamesMatrix (scalar_behind types.now pointer.now)) }
-    ensures carries { CarriesScalar (scalar_behind types.now pointer.now) result }
+    ensures names { Tells result (NamesMatrix (pointee_scalar types.now pointer.now)) }
+    ensures carries { CarriesScalar (pointee_scalar types.now pointer.now) result }
 {
-    match scalar_behind(types, pointer) {
+    match pointee_scalar(types, pointer) {
         Some(scalar) => Construct::ScalarType(scalar),
         None => Construct::OtherType,
     }
@@ -207,7 +207,7 @@ fn sampling_without_form(
 
 /// What a literal that has no form is.
 pub(crate) fn literal_without_form(literal: &Literal) -> Construct
-    requires formless { IsFalse (is_written_literal literal.now) }
+    requires unsupported { IsFalse (is_written_literal literal.now) }
     ensures names { Tells result (NamesLiteral literal.now) }
     ensures carries { CarriesScalar None result }
 {

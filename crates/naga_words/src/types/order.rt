@@ -4,9 +4,9 @@ ghost use Rattle.std.specs.Prelude.{◌≡◌, ℕ, List, length, IsTrue};
 ghost use Rattle.naga_ir.specs.declared.module.Override.{Override};
 ghost use Rattle.naga_names.specs.Keys.{NameMap};
 ghost use Rattle.naga_words.specs.Contexts.{arena_context, global_context, names_context};
-ghost use Rattle.naga_words.specs.Spelling.{IsInOrder, StandsBehind, size_within};
+ghost use Rattle.naga_words.specs.Spelling.{IsInOrder, StandsAfter, size_within};
 
-use naga_ir::{ArraySize, Handle, Place, Type_, TypeInner, UniqueArena};
+use naga_ir::{ArraySize, Handle, ItemIndex, Type_, TypeInner, UniqueArena};
 
 fn size_fits(overrides: usize, size: ArraySize) -> bool
     ensures { result ≡ size_within overrides size }
@@ -21,7 +21,7 @@ fn size_fits(overrides: usize, size: ArraySize) -> bool
 /// Whether the type that a type names is one of the first `types`, and the override of its length
 /// one of the first `overrides`.
 pub fn type_fits(types: usize, overrides: usize, inner: &TypeInner) -> bool
-    ensures { IsTrue result → StandsBehind types overrides inner.now }
+    ensures { IsTrue result → StandsAfter types overrides inner.now }
 {
     match inner {
         TypeInner::Pointer { base, .. } => base.index() < types,
@@ -54,7 +54,7 @@ pub fn types_in_order(types: &UniqueArena<Type_>, overrides: usize) -> bool
     ensures names { IsTrue result → (names : NameMap) → IsInOrder (names_context types.now names) }
 {
     for index in 0..types.len() {
-        let handle: Handle<Type_> = Place::from_index(index);
+        let handle: Handle<Type_> = ItemIndex::from_index(index);
         if !type_fits(index, overrides, &types[handle].inner) {
             return false;
         }

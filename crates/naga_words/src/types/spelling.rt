@@ -9,7 +9,7 @@ ghost use Rattle.naga_words.specs.Spelling.{length_segments};
 ghost use Rattle.naga_words.specs.Spelling.{length_of_override, named_segments_by};
 ghost use Rattle.naga_words.specs.Spelling.{pointer_segments};
 ghost use Rattle.naga_words.specs.Spelling.{type_segments};
-ghost use Rattle.naga_words.specs.Values.{formless_segments, pointer_in, value_segments};
+ghost use Rattle.naga_words.specs.Values.{unsupported_segments, pointer_in, value_segments};
 ghost use Rattle.naga_words.specs.Values.{value_pointer_segments};
 ghost use Rattle.wgsl_words.specs.Words.{space_word, space_access_word};
 
@@ -46,14 +46,14 @@ fn write_shown_inner<W: TextSink>(alloc: Global, inner: &TypeInner, out: &mut Ou
 
 /// Writes a type without a form in braces, or refuses it.
 #[tactic(auto, using(crate::proofs::SegmentWriting::rows))]
-pub(crate) fn write_formless_inner<C: TypeContext, W: TextSink>(
+pub(crate) fn write_unsupported_inner<C: TypeContext, W: TextSink>(
     context: &C,
     alloc: Global,
     inner: &TypeInner,
     out: &mut Output<'_, W>,
 )
     ensures { Spells W.text W.failures (C.context context.now).refuses out.old out.new
-        (formless_segments (C.context context.now).refuses) }
+        (unsupported_segments (C.context context.now).refuses) }
 {
     if context.refuses() {
         out.refuse();
@@ -86,7 +86,7 @@ fn write_value_pointer<C: TypeContext, W: TextSink>(
             space,
             out,
         ),
-        None => write_formless_inner(context, alloc, inner, out),
+        None => write_unsupported_inner(context, alloc, inner, out),
     }
 }
 

@@ -1,4 +1,4 @@
-use Rattle.shader_runs.proofs.Bindings.{binds_as_meant, function_binds_as_meant}
+use Rattle.shader_runs.proofs.NamedLets.{binds_as_meant, function_binds_as_meant}
 use Rattle.shader_runs.proofs.binds_as_meant.Goals as goal
 
 pub returns-clause-whole : goal.returns-clause-whole

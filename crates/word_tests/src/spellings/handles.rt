@@ -5,18 +5,18 @@ use super::*;
 const ROWS: &[(&str, Option<&str>)] = &[
     ("{anonymous type}", Some("T0")),
     (
-        "array<{anonymous type}, {override Place { index: 0, mark: PhantomData<_> }}>",
+        "array<{anonymous type}, {override ItemIndex { index: 0, mark: PhantomData<_> }}>",
         Some("array<T0, O0>"),
     ),
     ("i32", Some("i32")),
     ("array<{anonymous type}, 4>", Some("array<T0, 4>")),
     ("ptr<private, {anonymous type}>", Some("ptr<private, T0>")),
     (
-        "array<i32, {override Place { index: 0, mark: PhantomData<_> }}>",
+        "array<i32, {override ItemIndex { index: 0, mark: PhantomData<_> }}>",
         Some("array<i32, O0>"),
     ),
     (
-        "array<i32, {override Place { index: 1, mark: PhantomData<_> }}>",
+        "array<i32, {override ItemIndex { index: 1, mark: PhantomData<_> }}>",
         Some("array<i32, O1>"),
     ),
     (
@@ -43,7 +43,7 @@ fn rows_hold(rt: &impl Abort, alloc: Global, context: &NumberedTypes<'_>) {
     assert!(rt; types_in_order(context.types, 2));
     assert!(rt; context.is_in_order(2));
     for (index, (shown, numbered)) in ROWS.iter().enumerate() {
-        let handle = Place::from_index(index);
+        let handle = ItemIndex::from_index(index);
         assert!(rt; index < context.types.len());
         reads(
             rt,
@@ -77,7 +77,7 @@ fn written_names_hold(rt: &impl Abort, alloc: Global, context: &WriterTypeContex
     let module = context.module;
     assert!(rt; types_in_order(&module.types, module.overrides.len()));
     assert!(rt; LABELLED < module.types.len());
-    let labelled = Place::from_index(LABELLED);
+    let labelled = ItemIndex::from_index(LABELLED);
     reads(rt, &context.type_to_string(alloc, labelled), Some("S_1"));
     let pointer = TypeResolution::Value(TypeInner::ValuePointer {
         size: None,
@@ -95,7 +95,7 @@ fn written_names_hold(rt: &impl Abort, alloc: Global, context: &WriterTypeContex
 pub fn writer_holds(rt: &impl Abort, alloc: Global, module: &Module) {
     let mut names = HashMap::new(alloc);
     let name = String::from_str(alloc, "S_1").expect(rt, "memory");
-    let key = NameKey::Type_(Place::from_index(LABELLED));
+    let key = NameKey::Type_(ItemIndex::from_index(LABELLED));
     let inserted: Result<_, _> = names.insert(key, name);
     inserted.expect(rt, "memory");
     written_names_hold(

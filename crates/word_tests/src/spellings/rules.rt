@@ -46,7 +46,7 @@ const COUNT_TEXT: &str = "fn count(array<T0, O0>) -> u32";
 fn count_rule(rt: &impl Abort, alloc: Global) -> Rule
     ensures { FitsAmong 2 result }
 {
-    let array = TypeResolution::Handle(Place::from_index(1));
+    let array = TypeResolution::Handle(ItemIndex::from_index(1));
     Rule {
         arguments: vec![in alloc; array].expect(rt, "memory"),
         conclusion: Conclusion::Value(TypeInner::Scalar(Scalar::U32)),

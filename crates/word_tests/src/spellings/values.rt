@@ -100,7 +100,7 @@ const ROWS: &[(&str, &str)] = &[
     ),
     (
         r#"{"Array": {"base": 2, "size": {"Pending": 1}, "stride": 4}}"#,
-        "array<i32, {anonymous override Place { index: 1, mark: PhantomData<_> }}>",
+        "array<i32, {anonymous override ItemIndex { index: 1, mark: PhantomData<_> }}>",
     ),
     // types without a form
     (
@@ -168,7 +168,7 @@ const STRUCTS: &[(&str, &str)] = &[
     (
         r#"{"Struct": {"members": [{"ty": 7, "offset": 0}], "span": 4}}"#,
         "{unnamed struct Struct { members: [StructMember { name: None, \
-         ty: Place { index: 7, mark: PhantomData<_> }, binding: None, offset: 0 }], span: 4 }}",
+         ty: ItemIndex { index: 7, mark: PhantomData<_> }, binding: None, offset: 0 }], span: 4 }}",
     ),
 ];
 

@@ -7,7 +7,7 @@ use Rattle.fault_details.proofs.spelled.other_type.Goals as goal
 pub returns-then-eq : goal.returns-then-eq
 returns-then-eq c =
     let m = c.args.«module».now in
-    let wanted = c.resolution_of-wanted_type.ensures in
+    let wanted = c.resolution_of-expected_type.ensures in
     let same : string_bytes c.in_ok-wanted.wanted ≡ string_bytes c.in_ok-told_got.told_got = search rules in
     inr (
       subst (λ r. IsPlaced m r (string_bytes c.in_ok-placed.field-0)) wanted c.in_ok-placed.ensures,
@@ -23,7 +23,7 @@ pub returns : goal.returns
 returns c =
     let m = c.args.«module».now in
     inl (
-      subst (λ r. IsTold m r (string_bytes c.in_ok-wanted.wanted)) c.resolution_of-wanted_type.ensures c.in_ok-wanted.ensures,
+      subst (λ r. IsTold m r (string_bytes c.in_ok-wanted.wanted)) c.resolution_of-expected_type.ensures c.in_ok-wanted.ensures,
       c.in_ok-told_got.ensures,
       λ same.
           let texts = c.as_str.ensures.value ∙ (same ∙ sym c.as_str-2.ensures.value) in

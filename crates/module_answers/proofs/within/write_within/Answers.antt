@@ -1,6 +1,7 @@
-use Rattle.std.proofs.Common.{◌≡◌, ◌∙◌, ◌<◌, ◌≤◌, ℕ, [], Err, IfErr, IfNone, IfOk, IfSome, Ok, Some, ap, is_ok, length, refl, string_bytes, subst, sym}
+use Rattle.std.proofs.Common.{◌≡◌, ◌∙◌, ◌<◌, ◌≤◌, ℕ, [], Err, IfErr, IfNone, IfOk, IfSome, Ok, Some}
+use Rattle.std.proofs.Common.{ap, is_ok, length, refl, string_bytes, subst, sym}
 use Rattle.std.specs.Prelude.{OnErr}
-use Rattle.naga_words.specs.Sink.{IsBehind}
+use Rattle.naga_words.specs.Sink.{IsAfter}
 use Rattle.naga_acceptance.specs.Faults.{Fails}
 use Rattle.naga_wgsl_out.specs.Checked.{IsCounted}
 use Rattle.naga_wgsl_out.specs.Headline.{FaithfulWriting}
@@ -69,7 +70,7 @@ returns-in-None-clause-unwritten c =
     (subst (λ r. IfOk r (λ _. IsCounted m c.args.info.now info)) c.in-Ok.is c.write.ensures.counted)
     (ap (λ s. s.text) c.new-empty.ensures)
     (subst (λ r. IfOk r (λ w. AppendsItsText m info flags w.answer c.new-empty.result.text w.sink.text)) c.in-Ok.is c.write.ensures.text)
-    (subst (λ r. IfOk r (λ w. OnErr w.answer (IsBehind c.new-empty.result.text (written_text m info flags) w.sink.text))) c.in-Ok.is c.write.ensures.beginning)
+    (subst (λ r. IfOk r (λ w. OnErr w.answer (IsAfter c.new-empty.result.text (written_text m info flags) w.sink.text))) c.in-Ok.is c.write.ensures.beginning)
     (subst (λ o. IfNone o (c.args.limits.text < length w.sink.text)) c.in-None.is c.kept.ensures.too_long)
 
 pub returns-in-Err-clause-unwritten : goal.returns-in-Err-clause-unwritten

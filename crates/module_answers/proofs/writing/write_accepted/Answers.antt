@@ -1,6 +1,6 @@
 use Rattle.std.proofs.Common.{subst, sym}
 use Rattle.std.specs.Prelude.{OnErr}
-use Rattle.naga_words.specs.Sink.{IsBehind}
+use Rattle.naga_words.specs.Sink.{IsAfter}
 use Rattle.naga_wgsl_out.proofs.Faithful.{leaves_beginning}
 use Rattle.naga_wgsl_out.specs.Headline.{FaithfulWriting}
 use Rattle.naga_wgsl_out.specs.Writing.{AppendsItsText, written_text}
@@ -58,12 +58,12 @@ returns-clause-beginning g c =
     let text = g.W.TextSink.text in
     error_or_want _ answer _ c.with_refusal-answer.ensures.answer
     (subst
-    (λ flags. OnErr answer (IsBehind (text c.args.sink) (written_text m info flags) (text c.finish-sink.result)))
+    (λ flags. OnErr answer (IsAfter (text c.args.sink) (written_text m info flags) (text c.finish-sink.result)))
     c.new-writer.ensures.flags
     (subst
-    (λ old. OnErr answer (IsBehind (text old) (written_text m info c.new-writer.result.flags) (text c.finish-sink.result)))
+    (λ old. OnErr answer (IsAfter (text old) (written_text m info c.new-writer.result.flags) (text c.finish-sink.result)))
     c.new-writer.ensures.sink
     (subst
-    (λ now. OnErr answer (IsBehind (text c.new-writer.result.sink) (written_text m info c.new-writer.result.flags) (text now)))
+    (λ now. OnErr answer (IsAfter (text c.new-writer.result.sink) (written_text m info c.new-writer.result.flags) (text now)))
     (sym c.finish-sink.ensures)
     (leaves_beginning _ m info answer _ _ _ _ c.write-answer.ensures.leaves))))

@@ -12,8 +12,8 @@ loop-steps-preserved c =
     in let v = operation types c.args.used.now
     in let slots = c.args.slots
     in let steps = c.loop-steps.steps
-    in let here : c.slot_behind-slot.result ≡ slot_after slots v steps =
-    c.slot_behind-slot.ensures.slot ∙ ap (λ h. (h % slots + steps) % slots) c.requires.hash
+    in let here : c.slot_following-slot.result ≡ slot_after slots v steps =
+    c.slot_following-slot.ensures.slot ∙ ap (λ h. (h % slots + steps) % slots) c.requires.hash
     in let there : site_after slots c.args.table.now v steps ≡ Some c.in-Some.site =
     ap (λ k. slice_index_or c.args.table.now k None) (sym here) ∙ c.in-Some.is
     in passed_further types gs slots c.args.table.now v steps (steps + 1) (omega arith) c.loop-steps.invariant (ap is_some there)

@@ -1,7 +1,7 @@
 use Rattle.std.proofs.Common.{◌≡◌, drop}
 use Rattle.naga_ir.specs.StatementViews.{cases_of}
-use Rattle.module_meaning.specs.acceptance.StatementsFit.{labels_differ}
+use Rattle.module_meaning.specs.acceptance.StatementsFit.{case_values_differ}
 use Rattle.naga_acceptance.proofs.statements.few_differ.Given as goal
 
 abbrev pub invariant-loop-index : goal.invariant-loop-index
-invariant-loop-index l = labels_differ (cases_of (drop l.index l.cases)) ≡ labels_differ (cases_of l.cases)
+invariant-loop-index l = case_values_differ (cases_of (drop l.index l.cases)) ≡ case_values_differ (cases_of l.cases)

@@ -2,7 +2,7 @@ use Rattle.std.proofs.Common.{rules, ◌+◌, ◌<◌, length, ◌-◌, ◌/◌,
 use Rattle.std.proofs.Common.{Greater}
 use Rattle.naga_keywords.specs.SortedWords.{keys_of, comparison_key}
 use Rattle.naga_keywords.proofs.Halving.{HasProbesLeft, at_first, equal_at, everywhere, goes_before}
-use Rattle.naga_keywords.proofs.Halving.{goes_behind, keys_length, left_before, left_behind}
+use Rattle.naga_keywords.proofs.Halving.{goes_after, keys_length, left_before, left_after}
 use Rattle.naga_keywords.proofs.Halving.{middle_below, nowhere, one_probe, counted, order_at}
 use Rattle.naga_keywords.proofs.Halving.{some_left, within_digits}
 use Rattle.naga_keywords.proofs.sorted.search.Goals as goal
@@ -39,8 +39,8 @@ loop-low-preserved-in-Less c =
     let within_keys : middle < length (keys_of c.args.counter.now.case members) = omega (arith, within, length_is) in
     let told = c.in-Less.ensures in
     let probes : HasProbesLeft c.compare.new.self.comparisons (high - (middle + 1)) (length members) =
-    counted _ _ (sym told.counted) (one_probe _ _ _ _ (some_left low high lt) (left_behind low high lt) i.1) in (
-      goes_behind _ _ c.requires.sorted middle within_keys low high below i.0
+    counted _ _ (sym told.counted) (one_probe _ _ _ _ (some_left low high lt) (left_after low high lt) i.1) in (
+      goes_after _ _ c.requires.sorted middle within_keys low high below i.0
           (order_at members middle _ Less within i.3 i.4 told.order),
       probes,
       i.2,

@@ -3,7 +3,7 @@ use Rattle.std.proofs.lemmas.Iterator.{YieldsList-from_map, YieldsList-from_slic
 use Rattle.std.proofs.lemmas.Iterator.{YieldsList-from_take, items_from_collect}
 use Rattle.std.proofs.lemmas.Iterator.Consumers.{YieldsList-at}
 use Rattle.naga_listing.specs.Named.{most_named}
-use Rattle.naga_listing.specs.declared.places.Spot.TheVariants as spot
+use Rattle.naga_listing.specs.declared.positions.Spot.TheVariants as spot
 use Rattle.naga_listing.proofs.named.member_spots.Goals as goal
 
 pub returns : goal.returns

@@ -4,7 +4,7 @@ use Rattle.std.proofs.lemmas.Iterator.{items_from_collect}
 use Rattle.std.proofs.lemmas.Iterator.Consumers.{YieldsList-at, YieldsList-from_first}
 use Rattle.naga_ir.specs.Operands.{expression_operands}
 use Rattle.naga_listing.specs.Named.{most_named}
-use Rattle.naga_listing.specs.declared.places.Spot.TheVariants as spot
+use Rattle.naga_listing.specs.declared.positions.Spot.TheVariants as spot
 use Rattle.naga_listing.proofs.named.operand_spots.Goals as goal
 
 pub returns : goal.returns

@@ -5,7 +5,7 @@ use Rattle.std.proofs.lemmas.Iterator.Consumers.{YieldsList-at, YieldsList-from_
 use Rattle.naga_ir.specs.Operands.{own_operands}
 use Rattle.naga_ir.specs.StatementViews.{tree_of}
 use Rattle.naga_listing.specs.Named.{most_named}
-use Rattle.naga_listing.specs.declared.places.Spot.TheVariants as spot
+use Rattle.naga_listing.specs.declared.positions.Spot.TheVariants as spot
 use Rattle.naga_listing.proofs.named.statement_operand_spots.Goals as goal
 
 pub returns : goal.returns

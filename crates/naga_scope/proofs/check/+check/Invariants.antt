@@ -2,7 +2,8 @@ use Rattle.std.proofs.Common.{◌≡◌, ◌+◌, ◌*◌, ◌≤◌, drop, leng
 use Rattle.naga_ir.specs.StatementTree.{block_size, cases_size, statement_size}
 use Rattle.naga_ir.specs.StatementViews.{block_of, cases_of, tree_of}
 use Rattle.naga_scope.specs.Changes.{block_changes, cases_changes}
-use Rattle.naga_scope.specs.KnownFunctions.{IsPointOf, cases_in, expressions_of, handles_at, naming_of, shape_of, statements_in}
+use Rattle.naga_scope.specs.KnownFunctions.{IsPointOf, cases_in, expressions_of, handles_at}
+use Rattle.naga_scope.specs.KnownFunctions.{naming_of, shape_of, statements_in}
 use Rattle.naga_scope.specs.Log.{Extends, Same}
 use Rattle.naga_scope.specs.Results.{CaseResultsFit, ResultsFit}
 use Rattle.naga_scope.specs.Walks.{after_each}
@@ -41,7 +42,7 @@ abbrev pub invariant-check_lines-loop-statement : goal.invariant-check_lines-loo
 invariant-check_lines-loop-statement l = record {
   check : check_all (naming_of l.known) l.scope.named l.number (statements_in l.known (block_of (drop l.statement-index l.statements))) (handles_at l.scope)
       ≡ check_all (naming_of l.known) l.initial.scope.named l.first (statements_in l.known (block_of l.statements)) (handles_at l.initial.scope);
-  behind : after_each (naming_of l.known) l.scope.named (statements_in l.known (block_of (drop l.statement-index l.statements))) (handles_at l.scope)
+  following : after_each (naming_of l.known) l.scope.named (statements_in l.known (block_of (drop l.statement-index l.statements))) (handles_at l.scope)
       ≡ after_each (naming_of l.known) l.initial.scope.named (statements_in l.known (block_of l.statements)) (handles_at l.initial.scope);
   named : named_by_all (shape_of l.known) (statements_in l.known (block_of (drop l.statement-index l.statements))) l.scope.named
       ≡ named_by_all (shape_of l.known) (statements_in l.known (block_of l.statements)) l.initial.scope.named;

@@ -13,7 +13,7 @@ use Rattle.naga_scope.proofs.check.check_emit.Goals as goal
 pub loop-index-init : goal.loop-index-init
 loop-index-init c = record {
   check = refl;
-  behind = refl;
+  following = refl;
   named = refl;
   at = c.requires.at;
   kept = extends_refl _;
@@ -58,14 +58,14 @@ loop-index-preserved c =
     let rest = from (i + 1) (e - (i + 1)) in
     let more = range_more i e c.loop-index-test.true in
     let may = sym (c.in_ok-check_one.ensures.check ∙ ap (λ h. check_emitted n.function s number h) c.from_index.ensures) in
-    let behind = c.in_ok-check_one.ensures.after refl ∙ ap (λ h. after_one n k h s) c.from_index.ensures in
+    let following = c.in_ok-check_one.ensures.after refl ∙ ap (λ h. after_one n k h s) c.from_index.ensures in
     let named = c.in_ok-check_one.ensures.named refl ∙ ap (λ h. named_after n.function h k) c.from_index.ensures in
     record {
-      check = (λ j. check_emit n (named j) number rest (behind j))
+      check = (λ j. check_emit n (named j) number rest (following j))
           ∙ sym (ap (λ hs. check_emit n k number hs s) more
           ∙ ap (λ r. result_and r (check_emit n (named_after n.function i k) number rest (after_one n k i s))) may)
           ∙ c.loop-index.invariant.check;
-      behind = (λ j. after_emit n (named j) rest (behind j)) ∙ sym (ap (λ hs. after_emit n k hs s) more) ∙ c.loop-index.invariant.behind;
+      following = (λ j. after_emit n (named j) rest (following j)) ∙ sym (ap (λ hs. after_emit n k hs s) more) ∙ c.loop-index.invariant.following;
       named = (λ j. named_after_all n.function rest (named j)) ∙ sym (ap (λ hs. named_after_all n.function hs k) more) ∙ c.loop-index.invariant.named;
       at = point_kept c.loop-index.invariant.at c.check_one.ensures.kept;
       kept = extends_then c.loop-index.invariant.kept c.check_one.ensures.kept;

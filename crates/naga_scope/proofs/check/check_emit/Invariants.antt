@@ -10,7 +10,7 @@ abbrev pub invariant-loop-index : goal.invariant-loop-index
 invariant-loop-index l = record {
   check : check_emit (naming_of l.known) l.scope.named l.number (from l.index (l.fn.range.end - l.index)) (handles_at l.scope)
       ≡ check_emit (naming_of l.known) l.initial.scope.named l.number (from l.fn.range.first (l.fn.range.end - l.fn.range.first)) (handles_at l.initial.scope);
-  behind : after_emit (naming_of l.known) l.scope.named (from l.index (l.fn.range.end - l.index)) (handles_at l.scope)
+  following : after_emit (naming_of l.known) l.scope.named (from l.index (l.fn.range.end - l.index)) (handles_at l.scope)
       ≡ after_emit (naming_of l.known) l.initial.scope.named (from l.fn.range.first (l.fn.range.end - l.fn.range.first)) (handles_at l.initial.scope);
   named : named_after_all (shape_of l.known) (from l.index (l.fn.range.end - l.index)) l.scope.named
       ≡ named_after_all (shape_of l.known) (from l.fn.range.first (l.fn.range.end - l.fn.range.first)) l.initial.scope.named;

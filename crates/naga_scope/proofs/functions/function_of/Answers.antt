@@ -1,7 +1,7 @@
 use Rattle.std.proofs.Common.{◌≡◌, ◌<◌, ap, arith, length, slice_get, subst, sym, ◌+◌, ◌∙◌}
 use Rattle.std.proofs.lemmas.Option.{slice_get_read}
 use Rattle.naga_form.proofs.statements.AcceptedFunctions.{entry_points_counted, functions_counted}
-use Rattle.module_meaning.proofs.FunctionNumbers.{behind_left, entry_point_among, function_among}
+use Rattle.module_meaning.proofs.FunctionNumbers.{after_left, entry_point_among, function_among}
 use Rattle.module_meaning.proofs.FunctionNumbers.{info_among}
 use Rattle.module_meaning.specs.FunctionNumbers.{IsFunctionOf, all_functions, all_infos}
 use Rattle.module_meaning.specs.FunctionNumbers.{function_number}
@@ -54,6 +54,6 @@ returns-in-EntryPoint c =
       known = ap (λ ty. slice_get (all_infos info) (function_number m ty)) c.in-EntryPoint.is
           ∙ (ap (λ n. slice_get (all_infos info) (n + index))
           (functions_counted m info c.requires.accepted)
-          ∙ behind_left info.functions.items info.entry_points.items index es
+          ∙ after_left info.functions.items info.entry_points.items index es
           c.get_entry_point.ensures);
     }

@@ -2,7 +2,7 @@ use Rattle.std.proofs.Common.{ℕ, List, ap, ap₂, map, sym, ◌∙◌}
 use Rattle.naga_ir.specs.declared.module.FunctionArgument.{FunctionArgument}
 use Rattle.std.specs.List.{find}
 use Rattle.std.specs.Option.{option_map, option_or, option_to_list}
-use Rattle.naga_scope.specs.SpelledTypes.{is_formless}
+use Rattle.naga_scope.specs.SpelledTypes.{is_unsupported}
 use Rattle.naga_scope.proofs.SpelledTypes.{parted}
 use Rattle.naga_scope.proofs.spelled.declared_without_form.Goals as goal
 
@@ -12,7 +12,7 @@ types_of xs = map (λ a. a.ty) xs
 pub returns-in-Some : goal.returns-in-Some
 returns-in-Some c =
     let f = c.args.function.now in
-    let p = is_formless c.args.module.now in
+    let p = is_unsupported c.args.module.now in
     sym
     (parted c.args.module.now f
     ∙ ap
@@ -25,7 +25,7 @@ returns-in-Some c =
 pub returns-in-Some-answer_without_form : goal.returns-in-Some-answer_without_form
 returns-in-Some-answer_without_form c =
     let f = c.args.function.now in
-    let p = is_formless c.args.module.now in
+    let p = is_unsupported c.args.module.now in
     sym
     (parted c.args.module.now f
     ∙ ap₂ (λ o q. option_or o (option_or q (find p (map (λ l. l.ty) f.local_variables))))
@@ -36,7 +36,7 @@ returns-in-Some-answer_without_form c =
 pub returns : goal.returns
 returns c =
     let f = c.args.function.now in
-    let p = is_formless c.args.module.now in
+    let p = is_unsupported c.args.module.now in
     c.local_without_form.ensures
     ∙ sym
     (parted c.args.module.now f

@@ -5,13 +5,13 @@ use Rattle.naga_scope.proofs.InOrder.{first_tree}
 use Rattle.naga_scope.proofs.SpelledTypes.{found_first, not_first}
 use Rattle.naga_scope.specs.InOrder.{own_lets, trees_of}
 use Rattle.naga_scope.specs.KnownFunctions.{bound_in}
-use Rattle.naga_scope.specs.SpelledTypes.{is_formless_let}
+use Rattle.naga_scope.specs.SpelledTypes.{is_unsupported_let}
 use Rattle.naga_scope.proofs.spelled.let_without_form.Goals as goal
 
 pub returns-in-Some : goal.returns-in-Some
 returns-in-Some c =
     let known = c.args.known.now in
-    let p = is_formless_let known.shader.now known.info.now in
+    let p = is_unsupported_let known.shader.now known.info.now in
     let own = own_lets (bound_in known) in
     let ss = c.args.statements.now in
     let i = c.loop-statement.statement-index in
@@ -23,7 +23,7 @@ returns-in-Some c =
 pub loop-statement-preserved : goal.loop-statement-preserved
 loop-statement-preserved c =
     let known = c.args.known.now in
-    let p = is_formless_let known.shader.now known.info.now in
+    let p = is_unsupported_let known.shader.now known.info.now in
     let own = own_lets (bound_in known) in
     let ss = c.args.statements.now in
     let i = c.loop-statement.statement-index in

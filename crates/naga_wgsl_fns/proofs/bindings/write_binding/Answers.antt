@@ -12,5 +12,5 @@ returns-in-Ok g c =
 pub returns-in-Err : goal.returns-in-Err
 returns-in-Err g c =
     binding_refused c.args.binding.now (g.W.TextSink.text c.args.out.now)
-    (g.W.TextSink.failures c.args.out.now) c.in-Err.error c.in-Err.ensures.formless
+    (g.W.TextSink.failures c.args.out.now) c.in-Err.error c.in-Err.ensures.unsupported
     c.in-Err.ensures.named

@@ -1,5 +1,5 @@
 use Rattle.std.proofs.Common.{◌≡◌, ◌∙◌, Some, arith, ap, subst}
-use Rattle.naga_words.proofs.Writing.{content_begun_as, content_whole_as, never_formless}
+use Rattle.naga_words.proofs.Writing.{content_begun_as, content_whole_as, never_unsupported}
 use Rattle.naga_words.proofs.Writing.{reason_known}
 use Rattle.naga_words.proofs.Writing.{same_sink}
 use Rattle.naga_wgsl_fns.specs.Errors.{IsWant}
@@ -31,5 +31,5 @@ returns-in-Err-clause-reason g c =
 
 pub error_of_want-requires : goal.error_of_want-requires
 error_of_want-requires g c is =
-    never_formless _ _ _ c.write_attributes.ensures c.new-written.ensures.want
+    never_unsupported _ _ _ c.write_attributes.ensures c.new-written.ensures.want
     (c.in-Err.ensures.wanting ∙ ap Some is)

@@ -5,7 +5,7 @@ use Rattle.naga_scope.specs.Availabilities.{TextPoint, handles_of}
 use Rattle.naga_scope.specs.Changes.{block_changes}
 use Rattle.naga_scope.specs.Log.{HasRoom}
 use Rattle.module_meaning.specs.FunctionNumbers.{function_number}
-use Rattle.naga_words.proofs.Writing.{content_begun_as, content_whole_as, never_formless}
+use Rattle.naga_words.proofs.Writing.{content_begun_as, content_whole_as, never_unsupported}
 use Rattle.naga_words.proofs.Writing.{reason_known}
 use Rattle.naga_words.proofs.Writing.{same_sink, writes_as}
 use Rattle.naga_scope.proofs.Planned.{plan_found}
@@ -82,5 +82,5 @@ returns-clause-reason g c =
 
 pub error_of_want-requires : goal.error_of_want-requires
 error_of_want-requires g c is =
-    never_formless _ _ _ c.write_item.ensures c.new-written.ensures.want
+    never_unsupported _ _ _ c.write_item.ensures c.new-written.ensures.want
     (c.in-Err.ensures.wanting ∙ ap Some is)

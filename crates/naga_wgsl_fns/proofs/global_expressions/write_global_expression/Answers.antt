@@ -45,7 +45,7 @@ global_without_form-requires g c = record {
       globals_in_order c.args.«module».now c.requires.accepted.0 c.requires.accepted.1;
   tables = c.in_ok-tables.ensures;
   there = c.requires.there;
-  formless = sym c.is_written.ensures ∙ c.if-is_written.false;
+  unsupported = sym c.is_written.ensures ∙ c.if-is_written.false;
 }
 
 pub returns : goal.returns

@@ -20,8 +20,8 @@ construct_of_plan-requires-clause-known c =
     (known_is_fit m c.args.info.now c.requires.accepted (function_number c.args.«module».now c.args.ty.now) c.function_of.result.1.now
     c.function_of.ensures.known h k at)
 
-pub construct_of_plan-requires-clause-formless : goal.construct_of_plan-requires-clause-formless
-construct_of_plan-requires-clause-formless c =
+pub construct_of_plan-requires-clause-unsupported : goal.construct_of_plan-requires-clause-unsupported
+construct_of_plan-requires-clause-unsupported c =
     is_of_plan c.annotates_types.result c.args.«module».now c.args.info.now c.requires.accepted
     (function_number c.args.«module».now c.args.ty.now) c.function_of.result.0.now c.function_of.ensures.function c.function_of.result.1.now c.function_of.ensures.known
     _ c.in-Err.error c.in-Err.ensures.err

@@ -1,6 +1,6 @@
 use Rattle.std.proofs.Common.{◌≡◌, ◌∙◌, Some, ap, arith, subst}
 use Rattle.naga_words.proofs.Writing.{content_begun_as, content_whole_as, never_failed}
-use Rattle.naga_words.proofs.Writing.{never_formless, reason_known, same_sink}
+use Rattle.naga_words.proofs.Writing.{never_unsupported, reason_known, same_sink}
 use Rattle.naga_wgsl_fns.specs.Errors.{IsWant}
 use Rattle.naga_wgsl_fns.proofs.FunctionRows.{reason_reported}
 use Rattle.naga_wgsl_out.proofs.declarations.write_declarations.Goals as goal
@@ -26,7 +26,7 @@ returns-in-Err g c =
     c.error_of_want.result reason c.error_of_want.ensures in
     let before = ap (λ s. g.W.TextSink.failures s) c.new-written.ensures.content in
     record {
-      behind =
+      following =
           content_begun_as _ _ _ _ _ _ (grind arith) (grind arith) c.write_all.ensures
           c.new-written.ensures.want c.in-Err.ensures.wanting;
       reason = subst (λ n. IsWant (g.W.TextSink.failures c.args.out.now) n c.error_of_want.result) (grind arith)
@@ -35,7 +35,7 @@ returns-in-Err g c =
 
 pub error_of_want-requires : goal.error_of_want-requires
 error_of_want-requires g c is =
-    never_formless _ _ _ c.write_all.ensures c.new-written.ensures.want
+    never_unsupported _ _ _ c.write_all.ensures c.new-written.ensures.want
     (c.in-Err.ensures.wanting ∙ ap Some is)
 
 pub write_all-requires : goal.write_all-requires

@@ -2,7 +2,7 @@ use Rattle.std.proofs.Common.{◌≡◌, ◌∙◌, Some, ap, arith, subst}
 use Rattle.module_meaning.specs.Enables.{is_enabled}
 use Rattle.naga_back.specs.Flags.{is_portable}
 use Rattle.naga_words.proofs.Writing.{content_begun_as, content_whole_as, never_failed}
-use Rattle.naga_words.proofs.Writing.{never_formless, reason_known, same_sink, writes_as}
+use Rattle.naga_words.proofs.Writing.{never_unsupported, reason_known, same_sink, writes_as}
 use Rattle.naga_wgsl_fns.specs.Errors.{IsWant}
 use Rattle.naga_wgsl_fns.proofs.FunctionRows.{reason_reported}
 use Rattle.naga_wgsl_out.specs.Enables.{enables_text, words_among, words_found}
@@ -36,7 +36,7 @@ returns-in-Err g c =
     c.error_of_want.result reason c.error_of_want.ensures in
     let before = ap (λ s. g.W.TextSink.failures s) c.new-written.ensures.content in
     record {
-      behind =
+      following =
           content_begun_as _ _ _ _ _ _ (grind arith) (grind arith) (writes_as text_is c.write.ensures)
           c.new-written.ensures.want c.in-Err.ensures.wanting;
       reason = subst (λ n. IsWant (g.W.TextSink.failures c.args.out.now) n c.error_of_want.result) (grind arith)
@@ -45,5 +45,5 @@ returns-in-Err g c =
 
 pub error_of_want-requires : goal.error_of_want-requires
 error_of_want-requires g c is =
-    never_formless _ _ _ c.write.ensures c.new-written.ensures.want
+    never_unsupported _ _ _ c.write.ensures c.new-written.ensures.want
     (c.in-Err.ensures.wanting ∙ ap Some is)

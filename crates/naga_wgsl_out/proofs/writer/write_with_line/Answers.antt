@@ -5,11 +5,11 @@ use Rattle.naga_back.specs.declared.flags.WriterFlags.{WriterFlags}
 use Rattle.naga_info.specs.declared.info.ModuleInfo.{ModuleInfo}
 use Rattle.naga_ir.specs.declared.module.Module.{Module}
 use Rattle.naga_scope.specs.Plans.{AreExpressionNames, Planned}
-use Rattle.naga_words.specs.Sink.{IsBehind}
+use Rattle.naga_words.specs.Sink.{IsAfter}
 use Rattle.naga_wgsl_fns.specs.Functions.{names_of, text_of_function, text_under}
 use Rattle.naga_wgsl_fns.proofs.Appending.{appends_stopped, appends_then, stopped_first}
 use Rattle.naga_wgsl_fns.specs.Appends.{Appends}
-use Rattle.naga_wgsl_out.specs.Writing.{line_behind}
+use Rattle.naga_wgsl_out.specs.Writing.{line_after}
 use Rattle.naga_wgsl_out.proofs.writer.write_with_line.Goals as goal
 
 -- a function's text under the names that its plan has is that in the text of the whole module
@@ -28,8 +28,8 @@ returns-in_err-write_planned g c =
     let number = function_number c.args.«module».now c.args.ty.now in
     appends_stopped c.from_residual.result c.from_residual.ensures.1
     (stopped_first _ (record {
-      behind =
-          subst (λ t. IsBehind (g.W.TextSink.text c.args.out.now) t (g.W.TextSink.text c.write_planned.new.out))
+      following =
+          subst (λ t. IsAfter (g.W.TextSink.text c.args.out.now) t (g.W.TextSink.text c.write_planned.new.out))
           (named_text c.args.«module».now c.args.info.now c.args.flags number c.args.plan c.requires.named)
           c.in_err-write_planned.ensures.text_err;
       reason = c.in_err-write_planned.ensures.reason;
@@ -50,5 +50,5 @@ returns g c =
     (λ t. Appends c.put.result (g.W.TextSink.text c.write_planned.new.out)
     (g.W.TextSink.failures c.write_planned.new.out) t (g.W.TextSink.text c.put.new.out)
     (g.W.TextSink.failures c.put.new.out))
-    (c.line_behind.ensures
-    ∙ ap (line_behind m) (sym (one_type m c.args.ty.now c.requires.there))) c.put.ensures)
+    (c.line_after.ensures
+    ∙ ap (line_after m) (sym (one_type m c.args.ty.now c.requires.there))) c.put.ensures)

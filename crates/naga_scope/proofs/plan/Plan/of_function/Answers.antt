@@ -1,4 +1,5 @@
-use Rattle.std.proofs.Common.{◌+◌, ◌<◌, ◌^◌, ◌≡◌, ◌∙◌, List, ℕ, arith, length, map, string_bytes, ap}
+use Rattle.std.proofs.Common.{◌+◌, ◌<◌, ◌^◌, ◌≡◌, ◌∙◌, List, ℕ, arith, length, map, string_bytes}
+use Rattle.std.proofs.Common.{ap}
 use Rattle.std.proofs.Common.{[], None, Option, subst, sym}
 use Rattle.std.proofs.lemmas.List.{length-map}
 use Rattle.std.specs.Borrow.{Bor}
@@ -17,17 +18,19 @@ use Rattle.naga_names.specs.declared.error.NamerError.{NamerError}
 use Rattle.naga_scope.specs.Availabilities.{KeepsStart}
 use Rattle.naga_scope.specs.Changes.{block_changes}
 use Rattle.naga_scope.specs.ExpressionNames.{HasBegunLabels, NamesLabels, RefusesLabels}
-use Rattle.naga_scope.specs.FormlessStatements.{FindsFormless}
-use Rattle.naga_scope.specs.InOrder.{own_changes, own_labels, own_lets, roots_with, trees_in, trees_of}
+use Rattle.naga_scope.specs.UnsupportedStatements.{FindsUnsupported}
+use Rattle.naga_scope.specs.InOrder.{own_changes, own_labels, own_lets, roots_with, trees_in}
+use Rattle.naga_scope.specs.InOrder.{trees_of}
 use Rattle.naga_scope.specs.KnownFunctions.{bound_in, expressions_of, has_form_in, shape_of}
 use Rattle.naga_scope.specs.Log.{HasRoom}
 use Rattle.naga_scope.specs.Marks.{Sweeps, is_one_of}
 use Rattle.naga_scope.specs.Plans.{IsFirstToPlanFor, IsRefusalToPlanFor}
-use Rattle.naga_scope.specs.SpelledTypes.{annotated_formless, is_formless_let}
+use Rattle.naga_scope.specs.SpelledTypes.{annotated_unsupported, is_unsupported_let}
 use Rattle.naga_scope.specs.declared.known_function.KnownFunction.{KnownFunction}
 use Rattle.naga_scope.specs.declared.plan.PlanError.TheVariants.{OutOfScope, Unnamed}
 use Rattle.naga_scope.proofs.ExpressionNames.{named_begun, none_full, refused_begun}
-use Rattle.naga_scope.proofs.FormedStatements.{found_before, found_lacks, none_formless, none_found, one_found}
+use Rattle.naga_scope.proofs.FormedStatements.{found_before, found_lacks, none_unsupported}
+use Rattle.naga_scope.proofs.FormedStatements.{none_found, one_found}
 use Rattle.naga_scope.proofs.InOrder.{changes_in_order, labels_in_order, lets_in_order, same_roots}
 use Rattle.naga_scope.proofs.Planned.{checked_fault, checked_holds}
 use Rattle.naga_scope.proofs.SpelledTypes.{declared_lacks, let_lacks, spelled_formed}
@@ -65,10 +68,10 @@ module _ (k : KnownFunction) (sts : List StatementTree) (trees : sts ≡ trees_i
       (sweeps_by (expressions_of k) (has_form_in k) (roots_with (bound_in k) k.function.now sts) roots same found swept)
 
   annotated_all : (explicit : Bool) (found other : Option ℕ) →
-      found ≡ (if explicit then find (is_formless_let k.shader.now k.info.now) (flat_map (own_lets (bound_in k)) sts) else None) →
-      found ≡ other → annotated_formless explicit k.shader.now k.info.now (bound_in k) k.function.now ≡ other
+      found ≡ (if explicit then find (is_unsupported_let k.shader.now k.info.now) (flat_map (own_lets (bound_in k)) sts) else None) →
+      found ≡ other → annotated_unsupported explicit k.shader.now k.info.now (bound_in k) k.function.now ≡ other
   annotated_all explicit found other ensures is =
-      sym (ensures ∙ ap (λ hs. if explicit then find (is_formless_let k.shader.now k.info.now) hs else None)
+      sym (ensures ∙ ap (λ hs. if explicit then find (is_unsupported_let k.shader.now k.info.now) hs else None)
       (ap (flat_map (own_lets (bound_in k))) trees ∙ lets_in_order (bound_in k) k.function.now.body)) ∙ is
 
 few_trees : (ss items : List (Bor Statement)) → ss ≡ items → length items < 2 ^ 64 → length (trees_of ss) < 2 ^ 64
@@ -129,7 +132,7 @@ returns-clause-ok c =
     let f = k.function.now in
     let sts = trees_of c.as_slice-statements.result.now in
     let trees = ap trees_of c.as_slice-statements.ensures.value ∙ c.in_ok-found.ensures in
-    let no_formless = none_found sts f.body trees (subst (FindsFormless sts) c.in_default-formless_statement.is c.formless_statement.ensures) in
+    let no_unsupported = none_found sts f.body trees (subst (FindsUnsupported sts) c.in_default-unsupported_statement.is c.unsupported_statement.ensures) in
     let none_declared = sym c.declared_without_form.ensures ∙ c.in_default-declared_without_form.is in
     let none_annotated = annotated_all k sts trees c.args.explicit _ _ c.annotated_without_form.ensures c.in_default-annotated_without_form.is in
     let kept = c.check_function.ensures.kept in
@@ -148,32 +151,32 @@ returns-clause-ok c =
       };
       formed = record {
         expressions = swept_all k sts trees _ _ c.in_default-2.is c.in_ok-handle.ensures;
-        statements = none_formless f.body no_formless;
+        statements = none_unsupported f.body no_unsupported;
         types = spelled_formed c.args.explicit m k.module_info.now f k.info.now none_declared none_annotated;
       };
     }
 
-pub returns-in-Some-formless_statement-clause-err : goal.returns-in-Some-formless_statement-clause-err
-returns-in-Some-formless_statement-clause-err c =
+pub returns-in-Some-unsupported_statement-clause-err : goal.returns-in-Some-unsupported_statement-clause-err
+returns-in-Some-unsupported_statement-clause-err c =
     let f = c.args.known.now.function.now in
     let ss = c.as_slice-statements.result.now in
     let trees = ap trees_of c.as_slice-statements.ensures.value ∙ c.in_ok-found.ensures in
-    let number = c.in-Some-formless_statement.number in
-    let formless = c.in-Some-formless_statement.formless in
-    let found = subst (FindsFormless (trees_of ss)) c.in-Some-formless_statement.is c.formless_statement.ensures in
+    let number = c.in-Some-unsupported_statement.number in
+    let unsupported = c.in-Some-unsupported_statement.unsupported in
+    let found = subst (FindsUnsupported (trees_of ss)) c.in-Some-unsupported_statement.is c.unsupported_statement.ensures in
     let few = few_trees ss c.in_ok-found.found.items c.as_slice-statements.ensures.value (omega (arith, c.in_ok-found.found.ok.0, c.in_ok-found.found.small)) in
-    (one_found (trees_of ss) f.body trees number formless found, found_lacks (trees_of ss) f.body trees number formless found few)
+    (one_found (trees_of ss) f.body trees number unsupported found, found_lacks (trees_of ss) f.body trees number unsupported found few)
 
-pub returns-in-Some-formless_statement-clause-first : goal.returns-in-Some-formless_statement-clause-first
-returns-in-Some-formless_statement-clause-first c =
+pub returns-in-Some-unsupported_statement-clause-first : goal.returns-in-Some-unsupported_statement-clause-first
+returns-in-Some-unsupported_statement-clause-first c =
     let k = c.args.known.now in
     let f = k.function.now in
     let sts = trees_of c.as_slice-statements.result.now in
     let trees = ap trees_of c.as_slice-statements.ensures.value ∙ c.in_ok-found.ensures in
-    let found = subst (FindsFormless sts) c.in-Some-formless_statement.is c.formless_statement.ensures in (
+    let found = subst (FindsUnsupported sts) c.in-Some-unsupported_statement.is c.unsupported_statement.ensures in (
       none_full (named_all k sts trees c.in_ok-named.ensures.ok),
       checked_holds k.shader.now k.module_info.now f k.info.now c.requires.ordered (sym c.in_ok-check_function.ensures.check),
-      found_before sts f.body trees c.in-Some-formless_statement.number c.in-Some-formless_statement.formless found,
+      found_before sts f.body trees c.in-Some-unsupported_statement.number c.in-Some-unsupported_statement.unsupported found,
     )
 
 pub returns-in-Some-2-clause-err : goal.returns-in-Some-2-clause-err
@@ -191,7 +194,7 @@ returns-in-Some-2-clause-first c =
     let swept = swept_all k sts trees _ _ c.in-Some-2.is c.in_ok-handle.ensures in (
       none_full (named_all k sts trees c.in_ok-named.ensures.ok),
       checked_holds k.shader.now k.module_info.now f k.info.now c.requires.ordered (sym c.in_ok-check_function.ensures.check),
-      none_formless f.body (none_found sts f.body trees (subst (FindsFormless sts) c.in_default-formless_statement.is c.formless_statement.ensures)),
+      none_unsupported f.body (none_found sts f.body trees (subst (FindsUnsupported sts) c.in_default-unsupported_statement.is c.unsupported_statement.ensures)),
       swept.2,
     )
 
@@ -204,7 +207,7 @@ returns-in-Some-declared_without_form-clause-first c =
       none_full (named_all k sts trees c.in_ok-named.ensures.ok),
       (
         checked_holds k.shader.now k.module_info.now f k.info.now c.requires.ordered (sym c.in_ok-check_function.ensures.check),
-        none_formless f.body (none_found sts f.body trees (subst (FindsFormless sts) c.in_default-formless_statement.is c.formless_statement.ensures)),
+        none_unsupported f.body (none_found sts f.body trees (subst (FindsUnsupported sts) c.in_default-unsupported_statement.is c.unsupported_statement.ensures)),
         swept_all k sts trees _ _ c.in_default-2.is c.in_ok-handle.ensures,
       ),
       sym c.declared_without_form.ensures ∙ c.in-Some-declared_without_form.is,
@@ -219,7 +222,7 @@ returns-in-Some-annotated_without_form-clause-first c =
       none_full (named_all k sts trees c.in_ok-named.ensures.ok),
       (
         checked_holds k.shader.now k.module_info.now f k.info.now c.requires.ordered (sym c.in_ok-check_function.ensures.check),
-        none_formless f.body (none_found sts f.body trees (subst (FindsFormless sts) c.in_default-formless_statement.is c.formless_statement.ensures)),
+        none_unsupported f.body (none_found sts f.body trees (subst (FindsUnsupported sts) c.in_default-unsupported_statement.is c.unsupported_statement.ensures)),
         swept_all k sts trees _ _ c.in_default-2.is c.in_ok-handle.ensures,
       ),
       sym c.declared_without_form.ensures ∙ c.in_default-declared_without_form.is,
@@ -259,8 +262,8 @@ pub returns-in_default-clause-begun : goal.returns-in_default-clause-begun
 returns-in_default-clause-begun c =
     begun_all c.args.known.now _ (ap trees_of c.as_slice-statements.ensures.value ∙ c.in_ok-found.ensures) c.in_ok-named.ensures.ok
 
-pub returns-in-Some-formless_statement-clause-begun : goal.returns-in-Some-formless_statement-clause-begun
-returns-in-Some-formless_statement-clause-begun c =
+pub returns-in-Some-unsupported_statement-clause-begun : goal.returns-in-Some-unsupported_statement-clause-begun
+returns-in-Some-unsupported_statement-clause-begun c =
     begun_all c.args.known.now _ (ap trees_of c.as_slice-statements.ensures.value ∙ c.in_ok-found.ensures) c.in_ok-named.ensures.ok
 
 pub returns-in-Some-2-clause-begun : goal.returns-in-Some-2-clause-begun

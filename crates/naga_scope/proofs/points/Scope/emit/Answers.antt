@@ -19,7 +19,7 @@ returns-clause-kept c =
       log = take c.self.inside.used c.self.inside.log.items;
       room = length c.self.inside.log.items;
     } in
-    subst (λ (p : TextPoint). Extends p c.stand.new.self) c.self.view_is (extends_named point c.named_behind-self-inside.result c.stand.new.self c.stand.ensures.kept)
+    subst (λ (p : TextPoint). Extends p c.stand.new.self) c.self.view_is (extends_named point c.named_following-self-inside.result c.stand.new.self c.stand.ensures.kept)
 
 pub returns-clause-handles : goal.returns-clause-handles
 returns-clause-handles c names m known named g same_types =

@@ -12,7 +12,7 @@ use Rattle.std.specs.Option.{is_some}
 use Rattle.module_meaning.specs.ExpressionLabels.{label_of}
 use Rattle.naga_scope.specs.Availabilities.{handles_of, emitted_availability, is_pure_kind}
 use Rattle.naga_scope.specs.Availabilities.{next_name, unbound_availability}
-use Rattle.naga_scope.proofs.Shaped.{pure_at, pure_operands}
+use Rattle.naga_scope.proofs.ShapeKinds.{pure_at, pure_operands}
 use Rattle.naga_scope.proofs.points.Scope.emitted.Goals as goal
 
 pub returns-then-binds-clause-emitted : goal.returns-then-binds-clause-emitted

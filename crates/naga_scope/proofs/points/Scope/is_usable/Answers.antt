@@ -1,7 +1,7 @@
 use Rattle.std.proofs.Common.{ap₂, sym, ◌∙◌}
 use Rattle.module_meaning.specs.Names.{numbered_name}
 use Rattle.naga_scope.specs.Availabilities.{handles_of, availability_of, usable_by}
-use Rattle.naga_scope.proofs.Shaped.{usable_is}
+use Rattle.naga_scope.proofs.ShapeKinds.{usable_is}
 use Rattle.naga_scope.proofs.points.Scope.is_usable.Goals as goal
 
 pub returns : goal.returns

@@ -10,11 +10,11 @@ use Rattle.module_meaning.specs.Sampling.{sampling_is_written}
 use Rattle.naga_ir.specs.Operands.{level_operands}
 use Rattle.naga_wgsl_fns.proofs.ImageRows.{furthers_none, furthers_one, furthers_two, no_offset}
 use Rattle.naga_wgsl_fns.proofs.ImageRows.{offset_row, sampling_whole}
-use Rattle.naga_wgsl_fns.proofs.Wanted.{all_in_text, highest_below, sampled_in}
+use Rattle.naga_wgsl_fns.proofs.Preconditions.{all_in_text, highest_below, sampled_in}
 use Rattle.naga_wgsl_fns.proofs.ModuleTexts.{can_in}
 use Rattle.naga_wgsl_fns.proofs.VariableRows.{handle_variable_reference, kept_reference}
-use Rattle.naga_wgsl_fns.proofs.Wanted.{global_within, offset_has_form}
-use Rattle.naga_wgsl_fns.proofs.Wanted.{override_within}
+use Rattle.naga_wgsl_fns.proofs.Preconditions.{global_within, offset_has_form}
+use Rattle.naga_wgsl_fns.proofs.Preconditions.{override_within}
 use Rattle.naga_wgsl_fns.specs.Names.{name_of_override}
 use Rattle.naga_wgsl_fns.specs.Expressions.{next_operand_text}
 use Rattle.naga_wgsl_fns.specs.FunctionText.{AreInText, expressions}
@@ -26,15 +26,16 @@ use Rattle.naga_wgsl_fns.proofs.PartRows.{base_pointed, base_signed, base_unpoin
 use Rattle.naga_wgsl_fns.proofs.PartRows.{element_end, plain_row, reference_pointed}
 use Rattle.naga_wgsl_fns.proofs.PartRows.{reference_unpointed, selected_end, value_pointed}
 use Rattle.naga_wgsl_fns.proofs.PartRows.{value_unpointed}
-use Rattle.naga_wgsl_fns.proofs.Wanted.{base_in, known_within_infos, no_other_part, part_is_written}
+use Rattle.naga_wgsl_fns.proofs.Preconditions.{base_in, known_within_infos, no_other_part}
+use Rattle.naga_wgsl_fns.proofs.Preconditions.{part_is_written}
 use Rattle.naga_wgsl_fns.specs.Expressions.{operands_left, operands_text}
 use Rattle.naga_wgsl_fns.proofs.ExpressionRows.{operands_more, operands_none, operands_start}
 use Rattle.naga_wgsl_fns.proofs.ExpressionRows.{no_value_row, own_at, own_called, own_made, own_row}
 use Rattle.naga_wgsl_fns.proofs.ConversionRows.{conversion_row, own_conversion}
-use Rattle.naga_wgsl_fns.proofs.Wanted.{IsOperand, argument_within, local_within}
-use Rattle.naga_wgsl_fns.proofs.Wanted.{made_value, operands_in}
+use Rattle.naga_wgsl_fns.proofs.Preconditions.{IsOperand, argument_within, local_within}
+use Rattle.naga_wgsl_fns.proofs.Preconditions.{made_value, operands_in}
 use Rattle.naga_wgsl_fns.proofs.LoadRows.{atomic_loaded, matrix_row, other_loaded, own_matrix_load}
-use Rattle.naga_wgsl_fns.proofs.Wanted.{written_as}
+use Rattle.naga_wgsl_fns.proofs.Preconditions.{written_as}
 use Rattle.naga_wgsl_fns.proofs.functions.FunctionText.+expression.Goals as goal
 
 pub write_own-write_literal-requires : goal.write_own-write_literal-requires
@@ -316,27 +317,27 @@ write_base-returns-else-is_signed g t c =
     (sym c.if-is_signed.false ∙ c.is_signed.ensures))
     c.write_value.ensures
 
-pub write_part_value-points-requires-clause-handle : goal.write_part_value-points-requires-clause-handle
-write_part_value-points-requires-clause-handle g t c =
+pub write_part_value-is_pointer-requires-clause-handle : goal.write_part_value-is_pointer-requires-clause-handle
+write_part_value-is_pointer-requires-clause-handle g t c =
     let base = base_in c.args.self.now c.requires.can c.args.handle c.args.base c.requires.part c.requires.handle in
     known_within_infos c.args.self.now c.requires.can c.args.base base.1.there
 
-pub write_part_value-returns-then-points : goal.write_part_value-returns-then-points
-write_part_value-returns-then-points g t c =
+pub write_part_value-returns-then-is_pointer : goal.write_part_value-returns-then-is_pointer
+write_part_value-returns-then-is_pointer g t c =
     writes_as
     (value_pointed c.args.self.now c.args.scope.now.table c.args.handle c.args.base
-    (sym c.points.ensures ∙ c.if-points.true))
+    (sym c.is_pointer.ensures ∙ c.if-is_pointer.true))
     c.write_part_address.ensures
 
-pub write_part_value-returns-else-points : goal.write_part_value-returns-else-points
-write_part_value-returns-else-points g t c =
+pub write_part_value-returns-else-is_pointer : goal.write_part_value-returns-else-is_pointer
+write_part_value-returns-else-is_pointer g t c =
     writes_as
     (value_unpointed c.args.self.now c.args.scope.now.table c.args.handle c.args.base
-    (sym c.points.ensures ∙ c.if-points.false))
+    (sym c.is_pointer.ensures ∙ c.if-is_pointer.false))
     c.write_part.ensures
 
-pub write_part_reference-points-requires-clause-handle : goal.write_part_reference-points-requires-clause-handle
-write_part_reference-points-requires-clause-handle g t c =
+pub write_part_reference-is_pointer-requires-clause-handle : goal.write_part_reference-is_pointer-requires-clause-handle
+write_part_reference-is_pointer-requires-clause-handle g t c =
     let base = base_in c.args.self.now c.requires.can c.args.handle c.args.base c.requires.part c.requires.handle in
     known_within_infos c.args.self.now c.requires.can c.args.base base.1.there
 
@@ -344,18 +345,18 @@ pub write_part_reference-write_dereference-requires : goal.write_part_reference-
 write_part_reference-write_dereference-requires g t c κs within =
     (omega (arith, c.decreases), (within, (c.requires.can, c.requires.handle)))
 
-pub write_part_reference-returns-then-points : goal.write_part_reference-returns-then-points
-write_part_reference-returns-then-points g t c =
+pub write_part_reference-returns-then-is_pointer : goal.write_part_reference-returns-then-is_pointer
+write_part_reference-returns-then-is_pointer g t c =
     writes_as
     (reference_pointed c.args.self.now c.args.scope.now.table c.args.handle c.args.base
-    (sym c.points.ensures ∙ c.if-points.true))
+    (sym c.is_pointer.ensures ∙ c.if-is_pointer.true))
     c.write_part.ensures
 
-pub write_part_reference-returns-else-points : goal.write_part_reference-returns-else-points
-write_part_reference-returns-else-points g t c =
+pub write_part_reference-returns-else-is_pointer : goal.write_part_reference-returns-else-is_pointer
+write_part_reference-returns-else-is_pointer g t c =
     writes_as
     (reference_unpointed c.args.self.now c.args.scope.now.table c.args.handle c.args.base
-    (sym c.points.ensures ∙ c.if-points.false))
+    (sym c.is_pointer.ensures ∙ c.if-is_pointer.false))
     c.write_dereference.ensures
 
 pub write_part-write_part_base-requires : goal.write_part-write_part_base-requires
@@ -373,18 +374,18 @@ write_part-returns g t c =
     c.requires.part))
     (writes_then c.write_part_base.ensures c.write_part_end.ensures)
 
-pub write_part_base-returns-then-points : goal.write_part_base-returns-then-points
-write_part_base-returns-then-points g t c =
+pub write_part_base-returns-then-is_pointer : goal.write_part_base-returns-then-is_pointer
+write_part_base-returns-then-is_pointer g t c =
     writes_as
     (base_pointed c.args.self.now c.args.scope.now.table c.args.base
-    (sym c.points.ensures ∙ c.if-points.true))
+    (sym c.is_pointer.ensures ∙ c.if-is_pointer.true))
     c.write_reference.ensures
 
-pub write_part_base-returns-else-points : goal.write_part_base-returns-else-points
-write_part_base-returns-else-points g t c =
+pub write_part_base-returns-else-is_pointer : goal.write_part_base-returns-else-is_pointer
+write_part_base-returns-else-is_pointer g t c =
     writes_as
     (base_unpointed c.args.self.now c.args.scope.now.table c.args.base
-    (sym c.points.ensures ∙ c.if-points.false))
+    (sym c.is_pointer.ensures ∙ c.if-is_pointer.false))
     c.write_base.ensures
 
 pub write_part_end-write_index-requires : goal.write_part_end-write_index-requires

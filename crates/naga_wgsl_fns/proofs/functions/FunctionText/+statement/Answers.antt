@@ -10,14 +10,18 @@ use Rattle.naga_scope.proofs.Turns.{body_leaves, body_named}
 use Rattle.naga_scope.specs.Changes.{block_changes, cases_changes}
 use Rattle.naga_words.proofs.Writing.{leaves_more, leaves_none, writes_as, writes_then}
 use Rattle.naga_wgsl_fns.specs.FunctionText.{CanWriteCases, context, handles_in, named_in, naming}
-use Rattle.naga_form.specs.Statements.{label_form}
+use Rattle.naga_form.specs.Statements.{case_value_form}
 use Rattle.naga_wgsl_fns.specs.Positions.{PassesBlock}
 use Rattle.naga_wgsl_fns.specs.declared.lines.Position.{Position}
-use Rattle.naga_wgsl_fns.specs.Statements.{after_statements, block_text, case_text, cases_text, last_text, line_start, named_behind, named_behind_cases, statement_text, turn_text}
+use Rattle.naga_wgsl_fns.specs.Statements.{after_statements, block_text, case_text, cases_text}
+use Rattle.naga_wgsl_fns.specs.Statements.{last_text, line_start, named_following}
+use Rattle.naga_wgsl_fns.specs.Statements.{named_after_cases, statement_text, turn_text}
 use Rattle.naga_wgsl_fns.proofs.ActRows.{control_row, memory_row}
 use Rattle.naga_wgsl_fns.proofs.LoopRows.{body_row, break_if_row, continuing_row}
-use Rattle.naga_wgsl_fns.proofs.StatementParts.{back_inside, case_inside, falling_is_empty, front_inside, others_inside, rest_at}
-use Rattle.naga_wgsl_fns.proofs.SwitchRows.{cases_more, cases_none, first_within, labels_between, switch_row}
+use Rattle.naga_wgsl_fns.proofs.StatementParts.{back_inside, case_inside, falling_is_empty}
+use Rattle.naga_wgsl_fns.proofs.StatementParts.{front_inside, others_inside, rest_at}
+use Rattle.naga_wgsl_fns.proofs.SwitchRows.{cases_more, cases_none, first_within}
+use Rattle.naga_wgsl_fns.proofs.SwitchRows.{case_values_between, switch_row}
 use Rattle.naga_ir.proofs.Listed.{first_of}
 use Rattle.naga_wgsl_fns.proofs.StatementRows.{lines_more}
 use Rattle.naga_wgsl_fns.proofs.functions.FunctionText.+statement.Goals as goal
@@ -38,9 +42,9 @@ write_lines-loop-statement-preserved g t c =
           items n x c.loop-statement-test.true c.statement-item.is c.write_statement.ensures.passed.named c.write_statement.ensures.after)
           (writes_as (ap (λ i. statement_text self k s i (tree_of x)) c.loop-statement.invariant.indent) c.write_statement.ensures.text);
       block = rest_at self items n x c.loop-statement-test.true c.statement-item.is c.loop-statement.invariant.block;
-      behind = (λ i. after_statements self (c.write_statement.ensures.passed.named i) rest (c.write_statement.ensures.after i))
-          ∙ (ap (λ b. after_statements self k b s) (sym next) ∙ c.loop-statement.invariant.behind);
-      named = ap (named_behind self rest) c.write_statement.ensures.passed.named ∙ (ap (λ b. named_behind self b k) (sym next) ∙ c.loop-statement.invariant.named);
+      following = (λ i. after_statements self (c.write_statement.ensures.passed.named i) rest (c.write_statement.ensures.after i))
+          ∙ (ap (λ b. after_statements self k b s) (sym next) ∙ c.loop-statement.invariant.following);
+      named = ap (named_following self rest) c.write_statement.ensures.passed.named ∙ (ap (λ b. named_following self b k) (sym next) ∙ c.loop-statement.invariant.named);
       kept = extends_then c.loop-statement.invariant.kept c.write_statement.ensures.kept;
       counted = omega (arith, ap block_changes next);
       names = omega (arith, ap block_changes next);
@@ -100,7 +104,7 @@ write_lines-returns-clause-passed g t c =
     let log = inv.counted in
     let names = inv.names in
     record {
-      named = ap (λ (ss : List Statement). named_behind self (block_of ss) k) (sym none) ∙ inv.named;
+      named = ap (λ (ss : List Statement). named_following self (block_of ss) k) (sym none) ∙ inv.named;
       counted = record { log = omega (arith, log); names = omega (arith, names) };
       indent = inv.indent;
     }
@@ -128,7 +132,7 @@ write_cases-returns-clause-passed g t c =
     let log = ap length inv.same.log in
     let names = inv.names in
     record {
-      named = ap (λ cs. named_behind_cases self cs c.loop-index.at.scope.named) (sym none) ∙ inv.named;
+      named = ap (λ cs. named_after_cases self cs c.loop-index.at.scope.named) (sym none) ∙ inv.named;
       counted = record { log = omega (arith, log); names = omega (arith, names) };
       indent = inv.indent;
     }
@@ -262,11 +266,11 @@ write_cases-loop-index-preserved g t c =
           (cases_more self k c.write_case.new.at.scope.named s c.args.at.now.indent c.loop-index.first c.first_waiting-first.result n items x inv.first
           c.loop-index-test.true c.index-cases-index.is c.first_waiting-first.ensures c.write_case.ensures.passed.named)
           (writes_as
-          (λ j. case_text self k (handles_in self (inv.same.table j)) (inv.indent j) (labels_between c.loop-index.first n items) (label_form x.value) x.fall_through x.body)
+          (λ j. case_text self k (handles_in self (inv.same.table j)) (inv.indent j) (case_values_between c.loop-index.first n items) (case_value_form x.value) x.fall_through x.body)
           c.write_case.ensures.text);
       cases = others_inside self x.value x.body x.fall_through rest (subst (CanWriteCases self) next inv.cases);
       first = first_within x.fall_through c.loop-index.first c.first_waiting-first.result n inv.first c.first_waiting-first.ensures;
-      named = ap (named_behind_cases self rest) c.write_case.ensures.passed.named ∙ (ap (λ cs. named_behind_cases self cs k) (sym next) ∙ inv.named);
+      named = ap (named_after_cases self rest) c.write_case.ensures.passed.named ∙ (ap (λ cs. named_after_cases self cs k) (sym next) ∙ inv.named);
       same = record {
         table = c.write_case.ensures.same.table ∙ inv.same.table;
         log = c.write_case.ensures.same.log ∙ inv.same.log;
@@ -285,7 +289,7 @@ write_cases-returns-clause-text g t c =
     let n = c.loop-index.index in
     let k = c.loop-index.at.scope.named in
     let s = handles_in self c.args.at.now.scope.table in
-    let labels = labels_between c.loop-index.first n items in
+    let labels = case_values_between c.loop-index.first n items in
     leaves_none _ _ _ _ c.loop-index.invariant.leaves
     (ap (cases_text self k s c.args.at.now.indent labels) (ap cases_of (drop_all n items c.loop-index-test.false)) ∙ cases_none self k s c.args.at.now.indent labels)
 

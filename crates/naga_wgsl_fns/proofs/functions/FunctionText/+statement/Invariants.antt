@@ -6,8 +6,9 @@ use Rattle.naga_scope.specs.Log.{Extends, Same}
 use Rattle.naga_words.specs.Output.{output_view}
 use Rattle.naga_words.proofs.Writing.{Leaves}
 use Rattle.naga_wgsl_fns.specs.FunctionText.{CanWriteBlock, CanWriteCases, handles_in}
-use Rattle.naga_wgsl_fns.specs.Statements.{after_statements, block_text, cases_text, named_behind, named_behind_cases}
-use Rattle.naga_wgsl_fns.proofs.SwitchRows.{labels_between}
+use Rattle.naga_wgsl_fns.specs.Statements.{after_statements, block_text, cases_text}
+use Rattle.naga_wgsl_fns.specs.Statements.{named_following, named_after_cases}
+use Rattle.naga_wgsl_fns.proofs.SwitchRows.{case_values_between}
 use Rattle.naga_wgsl_fns.proofs.functions.FunctionText.+statement.Given as goal
 
 -- Each call is of fewer statements and cases, or of as many and further down.
@@ -77,9 +78,9 @@ invariant-write_lines-loop-statement g l = record {
       (block_text l.self l.initial.at.scope.named (handles_in l.self l.initial.at.scope.table) l.initial.at.indent (block_of l.statements))
       (block_text l.self l.at.scope.named (handles_in l.self l.at.scope.table) l.initial.at.indent (block_of (drop l.statement-index l.statements)));
   block : CanWriteBlock l.self (block_of (drop l.statement-index l.statements));
-  behind : after_statements l.self l.at.scope.named (block_of (drop l.statement-index l.statements)) (handles_in l.self l.at.scope.table)
+  following : after_statements l.self l.at.scope.named (block_of (drop l.statement-index l.statements)) (handles_in l.self l.at.scope.table)
       ≡ after_statements l.self l.initial.at.scope.named (block_of l.statements) (handles_in l.self l.initial.at.scope.table);
-  named : named_behind l.self (block_of (drop l.statement-index l.statements)) l.at.scope.named ≡ named_behind l.self (block_of l.statements) l.initial.at.scope.named;
+  named : named_following l.self (block_of (drop l.statement-index l.statements)) l.at.scope.named ≡ named_following l.self (block_of l.statements) l.initial.at.scope.named;
   kept : Extends l.initial.at.scope l.at.scope;
   counted : length l.at.scope.log + block_changes (block_of (drop l.statement-index l.statements)) ≤ length l.initial.at.scope.log + block_changes (block_of l.statements);
   names : l.at.scope.named + block_changes (block_of (drop l.statement-index l.statements)) ≤ l.initial.at.scope.named + block_changes (block_of l.statements);
@@ -92,10 +93,10 @@ abbrev pub invariant-write_cases-loop-index : goal.invariant-write_cases-loop-in
 invariant-write_cases-loop-index g l = record {
   leaves : Leaves (output_view g.W.TextSink.text g.W.TextSink.failures l.initial.out) (output_view g.W.TextSink.text g.W.TextSink.failures l.out)
       (cases_text l.self l.initial.at.scope.named (handles_in l.self l.initial.at.scope.table) l.initial.at.indent [] (cases_of l.cases))
-      (cases_text l.self l.at.scope.named (handles_in l.self l.initial.at.scope.table) l.initial.at.indent (labels_between l.first l.index l.cases) (cases_of (drop l.index l.cases)));
+      (cases_text l.self l.at.scope.named (handles_in l.self l.initial.at.scope.table) l.initial.at.indent (case_values_between l.first l.index l.cases) (cases_of (drop l.index l.cases)));
   cases : CanWriteCases l.self (cases_of (drop l.index l.cases));
   first : l.first ≤ l.index;
-  named : named_behind_cases l.self (cases_of (drop l.index l.cases)) l.at.scope.named ≡ named_behind_cases l.self (cases_of l.cases) l.initial.at.scope.named;
+  named : named_after_cases l.self (cases_of (drop l.index l.cases)) l.at.scope.named ≡ named_after_cases l.self (cases_of l.cases) l.initial.at.scope.named;
   same : Same l.initial.at.scope l.at.scope;
   names : l.at.scope.named + cases_changes (cases_of (drop l.index l.cases)) ≤ l.initial.at.scope.named + cases_changes (cases_of l.cases);
   fewer : cases_changes (cases_of (drop l.index l.cases)) ≤ cases_changes (cases_of l.cases);

@@ -1,4 +1,4 @@
-use Rattle.naga_wgsl_fns.proofs.Wanted.{pointee_within}
+use Rattle.naga_wgsl_fns.proofs.Preconditions.{pointee_within}
 use Rattle.naga_wgsl_fns.proofs.functions.FunctionText.has_components.Goals as goal
 
 pub is_vector-requires : goal.is_vector-requires

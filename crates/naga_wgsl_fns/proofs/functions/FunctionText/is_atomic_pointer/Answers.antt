@@ -1,4 +1,4 @@
-use Rattle.naga_wgsl_fns.proofs.Wanted.{pointee_within}
+use Rattle.naga_wgsl_fns.proofs.Preconditions.{pointee_within}
 use Rattle.naga_wgsl_fns.proofs.functions.FunctionText.is_atomic_pointer.Goals as goal
 
 pub is_atomic-requires : goal.is_atomic-requires

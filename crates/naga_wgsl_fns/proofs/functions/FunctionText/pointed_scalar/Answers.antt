@@ -1,19 +1,19 @@
 use Rattle.std.proofs.Common.{◌∙◌, ap, sym}
 use Rattle.std.proofs.lemmas.Bool.{false≢true}
 use Rattle.std.specs.Option.{is_some, option_and_then}
-use Rattle.module_meaning.specs.ExpressionOperators.{scalar_behind}
+use Rattle.module_meaning.specs.ExpressionOperators.{pointee_scalar}
 use Rattle.naga_wgsl_fns.proofs.functions.FunctionText.pointed_scalar.Goals as goal
 
 pub unreachable-requires : goal.unreachable-requires
 unreachable-requires c =
     let types = c.args.self.now.shader.now.types in
     let none =
-    ap (option_and_then (scalar_behind types)) c.type_of.ensures
-    ∙ (sym c.scalar_behind.ensures ∙ c.in-None.is) in
+    ap (option_and_then (pointee_scalar types)) c.type_of.ensures
+    ∙ (sym c.pointee_scalar.ensures ∙ c.in-None.is) in
     false≢true (sym (ap is_some none) ∙ c.requires.scalar)
 
 pub returns : goal.returns
 returns c =
     let types = c.args.self.now.shader.now.types in
-    ap (option_and_then (scalar_behind types)) c.type_of.ensures
-    ∙ (sym c.scalar_behind.ensures ∙ c.in-Some.is)
+    ap (option_and_then (pointee_scalar types)) c.type_of.ensures
+    ∙ (sym c.pointee_scalar.ensures ∙ c.in-Some.is)

@@ -1,4 +1,4 @@
-use Rattle.naga_wgsl_fns.proofs.Wanted.{known_in_range}
+use Rattle.naga_wgsl_fns.proofs.Preconditions.{known_in_range}
 use Rattle.naga_wgsl_fns.proofs.functions.FunctionText.struct_known.Goals as goal
 
 pub whole_known-requires : goal.whole_known-requires

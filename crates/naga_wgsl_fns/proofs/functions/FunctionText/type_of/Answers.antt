@@ -1,5 +1,5 @@
 use Rattle.std.proofs.Common.{◌∙◌}
-use Rattle.naga_wgsl_fns.proofs.Wanted.{known_in_range, type_known_is}
+use Rattle.naga_wgsl_fns.proofs.Preconditions.{known_in_range, type_known_is}
 use Rattle.naga_wgsl_fns.proofs.functions.FunctionText.type_of.Goals as goal
 
 pub inner_with-requires : goal.inner_with-requires

@@ -1,4 +1,4 @@
-use Rattle.naga_wgsl_fns.proofs.Wanted.{argument_is_formed, argument_passes}
+use Rattle.naga_wgsl_fns.proofs.Preconditions.{argument_is_formed, argument_passes}
 use Rattle.naga_wgsl_fns.proofs.functions.FunctionText.write_argument.Goals as goal
 
 pub write_passing-requires : goal.write_passing-requires

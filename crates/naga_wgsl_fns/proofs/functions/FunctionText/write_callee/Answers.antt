@@ -4,7 +4,7 @@ use Rattle.module_meaning.specs.AlikeTypes.{is_spelled}
 use Rattle.naga_info.specs.declared.info.TypeResolution.TheVariants.{Value}
 use Rattle.naga_words.proofs.Writing.{writes_as}
 use Rattle.naga_wgsl_fns.proofs.ConversionRows.{callee_row, target_fits}
-use Rattle.naga_wgsl_fns.proofs.Wanted.{converted_is}
+use Rattle.naga_wgsl_fns.proofs.Preconditions.{converted_is}
 use Rattle.naga_wgsl_fns.proofs.functions.FunctionText.write_callee.Goals as goal
 
 -- src/conversions.rt:48:5

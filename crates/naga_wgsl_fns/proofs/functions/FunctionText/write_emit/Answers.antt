@@ -1,4 +1,5 @@
-use Rattle.std.proofs.Common.{◌≡◌, ◌+◌, ◌-◌, ℕ, List, IsTrue, refl, subst, sym, ap, ◌∙◌, arith, length}
+use Rattle.std.proofs.Common.{◌≡◌, ◌+◌, ◌-◌, ℕ, List, IsTrue, refl, subst, sym, ap, ◌∙◌, arith}
+use Rattle.std.proofs.Common.{length}
 use Rattle.std.specs.List.{filter}
 use Rattle.shader_runs.specs.Program.{from}
 use Rattle.shader_runs.specs.Scope.{after_emit, after_one, named_after, named_after_all}
@@ -6,10 +7,12 @@ use Rattle.module_meaning.specs.Names.{module_names}
 use Rattle.naga_scope.proofs.Emitting.{range_more, range_none}
 use Rattle.naga_scope.proofs.Logs.{extends_refl, extends_then}
 use Rattle.naga_words.proofs.Writing.{leaves_more, leaves_none, leaves_start, writes_as}
-use Rattle.naga_wgsl_fns.specs.FunctionText.{named_in, AreInText, AreLets, IsInText, IsLet, bound, callees, handles_in, naming, number}
+use Rattle.naga_wgsl_fns.specs.FunctionText.{named_in, AreInText, AreLets, IsInText, IsLet, bound}
+use Rattle.naga_wgsl_fns.specs.FunctionText.{callees, handles_in, naming, number}
 use Rattle.naga_wgsl_fns.proofs.TextHandles.{first_of, others_of}
-use Rattle.naga_wgsl_fns.proofs.StatementRows.{emit_row, emit_within, emitted_after, emitted_named, lets_more, lets_none}
-use Rattle.naga_wgsl_fns.proofs.Wanted.{named_after_one}
+use Rattle.naga_wgsl_fns.proofs.StatementRows.{emit_row, emit_within, emitted_after, emitted_named}
+use Rattle.naga_wgsl_fns.proofs.StatementRows.{lets_more, lets_none}
+use Rattle.naga_wgsl_fns.proofs.Preconditions.{named_after_one}
 use Rattle.naga_wgsl_fns.specs.Statements.{emitted_text}
 use Rattle.naga_wgsl_fns.proofs.functions.FunctionText.write_emit.Goals as goal
 

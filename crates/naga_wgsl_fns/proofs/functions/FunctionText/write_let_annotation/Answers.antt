@@ -1,6 +1,6 @@
 use Rattle.std.proofs.Common.{sym, ◌∙◌}
 use Rattle.naga_words.proofs.Writing.{writes_as, writes_nothing}
-use Rattle.naga_wgsl_fns.proofs.Wanted.{unannotated_row}
+use Rattle.naga_wgsl_fns.proofs.Preconditions.{unannotated_row}
 use Rattle.naga_wgsl_fns.proofs.functions.FunctionText.write_let_annotation.Goals as goal
 
 pub returns-else-annotates_types : goal.returns-else-annotates_types

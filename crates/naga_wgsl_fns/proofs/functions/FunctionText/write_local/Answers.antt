@@ -2,7 +2,7 @@ use Rattle.std.proofs.Common.{sym}
 use Rattle.naga_words.proofs.Writing.{writes_as, writes_then}
 use Rattle.naga_wgsl_fns.proofs.FunctionRows.{local_row}
 use Rattle.naga_wgsl_fns.proofs.TextHandles.{first_in_range}
-use Rattle.naga_wgsl_fns.proofs.Wanted.{local_is_formed}
+use Rattle.naga_wgsl_fns.proofs.Preconditions.{local_is_formed}
 use Rattle.naga_wgsl_fns.proofs.functions.FunctionText.write_local.Goals as goal
 
 pub write_type-requires-clause-formed : goal.write_type-requires-clause-formed

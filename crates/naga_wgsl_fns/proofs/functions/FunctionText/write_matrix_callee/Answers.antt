@@ -5,7 +5,7 @@ use Rattle.naga_info.specs.declared.info.TypeResolution.TheVariants.{Value}
 use Rattle.naga_ir.specs.declared.types.TypeInner.TheVariants.{CooperativeMatrix}
 use Rattle.naga_words.proofs.Writing.{writes_as}
 use Rattle.naga_wgsl_fns.proofs.LoadRows.{matrix_callee_row}
-use Rattle.naga_wgsl_fns.proofs.Wanted.{matrix_loaded}
+use Rattle.naga_wgsl_fns.proofs.Preconditions.{matrix_loaded}
 use Rattle.naga_wgsl_fns.proofs.functions.FunctionText.write_matrix_callee.Goals as goal
 
 pub write_taking-requires-clause-formed : goal.write_taking-requires-clause-formed

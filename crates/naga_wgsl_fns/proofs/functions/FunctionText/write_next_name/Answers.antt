@@ -1,7 +1,7 @@
 use Rattle.std.proofs.Common.{ap, ◌∙◌}
 use Rattle.naga_words.proofs.Writing.{writes_as}
 use Rattle.naga_wgsl_fns.specs.Names.{bound_text}
-use Rattle.naga_wgsl_fns.proofs.Wanted.{next_row}
+use Rattle.naga_wgsl_fns.proofs.Preconditions.{next_row}
 use Rattle.naga_wgsl_fns.proofs.functions.FunctionText.write_next_name.Goals as goal
 
 pub returns : goal.returns

@@ -1,4 +1,4 @@
-use Rattle.naga_wgsl_fns.proofs.Wanted.{answer_is_formed, answer_passes}
+use Rattle.naga_wgsl_fns.proofs.Preconditions.{answer_is_formed, answer_passes}
 use Rattle.naga_wgsl_fns.proofs.functions.FunctionText.write_result.Goals as goal
 
 pub write_answer-requires-clause-passing : goal.write_answer-requires-clause-passing

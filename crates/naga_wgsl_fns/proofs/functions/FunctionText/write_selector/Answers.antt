@@ -1,7 +1,7 @@
 use Rattle.std.proofs.Common.{sym, ◌∙◌}
 use Rattle.naga_words.proofs.Writing.{writes_as}
 use Rattle.naga_wgsl_fns.proofs.PartRows.{member_selector_row}
-use Rattle.naga_wgsl_fns.proofs.Wanted.{member_is, member_there}
+use Rattle.naga_wgsl_fns.proofs.Preconditions.{member_is, member_there}
 use Rattle.naga_wgsl_fns.proofs.functions.FunctionText.write_selector.Goals as goal
 
 pub write_named_member-requires : goal.write_named_member-requires

@@ -6,7 +6,7 @@ use Rattle.naga_wgsl_fns.specs.Statements.{act_text, statement_text}
 use Rattle.std.proofs.Common.{codes}
 use Rattle.naga_wgsl_fns.proofs.StatementParts.{stored_operands, stored_pointer, stored_value}
 use Rattle.naga_wgsl_fns.proofs.StatementRows.{store_to_atomic, store_to_other}
-use Rattle.naga_wgsl_fns.proofs.Wanted.{known_within_infos}
+use Rattle.naga_wgsl_fns.proofs.Preconditions.{known_within_infos}
 use Rattle.naga_wgsl_fns.proofs.functions.FunctionText.write_store.Goals as goal
 
 pub is_atomic_pointer-requires-clause-handle : goal.is_atomic_pointer-requires-clause-handle

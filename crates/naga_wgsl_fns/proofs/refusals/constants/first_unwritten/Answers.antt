@@ -3,7 +3,7 @@ use Rattle.std.specs.List.{find}
 use Rattle.std.specs.Prelude.{not}
 use Rattle.module_meaning.specs.ExpressionForms.{global_is_written}
 use Rattle.naga_scope.proofs.SpelledTypes.{found_here, not_here}
-use Rattle.naga_wgsl_fns.proofs.FormlessConstants.{as_it_is}
+use Rattle.naga_wgsl_fns.proofs.UnsupportedConstants.{as_it_is}
 use Rattle.naga_wgsl_fns.proofs.refusals.constants.first_unwritten.Goals as goal
 
 pub loop-handle-init : goal.loop-handle-init

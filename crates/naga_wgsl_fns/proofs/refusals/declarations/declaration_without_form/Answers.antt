@@ -3,13 +3,13 @@ use Rattle.naga_wgsl_fns.proofs.refusals.declarations.declaration_without_form.G
 
 pub returns-clause-names : goal.returns-clause-names
 returns-clause-names c =
-    named_declaration c.args.«module».now c.args.declaration c.to_error.result c.requires.formless
-    (c.formless_construct.ensures.names c.to_error.result c.to_error.ensures)
+    named_declaration c.args.«module».now c.args.declaration c.to_error.result c.requires.unsupported
+    (c.unsupported_construct.ensures.names c.to_error.result c.to_error.ensures)
 
 pub returns-clause-told : goal.returns-clause-told
 returns-clause-told c = (
-  c.formless_construct.result,
-  c.formless_construct.ensures.names,
-  c.formless_construct.ensures.carries,
+  c.unsupported_construct.result,
+  c.unsupported_construct.ensures.names,
+  c.unsupported_construct.ensures.carries,
   c.to_error.ensures,
 )

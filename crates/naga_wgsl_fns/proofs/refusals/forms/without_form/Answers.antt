@@ -7,11 +7,11 @@ use Rattle.naga_wgsl_fns.specs.Refusals.{NamesExpression, NamesSampling}
 use Rattle.naga_wgsl_fns.proofs.refusals.forms.without_form.Goals as goal
 
 pub returns-in-ImageSample-clause-names : goal.returns-in-ImageSample-clause-names
-returns-in-ImageSample-clause-names c es formless error told =
+returns-in-ImageSample-clause-names c es unsupported error told =
     let m = c.args.«module».now in
     let info = c.args.info.now in
     let way = c.in-ImageSample in
-    let lacks = subst (λ e. IsFalse (expression_has_form m info es e)) way.is formless in
+    let lacks = subst (λ e. IsFalse (expression_has_form m info es e)) way.is unsupported in
     let named =
     subst
     (λ compares. (offset : Bool) → IsFalse (sampling_is_written way.gather way.level compares way.clamp_to_edge && offset) →

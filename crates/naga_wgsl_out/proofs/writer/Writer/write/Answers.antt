@@ -6,7 +6,7 @@ use Rattle.naga_wgsl_out.proofs.Faithful.{leaves_untouched, refused}
 use Rattle.naga_wgsl_out.proofs.ModuleScopes.{declaration_refuses, declaration_tells_of_none}
 use Rattle.naga_wgsl_out.proofs.Places.{labels_told}
 use Rattle.naga_wgsl_out.proofs.ReportedNames.{tells_of_none}
-use Rattle.naga_wgsl_out.specs.declared.unwritable.RefusalPlace.TheVariants as place
+use Rattle.naga_wgsl_out.specs.declared.unwritable.RefusalPosition.TheVariants as position
 use Rattle.naga_wgsl_out.proofs.writer.Writer.write.Goals as goal
 
 pub returns : goal.returns
@@ -85,7 +85,7 @@ returns-in-Some-clause-leaves g c =
     leaves_untouched _ m c.args.info.now _ _ (Err error) error refl
     (declaration_tells_of_none m error c.declaration_without_form.ensures.names)
     (λ of. record {
-      refusal = record { construct = told.0; place = place.Declaration _ };
+      refusal = record { construct = told.0; place = position.Declaration _ };
       stands = (c.in-Some.declaration, found.place, told.1, told.2);
       first = found.first;
       told = told.3;

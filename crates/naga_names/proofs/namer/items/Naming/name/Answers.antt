@@ -1,10 +1,10 @@
 use Rattle.std.proofs.Common.{refl, sym, ◌∙◌}
 use Rattle.naga_names.proofs.Reset.{names_one, refuses_one}
-use Rattle.naga_names.proofs.Progress.{gives_behind, no_refusal, gives_named, gives_refused}
+use Rattle.naga_names.proofs.Progress.{gives_after, no_refusal, gives_named, gives_refused}
 use Rattle.naga_names.proofs.namer.items.Naming.name.Goals as goal
 
 pub returns-then-is_some-clause-named : goal.returns-then-is_some-clause-named
-returns-then-is_some-clause-named c = gives_behind _ _ (sym c.is_some.ensures ∙ c.if-is_some.true)
+returns-then-is_some-clause-named c = gives_after _ _ (sym c.is_some.ensures ∙ c.if-is_some.true)
 
 pub returns-in-Err-clause-named : goal.returns-in-Err-clause-named
 returns-in-Err-clause-named c =

@@ -1,0 +1,111 @@
+//! What was wanted where a module is not accepted, as it is told.
+
+ghost use Rattle.std.specs.Prelude.{Some};
+ghost use Rattle.fault_details.specs.Texts.{wanted_text};
+
+use crate::words::{Counted, ListName, Many, Need, Numbered, There, TypeClass};
+use std::fmt;
+
+/// What was wanted where a module is not accepted, and what stands there. A type is told as WGSL
+/// spells it, structs and overrides by their labels, with line breaks escaped; or, if it is one of
+/// the module, as `types[5]`, by its handle, where it has no such spelling or one with braces, and
+/// where the other one is spelled alike.
+#[derive(Debug, Drop)]
+pub enum Expected {
+    /// A value of one type is wanted, and one of another stands there:
+    /// `wanted vec4<f32>, got f32`.
+    Type {
+        /// The type that is wanted.
+        wanted: String,
+        /// The type that stands there.
+        got: String,
+    },
+    /// A type of a class is wanted, and another stands there:
+    /// `wanted a scalar or a vector, got mat2x2<f32>`.
+    Class {
+        /// The types of which any is wanted.
+        class: TypeClass,
+        /// The type that stands there.
+        got: String,
+    },
+    /// A value is wanted, and there is none: `wanted i32, got nothing`.
+    Value {
+        /// The type that is wanted.
+        wanted: String,
+    },
+    /// No value is wanted, and there is one: `wanted nothing, got i32`.
+    Nothing {
+        /// The type that stands there.
+        got: String,
+    },
+    /// An item is named that is not there: `names expressions[41], of which there are 12`.
+    Item {
+        /// The list that it would stand in.
+        list: ListName,
+        /// Its number.
+        index: usize,
+        /// How many items the list has.
+        count: usize,
+    },
+    /// An item is named that is there, but not before the one that it has to stand before:
+    /// `names expressions[7], wanted one before expressions[3]`.
+    EarlierItem {
+        /// The list that it stands in.
+        list: ListName,
+        /// Its number.
+        index: usize,
+        /// The number of the item that it has to stand before.
+        before: usize,
+    },
+    /// So many are wanted, and so many stand there: `wanted 2 arguments, got 3`.
+    Number {
+        /// What is counted.
+        of: Counted,
+        /// How many are wanted.
+        wanted: usize,
+        /// How many stand there.
+        got: usize,
+    },
+    /// A part is named that is not there: `wanted an index below 3, got 5`.
+    Part {
+        /// How many parts there are.
+        count: usize,
+        /// The number of the one that is named.
+        got: usize,
+    },
+    /// What else a statement needs: `wanted a loop to go on with`.
+    Need(Need),
+}
+
+impl fmt::Display for Expected {
+    ghost output = { λ w. Some (wanted_text w) };
+
+    fn fmt<W: fmt::Write>(&self, f: &mut fmt::Formatter<W>) -> fmt::Result {
+        match self {
+            Expected::Type { wanted, got } => write!(f, "wanted {}, got {}", wanted, got),
+            Expected::Class { class, got } => write!(f, "wanted {}, got {}", class, got),
+            Expected::Value { wanted } => write!(f, "wanted {}, got nothing", wanted),
+            Expected::Nothing { got } => write!(f, "wanted nothing, got {}", got),
+            Expected::Item { list, index, count } => {
+                let item = Numbered(*list, *index);
+                write!(f, "names {}, of which there {}", item, There(*count))
+            }
+            Expected::EarlierItem {
+                list,
+                index,
+                before,
+            } => {
+                let item = Numbered(*list, *index);
+                let next = Numbered(*list, *before);
+                write!(f, "names {}, wanted one before {}", item, next)
+            }
+            Expected::Number { of, wanted, got } => {
+                write!(f, "wanted {}, got {}", Many(*wanted, *of), got)
+            }
+            Expected::Part { count, got } => {
+                write!(f, "wanted an index below {}, got {}", count, got)
+            }
+            Expected::Need(need) => write!(f, "wanted {}", need),
+        }
+    }
+}

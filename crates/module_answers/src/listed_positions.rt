@@ -1,0 +1,105 @@
+//! Where a module is not accepted or refused, as a place of a listing.
+
+use naga_listing::{Listed, ListingPosition, Spot};
+use naga_wgsl_out::info::{FunctionPosition, Item};
+use naga_wgsl_out::wgsl::{DeclarationPosition, FunctionPart, RefusalPosition, ScopeFault};
+
+/// The place of an item in a listing of what it is in.
+pub fn listed_position(item: Item) -> ListingPosition {
+    match item {
+        Item::Module => declared(Spot::Whole),
+        Item::Type(handle) => declared(Spot::Type_(handle)),
+        Item::Constant(handle) => declared(Spot::Constant(handle)),
+        Item::Override(handle) => declared(Spot::Override(handle)),
+        Item::GlobalVariable(handle) => declared(Spot::GlobalVariable(handle)),
+        Item::GlobalExpression(handle) => declared(Spot::GlobalExpression(handle)),
+        Item::Function(handle, part) => ListingPosition::of(
+            Listed::Function(handle),
+            part_spot(part),
+        ),
+        Item::EntryPoint(index, part) => ListingPosition::of(
+            Listed::EntryPoint(index),
+            part_spot(part),
+        ),
+    }
+}
+
+/// The place of a construct for which a module is refused in a listing of what it is in: of what is
+/// out of scope the expression, with the statement that uses or gives it beside.
+pub fn refused_position(place: RefusalPosition) -> ListingPosition {
+    match place {
+        RefusalPosition::Labels => declared(Spot::Whole),
+        RefusalPosition::Declaration(place) => declaration_position(place),
+        RefusalPosition::Function(handle, part) => refused_in(Listed::Function(handle), part),
+        RefusalPosition::EntryPoint(index, part) => refused_in(Listed::EntryPoint(index), part),
+    }
+}
+
+fn declared(spot: Spot) -> ListingPosition {
+    ListingPosition::of(Listed::Declarations, spot)
+}
+
+fn part_spot(part: FunctionPosition) -> Spot {
+    match part {
+        FunctionPosition::Whole => Spot::Whole,
+        FunctionPosition::Local(handle) => Spot::Local(handle),
+        FunctionPosition::Expression(handle) => Spot::Expression(handle),
+        FunctionPosition::Statement(number) => Spot::Statement(number),
+    }
+}
+
+fn declaration_position(place: DeclarationPosition) -> ListingPosition {
+    match place {
+        DeclarationPosition::Struct(handle) => declared(Spot::Type_(handle)),
+        DeclarationPosition::Constant(handle) => declared(Spot::Constant(handle)),
+        DeclarationPosition::Override(handle) => declared(Spot::Override(handle)),
+        DeclarationPosition::GlobalVariable(handle) => declared(Spot::GlobalVariable(handle)),
+        DeclarationPosition::Function(handle) => ListingPosition::of(
+            Listed::Function(handle),
+            Spot::Whole,
+        ),
+        DeclarationPosition::EntryPoint(index) => ListingPosition::of(
+            Listed::EntryPoint(index),
+            Spot::Whole,
+        ),
+    }
+}
+
+fn refused_in(listed: Listed, part: FunctionPart) -> ListingPosition {
+    match part {
+        FunctionPart::Labels | FunctionPart::Type_(_) => ListingPosition::of(listed, Spot::Whole),
+        FunctionPart::Scope(fault) => {
+            let (spot, beside) = fault_spots(fault);
+            ListingPosition {
+                listed,
+                spot,
+                beside: Some(beside),
+            }
+        }
+        FunctionPart::Statement(number) => ListingPosition::of(listed, Spot::Statement(number)),
+        FunctionPart::Expression(handle) | FunctionPart::Let(handle) => {
+            ListingPosition::of(listed, Spot::Expression(handle))
+        }
+    }
+}
+
+/// The expression that is out of scope, and what uses or gives it.
+fn fault_spots(fault: ScopeFault) -> (Spot, Spot) {
+    match fault {
+        ScopeFault::FirstValue { local, value } => (Spot::Expression(value), Spot::Local(local)),
+        ScopeFault::Operand { statement, operand }
+        | ScopeFault::EmittedOperand {
+            statement,
+            operand,
+            ..
+        } => (Spot::Expression(operand), Spot::Statement(statement)),
+        ScopeFault::GivenBefore {
+            statement,
+            expression,
+        }
+        | ScopeFault::NeedsNoEmit {
+            statement,
+            expression,
+        } => (Spot::Expression(expression), Spot::Statement(statement)),
+    }
+}

@@ -1,7 +1,0 @@
-use Rattle.std.proofs.Common.{sym, ◌∙◌}
-use Rattle.naga_acceptance.proofs.LabelNumbers.{shares_nothing}
-use Rattle.naga_acceptance.proofs.label_numbers.shares.Goals as goal
-
-pub returns-then-is_empty : goal.returns-then-is_empty
-returns-then-is_empty c =
-    shares_nothing c.args.numbers.now c.args.cases.now (sym c.is_empty.ensures ∙ c.if-is_empty.true)

@@ -1,7 +1,0 @@
-use Rattle.std.proofs.Common.{◌≡◌, drop}
-use Rattle.naga_ir.specs.StatementViews.{cases_of}
-use Rattle.naga_scope.specs.FormlessStatements.{formless_case}
-use Rattle.naga_scope.proofs.statements.formless_case.Given as goal
-
-abbrev pub invariant-loop-case : goal.invariant-loop-case
-invariant-loop-case l = formless_case (cases_of (drop l.case-index l.cases)) ≡ formless_case (cases_of l.cases)

@@ -1,0 +1,89 @@
+-- The first statement of a block, in the order of the text, that has no form, and its number.
+--
+-- Throughout, st is a statement, b is the rest of a block, cs are the further cases, n is the number
+-- of a statement, and it is what of one has no form.
+use Rattle.std.specs.Prelude.{◌≡◌, ℕ, ◌^◌, ◌%◌, ◌⊎◌, Bool, true, false, List, [], ◌∷◌, Option}
+use Rattle.std.specs.Prelude.{Some, None, slice_get}
+use Rattle.std.specs.Option.{is_some, option_or}
+use Rattle.module_meaning.specs.OperatorTable.{texel_change_word, collective_word}
+use Rattle.module_meaning.specs.StatementShapes.{change_of}
+use Rattle.naga_ir.specs.StatementTree.{SimpleStatement, image_atomic, ray_query}
+use Rattle.naga_ir.specs.StatementTree.{subgroup_collective_operation}
+use Rattle.naga_ir.specs.StatementTree.{StatementTree, simple, switch, BlockTree}
+use Rattle.naga_ir.specs.StatementTree.{CaseTrees, no_cases, case, has_no_statements}
+use Rattle.naga_scope.specs.Declarations.{EachBefore, FindsFirst}
+use Rattle.naga_scope.specs.InOrder.{trees_in}
+use Rattle.naga_scope.specs.declared.statements.UnsupportedStatement.{UnsupportedStatement}
+use Rattle.naga_scope.specs.declared.statements.UnsupportedStatement.TheVariants.{RayQuery}
+use Rattle.naga_scope.specs.declared.statements.UnsupportedStatement.TheVariants.{SubgroupOperation}
+use Rattle.naga_scope.specs.declared.statements.UnsupportedStatement.TheVariants.{FallThrough}
+use Rattle.naga_scope.specs.declared.statements.UnsupportedStatement.TheVariants.{ImageCompareExchange}
+
+-- this one unless that is so
+abbrev pub unless : Bool → UnsupportedStatement → Option UnsupportedStatement
+unless true it = None
+unless false it = Some it
+
+-- a statement without blocks that has no form
+abbrev pub simple_unsupported : SimpleStatement → Option UnsupportedStatement
+simple_unsupported (image_atomic image coordinate array_index fun value) =
+    unless (is_some (texel_change_word (change_of fun))) ImageCompareExchange
+simple_unsupported (ray_query query) = Some RayQuery
+simple_unsupported (subgroup_collective_operation op collective argument outcome) =
+    unless (is_some (collective_word op collective)) SubgroupOperation
+simple_unsupported st = None
+
+-- a case with statements that falls through
+abbrev pub falls_unsupported : (falls is_empty : Bool) → Option UnsupportedStatement
+falls_unsupported true false = Some FallThrough
+falls_unsupported _ _ = None
+
+-- the first of these that falls through
+abbrev pub unsupported_case : CaseTrees → Option UnsupportedStatement
+unsupported_case no_cases = None
+unsupported_case (case value body falls cs) =
+    option_or (falls_unsupported falls (has_no_statements body)) (unsupported_case cs)
+
+-- what of a statement by itself has no form
+abbrev pub own_unsupported : StatementTree → Option UnsupportedStatement
+own_unsupported (simple st) = simple_unsupported st
+own_unsupported (switch selector cs) = unsupported_case cs
+own_unsupported st = None
+
+-- ---- of several
+-- the first of these, and that of a block
+abbrev pub first_unsupported : List StatementTree → Option UnsupportedStatement
+first_unsupported [] = None
+first_unsupported (st ∷ sts) = option_or (own_unsupported st) (first_unsupported sts)
+
+abbrev pub unsupported_statement : BlockTree → Option UnsupportedStatement
+unsupported_statement b = first_unsupported (trees_in b)
+
+-- the statements in front of this number have forms, their blocks left out
+abbrev pub FormedBefore : List StatementTree → (n : ℕ) → Type 0
+FormedBefore sts n = EachBefore sts n (λ i st. own_unsupported st ≡ None)
+
+-- all of these have, or this one is the first that has none, with its number
+abbrev pub FindsUnsupported : List StatementTree → Option (ℕ × UnsupportedStatement) → Type 0
+FindsUnsupported sts found =
+    FindsFirst sts (λ i st. own_unsupported st ≡ None) (λ i. i)
+    (λ i st it. own_unsupported st ≡ Some it) found
+
+-- ---- where it stands
+-- a case with statements falls through
+abbrev pub SomeCaseFalls : CaseTrees → (it : UnsupportedStatement) → Type 0
+SomeCaseFalls no_cases it = ⊥
+SomeCaseFalls (case value body falls cs) it =
+    (falls_unsupported falls (has_no_statements body) ≡ Some it) ⊎ SomeCaseFalls cs it
+
+-- the statement has no form by itself, its blocks left out
+abbrev pub LacksForm : StatementTree → (it : UnsupportedStatement) → Type 0
+LacksForm (simple st) it = simple_unsupported st ≡ Some it
+LacksForm (switch selector cs) it = SomeCaseFalls cs it
+LacksForm st it = ⊥
+
+-- the statement of the body with this number, modulo 2^64, has no form by itself
+abbrev pub IsUnsupportedAt : BlockTree → (n : ℕ) → (it : UnsupportedStatement) → Type 0
+IsUnsupportedAt b n it =
+    (i : ℕ) × (st : StatementTree) × (slice_get (trees_in b) i ≡ Some st) × (n ≡ i % 2 ^ 64)
+    × LacksForm st it
