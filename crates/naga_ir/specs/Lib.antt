@@ -8,3 +8,4 @@ pub mod Kinds
 pub mod Arenas
 pub mod Literals
 pub mod Ranges
+pub mod Fields

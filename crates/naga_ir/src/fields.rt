@@ -1,6 +1,9 @@
 //! The names of expressions and statements, and of the fields that hold their operands.
 
-ghost use Rattle.std.specs.Prelude.{◌≡◌, slice_get};
+ghost use Rattle.std.specs.Prelude.{◌≡◌, map, slice_get};
+ghost use Rattle.std.specs.Option.{option_map};
+ghost use Rattle.naga_ir.specs.Fields.{expression_fields, ray_fields, seen, statement_fields};
+ghost use Rattle.naga_ir.specs.StatementViews.{tree_of};
 
 use crate::arena::Handle;
 use crate::expression::Expression;
@@ -12,14 +15,17 @@ use crate::statement_operands::{compared, told_by};
 pub type Field = (&'static str, Option<Handle<Expression>>);
 
 /// The field of this number, counted from zero.
+#[tactic(auto, using(crate::proofs::Listed::nth_seen))]
 fn nth_field(fields: &[Field], number: usize) -> Option<Field>
-    ensures { result ≡ slice_get fields.now number }
+    ensures { option_map seen result ≡ slice_get (map seen fields.now) number }
 {
     fields.get(number).copied()
 }
 
 /// The field of this number of what is done with a ray.
-fn ray_field(fun: RayPipelineFunction, number: usize) -> Option<Field> {
+fn ray_field(fun: RayPipelineFunction, number: usize) -> Option<Field>
+    ensures { option_map seen result ≡ slice_get (ray_fields fun) number }
+{
     match fun {
         RayPipelineFunction::TraceRay {
             acceleration_structure,
@@ -79,7 +85,9 @@ impl Expression {
 
     /// The field of this number, counted from zero in the order of naga's source, among those that
     /// hold an operand or may hold one: without those of a level of detail, and without a list.
-    pub fn field(&self, number: usize) -> Option<Field> {
+    pub fn field(&self, number: usize) -> Option<Field>
+        ensures { option_map seen result ≡ slice_get (expression_fields self.now) number }
+    {
         match self {
             Expression::Access { base, index } => {
                 nth_field(&[("base", Some(*base)), ("index", Some(*index))], number)
@@ -224,7 +232,9 @@ impl Statement {
 
     /// The field of this number, counted from zero in the order of naga's source, among those that
     /// hold an operand or a result or may hold one, without a list.
-    pub fn field(&self, number: usize) -> Option<Field> {
+    pub fn field(&self, number: usize) -> Option<Field>
+        ensures { option_map seen result ≡ slice_get (statement_fields (tree_of self.now)) number }
+    {
         match self {
             Statement::If { condition, .. } => nth_field(
                 &[("condition", Some(*condition))],
