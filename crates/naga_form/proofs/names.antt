@@ -13,7 +13,7 @@ pub mod ItemTargets
 pub mod MemberNames
 pub mod NamedFits
 pub mod Names
-mod NumberedNames
+pub mod NumberedNames
 pub mod OutsideWords
 pub mod Resolution
 pub mod StageTargets
