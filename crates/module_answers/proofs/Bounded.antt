@@ -1,7 +1,6 @@
 -- What is told of a module that is not written.
-use Rattle.std.proofs.Common.{◌≡◌, ℕ, ◌<◌, List, [], Result, ap, length, refl, subst, sym}
-use Rattle.std.specs.Prelude.{Err, IfErr, IsErrAnd, IsTrue, None, Ok, OnErr}
-use Rattle.naga_words.specs.Sink.{IsAfter}
+use Rattle.std.proofs.Common.{◌≡◌, ℕ, ◌<◌, List, [], Result, length, refl, subst, sym}
+use Rattle.std.specs.Prelude.{Err, IfErr, IsErrAnd, IsTrue, None, Ok, Option}
 use Rattle.naga_ir.specs.declared.module.Module.{Module}
 use Rattle.naga_info.specs.declared.info.ModuleInfo.{ModuleInfo}
 use Rattle.naga_back.specs.declared.flags.WriterFlags.{WriterFlags}
@@ -10,9 +9,11 @@ use Rattle.module_limits.specs.Nesting.{nested_past}
 use Rattle.module_limits.specs.declared.limits.Limits.{Limits}
 use Rattle.module_meaning.specs.acceptance.Accepted.{is_accepted}
 use Rattle.naga_wgsl_out.specs.Checked.{IsCounted}
-use Rattle.naga_wgsl_out.specs.Writing.{AppendsItsText, written_text}
+use Rattle.naga_wgsl_out.specs.declared.unwritable.Refusal.{Refusal}
 use Rattle.naga_wgsl_out.proofs.Bounded.{whole_is_longer}
+use Rattle.naga_wgsl_out.proofs.Faithful.{leaves_beginning}
 use Rattle.module_answers.specs.Within.{IsTooLong, IsUnwritten, TellsDepth}
+use Rattle.module_answers.specs.Written.{AnswersWriting}
 use Rattle.module_answers.specs.declared.within.Unwritten.{Unwritten}
 use Rattle.module_answers.specs.declared.within.Unwritten.TheVariants as unwritten
 
@@ -32,13 +33,29 @@ as_unwritten flags limits m info (Err e) reason reported tells =
     subst (IsUnwritten flags limits m m info info) (sym reported) (depth_unwritten flags limits m info reason tells)
 
 -- a sink that began empty tells that the text of one is too long
-pub is_too_long : (flags : WriterFlags) (limits : Limits) (given m : Module) (old new : ModuleInfo) (answer : Result Unit Error) (content now : List ℕ) →
-    nested_past limits.nesting given ≡ None → IsTrue (is_accepted given old) → IsCounted m old new → content ≡ [] →
-    AppendsItsText m new flags answer content now → OnErr answer (IsAfter content (written_text m new flags) now) →
-    limits.text < length now → IsTooLong flags limits given m old new
-is_too_long flags limits given m old new answer content now flat accepted counted empty appends following past = record {
+pub is_too_long : (flags : WriterFlags) (limits : Limits) (given m : Module) (old new : ModuleInfo) (answer : Result Unit Error) (told : Option Refusal) (beginning : List ℕ) (failures : ℕ) →
+    nested_past limits.nesting given ≡ None → IsTrue (is_accepted given old) → IsCounted m old new →
+    AnswersWriting flags m new answer told [] beginning 0 failures →
+    limits.text < length beginning → IsTooLong flags limits given m old new
+is_too_long flags limits given m old new answer told beginning failures flat accepted counted written passed = record {
   nested = flat;
   accepted = accepted;
   counted = counted;
-  longer = whole_is_longer flags m new limits.text answer content now empty appends following past;
+  answer = answer;
+  told = told;
+  beginning = beginning;
+  failures = failures;
+  written = written;
+  passed = passed;
+  longer = whole_is_longer flags m new limits.text answer [] beginning refl written.text (leaves_beginning flags m new answer [] beginning 0 failures written.leaves) passed;
 }
+
+-- what is so of what was written is so of what is kept of it
+pub as_kept : (flags : WriterFlags) (m : Module) (info : ModuleInfo) (answer kept_answer : Result Unit Error) (told kept_told : Option Refusal) (text kept_text : List ℕ) (failures : ℕ) →
+    kept_answer ≡ answer → kept_told ≡ told → kept_text ≡ text →
+    AnswersWriting flags m info answer told [] text 0 failures →
+    AnswersWriting flags m info kept_answer kept_told [] kept_text 0 failures
+as_kept flags m info answer kept_answer told kept_told text kept_text failures same_answer same_told same_text written =
+    subst (λ a. AnswersWriting flags m info a kept_told [] kept_text 0 failures) (sym same_answer)
+    (subst (λ r. AnswersWriting flags m info answer r [] kept_text 0 failures) (sym same_told)
+    (subst (λ t. AnswersWriting flags m info answer told [] t 0 failures) (sym same_text) written))

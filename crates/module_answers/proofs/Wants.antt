@@ -1,38 +1,103 @@
 -- What is so of the writer's answer is so of want of memory in its place.
-use Rattle.std.proofs.Common.{ℕ, List, inl, inr, subst, sym}
-use Rattle.std.specs.Prelude.{Err, IsErr, Ok, OnErr, Result, alloc_error}
+use Rattle.std.proofs.Common.{◌≡◌, ℕ, List, inl, inr, subst, sym}
+use Rattle.std.specs.Prelude.{Err, IfSome, IsErrAnd, MatchOption, None, Ok, OnOk, Option, Result}
+use Rattle.std.specs.Prelude.{Bool, Some, alloc_error}
+use Rattle.naga_back.specs.Flags.{annotates_types}
 use Rattle.naga_back.specs.declared.flags.WriterFlags.{WriterFlags}
 use Rattle.naga_info.specs.declared.info.ModuleInfo.{ModuleInfo}
 use Rattle.naga_ir.specs.declared.module.Module.{Module}
+use Rattle.naga_wgsl_fns.specs.Refusals.{TellsOfModule}
 use Rattle.naga_wgsl_fns.specs.declared.refusals.error.Error.{Error}
 use Rattle.naga_wgsl_fns.specs.declared.refusals.error.Error.TheVariants.{Memory}
-use Rattle.naga_wgsl_out.proofs.Faithful.{refused}
-use Rattle.naga_wgsl_out.specs.Headline.{FaithfulWriting}
-use Rattle.naga_wgsl_out.specs.Writing.{AppendsItsText}
+use Rattle.naga_words.specs.Sink.{IsAfter}
+use Rattle.core.specs.declared.alloc.AllocError.{AllocError}
+use Rattle.naga_wgsl_out.proofs.Faithful.{function_tells_of_module, refused}
+use Rattle.naga_wgsl_out.proofs.ModuleScopes.{no_refusal}
+use Rattle.naga_wgsl_out.specs.Headline.{EachReading, FaithfulWriting, MatchesModule}
+use Rattle.naga_wgsl_out.specs.Leaving.{Leaves, LeavesOnError}
+use Rattle.naga_wgsl_out.specs.ModuleRefusals.{NothingIsRefused, RefusesOnlyFor}
+use Rattle.naga_wgsl_out.specs.Unwritable.{IsFirst, StandsIn}
+use Rattle.naga_wgsl_out.specs.Writing.{AppendsItsText, written_text}
+use Rattle.naga_wgsl_out.specs.declared.unwritable.Refusal.{Refusal}
 use Rattle.module_answers.specs.Wants.{IsAnswerOrWant}
+use Rattle.module_answers.specs.Written.{AnswersWriting, TellsBeside, TellsRefusal}
 
-on_err : {X : Type 0} (r : Result Unit Error) → IsErr r → OnErr r X → X
-on_err (Ok u) is x = absurd cc
-on_err (Err e) is x = x
+-- ---- what is told beside an answer
+-- what is found is told beside an error that tells of the module, of which something is the reason
+pub found_beside : (explicit : Bool) (m : Module) (info : ModuleInfo) (answer : Result Unit Error) (found : Option Refusal) →
+    IsErrAnd answer TellsOfModule →
+    (before after : ℕ) × RefusesOnlyFor answer explicit m info before after →
+    MatchOption found (NothingIsRefused explicit m info) (StandsIn explicit m info) →
+    IfSome found (λ refusal. IsFirst explicit m info refusal.place) →
+    TellsBeside explicit m info answer found
+found_beside explicit m info (Ok x) found tells reason stands first = absurd tells
+found_beside explicit m info (Err e) None tells reason nothing first =
+    absurd (no_refusal explicit m info nothing reason.0 reason.1 e tells reason.2)
+found_beside explicit m info (Err e) (Some refusal) tells reason stands first =
+    record { tells = tells; stands = stands; first = first }
 
-module _ (flags : WriterFlags) (m : Module) (info : ModuleInfo) (answer told : Result Unit Error)
-    (content now : List ℕ) where
-  pub faithful_or_want : (before after : ℕ) → IsAnswerOrWant answer told →
+-- the writer's answer has its reason, under the same flags
+pub reason_under : (own flags : WriterFlags) (m : Module) (info : ModuleInfo) (answer : Result Unit Error) (content now : List ℕ) (before after : ℕ) →
+    own ≡ flags → FaithfulWriting own m info answer content now before after →
+    (before after : ℕ) × RefusesOnlyFor answer (annotates_types flags) m info before after
+reason_under own flags m info answer content now before after same faithful = (
+  before,
+  after,
+  subst (λ f. RefusesOnlyFor answer (annotates_types f) m info before after) same faithful.refusals,
+)
+
+module _ (flags : WriterFlags) (m : Module) (info : ModuleInfo) (content now : List ℕ) (before after : ℕ) where
+  -- ---- want of memory
+  -- a beginning of the text stands in the sink
+  want_leaves : (e : AllocError) → IsAfter content (written_text m info flags) now →
+      Leaves flags m info (Err (Memory e)) content now before after
+  want_leaves e following = record {
+    following = following;
+    untouched = λ first. absurd first.0;
+    keys = λ of. absurd of;
+    written_before = λ of. absurd (function_tells_of_module m (Memory e) of);
+    unfailed = λ of. absurd of;
+    told = λ of. absurd of;
+  }
+
+  pub want : (e : AllocError) → IsAfter content (written_text m info flags) now →
+      AnswersWriting flags m info (Err (Memory e)) None content now before after
+  want e following = record {
+    faithful = refused flags m info (Memory e) content now before after tt;
+    matches = tt;
+    text = tt;
+    leaves = want_leaves e following;
+    refusal = λ of. of;
+  }
+
+  in_place : (answer : Result Unit Error) → IsErrAnd answer TellsOfModule →
+      Leaves flags m info answer content now before after → IsAfter content (written_text m info flags) now
+  in_place (Ok x) tells leaves = absurd tells
+  in_place (Err e) tells leaves = leaves.following
+
+  -- ---- the writer's answer, or want of memory in its place
+  pub answer_or_want : (answer told : Result Unit Error) (found : Option Refusal) → IsAnswerOrWant answer told →
       FaithfulWriting flags m info answer content now before after →
-      FaithfulWriting flags m info told content now before after
-  faithful_or_want before after (inl same) faithful =
-      subst (λ r. FaithfulWriting flags m info r content now before after) (sym same) faithful
-  faithful_or_want before after (inr want) faithful =
-      subst (λ r. FaithfulWriting flags m info r content now before after) (sym want.1)
-      (refused flags m info (Memory alloc_error) content now before after tt)
-
-  pub text_or_want : IsAnswerOrWant answer told → AppendsItsText m info flags answer content now →
-      AppendsItsText m info flags told content now
-  text_or_want (inl same) text = subst (λ r. AppendsItsText m info flags r content now) (sym same) text
-  text_or_want (inr want) text =
-      subst (λ r. AppendsItsText m info flags r content now) (sym want.1) tt
-
-pub error_or_want : (X : Type 0) (answer told : Result Unit Error) → IsAnswerOrWant answer told →
-    OnErr answer X → OnErr told X
-error_or_want X answer told (inl same) x = subst (λ r. OnErr r X) (sym same) x
-error_or_want X answer told (inr want) x = subst (λ r. OnErr r X) (sym want.1) (on_err answer want.0 x)
+      OnOk answer (EachReading content now (MatchesModule (annotates_types flags) m info)) →
+      AppendsItsText m info flags answer content now → Leaves flags m info answer content now before after →
+      TellsBeside (annotates_types flags) m info told found →
+      AnswersWriting flags m info told found content now before after
+  answer_or_want answer told found (inl same) faithful matches text leaves beside =
+      let back = sym same in
+      record {
+        faithful = subst (λ r. FaithfulWriting flags m info r content now before after) back faithful;
+        matches = subst (λ r. OnOk r (EachReading content now (MatchesModule (annotates_types flags) m info))) back matches;
+        text = subst (λ r. AppendsItsText m info flags r content now) back text;
+        leaves = subst (λ r. Leaves flags m info r content now before after) back leaves;
+        refusal = beside;
+      }
+  answer_or_want answer told found (inr wanted) faithful matches text leaves beside =
+      let back = sym wanted.1 in
+      let following = in_place answer wanted.0 leaves in
+      record {
+        faithful = subst (λ r. FaithfulWriting flags m info r content now before after) back (refused flags m info (Memory alloc_error) content now before after tt);
+        matches = subst (λ r. OnOk r (EachReading content now (MatchesModule (annotates_types flags) m info))) back tt;
+        text = subst (λ r. AppendsItsText m info flags r content now) back tt;
+        leaves = subst (λ r. Leaves flags m info r content now before after) back (want_leaves alloc_error following);
+        refusal = beside;
+      }

@@ -1,8 +1,10 @@
 -- Want of memory in the place of an answer.
-use Rattle.std.specs.Prelude.{◌≡◌, ◌⊎◌, Err, IsErr, Result, alloc_error}
+use Rattle.std.specs.Prelude.{◌≡◌, ◌⊎◌, Err, IsErrAnd, Result, alloc_error}
+use Rattle.naga_wgsl_fns.specs.Refusals.{TellsOfModule}
 use Rattle.naga_wgsl_fns.specs.declared.refusals.error.Error.{Error}
 use Rattle.naga_wgsl_fns.specs.declared.refusals.error.Error.TheVariants.{Memory}
 
--- the answer, or where that is an error, that memory was wanting
+-- the answer, or where that is an error that tells of the module, that memory was wanting
 abbrev pub IsAnswerOrWant : (answer told : Result Unit Error) → Type 0
-IsAnswerOrWant answer told = (told ≡ answer) ⊎ (IsErr answer × (told ≡ Err (Memory alloc_error)))
+IsAnswerOrWant answer told =
+    (told ≡ answer) ⊎ (IsErrAnd answer TellsOfModule × (told ≡ Err (Memory alloc_error)))

@@ -4,13 +4,10 @@ ghost use Rattle.std.specs.Prelude.{◌≡◌, ◌<◌, ◌≤◌, ℕ, [], IfEr
 ghost use Rattle.std.specs.Prelude.{None, OnOk, length};
 ghost use Rattle.std.specs.Prelude.{string_bytes};
 ghost use Rattle.module_answers.specs.Within.{IsUnwritten, TellsDepth};
+ghost use Rattle.module_answers.specs.Written.{AnswersWriting};
 ghost use Rattle.module_limits.specs.Nesting.{nested_past};
 ghost use Rattle.module_meaning.specs.acceptance.Accepted.{is_accepted};
 ghost use Rattle.naga_wgsl_out.specs.Checked.{IsCounted};
-ghost use Rattle.naga_back.specs.Flags.{annotates_types};
-ghost use Rattle.naga_wgsl_out.specs.Headline.{FaithfulWriting};
-ghost use Rattle.naga_wgsl_out.specs.Unwritable.{IsFirst, StandsIn};
-ghost use Rattle.naga_wgsl_out.specs.Writing.{AppendsItsText};
 ghost use Rattle.told_floats.specs.Told.{IsToldModule};
 
 use crate::writing::{Written, write, write_told};
@@ -31,7 +28,8 @@ pub enum Unwritten {
     /// The module is not accepted, at this place, for a fault of this kind.
     #[error("not accepted: {0}")]
     NotAccepted(Unaccepted),
-    /// The module's text has more bytes than the limit.
+    /// What was written of the module has more bytes than the limit: its text, or of a module that is
+    /// refused what stands in front of what it is refused for.
     #[error("text too long")]
     TooLong,
     /// There was no memory for the question how deep it is nested.
@@ -51,14 +49,8 @@ pub fn write_within(
     ensures nested { IfOk result (λ _. nested_past limits.nesting «module».now ≡ None) }
     ensures accepted { IfOk result (λ _. IsTrue (is_accepted «module».now info.old)) }
     ensures counted { IfOk result (λ _. IsCounted «module».now info.old info.new) }
-    ensures faithful { IfOk result (λ w. (failures : ℕ) × FaithfulWriting flags «module».now
-        info.new w.answer [] (string_bytes w.sink) 0 failures) }
-    ensures text { IfOk result (λ w. AppendsItsText «module».now info.new flags w.answer []
-        (string_bytes w.sink)) }
-    ensures refusal { IfOk result (λ w. IfSome w.refusal
-        (StandsIn (annotates_types flags) «module».now info.new)) }
-    ensures first { IfOk result (λ w. IfSome w.refusal (λ refusal.
-        IsFirst (annotates_types flags) «module».now info.new refusal.place)) }
+    ensures written { IfOk result (λ w. (failures : ℕ) × AnswersWriting flags «module».now info.new
+        w.answer w.refusal [] (string_bytes w.sink) 0 failures) }
     ensures within { IfOk result (λ w. length (string_bytes w.sink) ≤ limits.text) }
     ensures unwritten { IfErr result (IsUnwritten flags limits «module».now «module».now info.old
         info.new) }
@@ -87,14 +79,8 @@ pub fn write_told_within(
     ensures accepted { IfOk result (λ _. IsTrue (is_accepted «module».old info.old)) }
     ensures told { IfOk result (λ _. IsToldModule «module».old «module».new) }
     ensures counted { IfOk result (λ _. IsCounted «module».new info.old info.new) }
-    ensures faithful { IfOk result (λ w. (failures : ℕ) × FaithfulWriting flags «module».new
-        info.new w.answer [] (string_bytes w.sink) 0 failures) }
-    ensures text { IfOk result (λ w. AppendsItsText «module».new info.new flags w.answer []
-        (string_bytes w.sink)) }
-    ensures refusal { IfOk result (λ w. IfSome w.refusal
-        (StandsIn (annotates_types flags) «module».new info.new)) }
-    ensures first { IfOk result (λ w. IfSome w.refusal (λ refusal.
-        IsFirst (annotates_types flags) «module».new info.new refusal.place)) }
+    ensures written { IfOk result (λ w. (failures : ℕ) × AnswersWriting flags «module».new info.new
+        w.answer w.refusal [] (string_bytes w.sink) 0 failures) }
     ensures within { IfOk result (λ w. length (string_bytes w.sink) ≤ limits.text) }
     ensures unwritten { IfErr result (IsUnwritten flags limits «module».old «module».new info.old
         info.new) }

@@ -14,10 +14,12 @@ use Rattle.module_limits.specs.Nesting.{nested_past}
 use Rattle.module_limits.specs.declared.limits.Limits.{Limits}
 use Rattle.module_meaning.specs.acceptance.Accepted.{is_accepted}
 use Rattle.naga_wgsl_out.specs.Checked.{IsCounted}
+use Rattle.naga_wgsl_out.specs.Leaving.{Leaves}
 use Rattle.naga_wgsl_out.specs.Within.{AnswersBounded, AnswersWithin, IsTextWithin, TellsBounded}
 use Rattle.naga_wgsl_out.specs.declared.within.LimitedError.{LimitedError}
 use Rattle.naga_wgsl_out.specs.declared.within.LimitedError.TheVariants as limited
 use Rattle.naga_wgsl_out.specs.Writing.{AppendsItsText, written_text}
+use Rattle.naga_wgsl_out.proofs.Faithful.{leaves_beginning}
 
 -- a sink that began empty and is too long now tells that the whole text is
 pub whole_is_longer : (flags : WriterFlags) (m : Module) (info : ModuleInfo) (bound : ℕ) (answer : Result Unit Error) (content now : List ℕ) → content ≡ [] →
@@ -50,9 +52,9 @@ pub answers_bounded : {Y : Type 0} (flags own : WriterFlags) (m : Module) (info 
     FaithfulWriting own m info answer content held before after →
     OnOk answer (EachReading content held (MatchesModule (annotates_types own) m info)) →
     AppendsItsText m info own answer content held →
-    OnErr answer (IsAfter content (written_text m info own) held) →
+    Leaves own m info answer content held before after →
     TellsBounded bound answer now result → AnswersBounded flags bound m info result
-answers_bounded flags own m info bound answer content held now before after (Ok text) same empty none taken faithful matches appends following tells =
+answers_bounded flags own m info bound answer content held now before after (Ok text) same empty none taken faithful matches appends leaves tells =
     let P : Result Unit Error → Type 0 = λ a. FaithfulWriting own m info a content held before after in
     let f : FaithfulWriting own m info (Ok tt) content held before after = subst P tells.0 faithful in
     let whole : FaithfulWriting own m info (Ok tt) content held 0 0 = record { refusals = f.refusals; reading = f.reading; interface = f.interface; runs = f.runs } in
@@ -61,10 +63,10 @@ answers_bounded flags own m info bound answer content held now before after (Ok 
     (subst (λ a. OnOk a (EachReading content held (MatchesModule (annotates_types own) m info))) tells.0 matches)
     (subst (λ a. AppendsItsText m info own a content held) tells.0 appends)
     (subst (λ t. length t ≤ bound) (sym tells.1) tells.2)
-answers_bounded flags own m info bound answer content held now before after (Err limited.TooLong) same empty none taken faithful matches appends following tells =
+answers_bounded flags own m info bound answer content held now before after (Err limited.TooLong) same empty none taken faithful matches appends leaves tells =
     subst (λ f. bound < length (written_text m info f)) same
-    (whole_is_longer own m info bound answer content held empty appends following (omega (arith, tells, ap length taken)))
-answers_bounded flags own m info bound answer content held now before after (Err (limited.Refused error)) same empty none taken faithful matches appends following tells =
+    (whole_is_longer own m info bound answer content held empty appends (leaves_beginning own m info answer content held before after leaves) (omega (arith, tells, ap length taken)))
+answers_bounded flags own m info bound answer content held now before after (Err (limited.Refused error)) same empty none taken faithful matches appends leaves tells =
     record {
       beginning = held;
       failures = after;
@@ -74,9 +76,14 @@ answers_bounded flags own m info bound answer content held now before after (Err
           (subst (λ b. FaithfulWriting own m info (Err error) [] held b after) none
           (subst (λ c. FaithfulWriting own m info (Err error) c held before after) empty
           (subst (λ a. FaithfulWriting own m info a content held before after) tells.0 faithful)));
+      leaves =
+          subst (λ f. Leaves f m info (Err error) [] held 0 after) same
+          (subst (λ b. Leaves own m info (Err error) [] held b after) none
+          (subst (λ c. Leaves own m info (Err error) c held before after) empty
+          (subst (λ a. Leaves own m info a content held before after) tells.0 leaves)));
     }
-answers_bounded flags own m info bound answer content held now before after (Err (limited.TooDeep nested)) same empty none taken faithful matches appends following tells = absurd tells
-answers_bounded flags own m info bound answer content held now before after (Err (limited.NotAccepted fault)) same empty none taken faithful matches appends following tells = absurd tells
+answers_bounded flags own m info bound answer content held now before after (Err (limited.TooDeep nested)) same empty none taken faithful matches appends leaves tells = absurd tells
+answers_bounded flags own m info bound answer content held now before after (Err (limited.NotAccepted fault)) same empty none taken faithful matches appends leaves tells = absurd tells
 
 -- and so it is of one that was asked for first, and counted
 pub answers_within : {Y : Type 0} (flags : WriterFlags) (limits : Limits) (m : Module) (old new : ModuleInfo) (result : Result (String Y) LimitedError) →

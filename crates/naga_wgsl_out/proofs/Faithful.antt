@@ -52,7 +52,7 @@ use Rattle.naga_wgsl_out.specs.Leaving.{Leaves, LeavesOnError}
 use Rattle.naga_wgsl_out.specs.Unwritable.{TellsFirst}
 
 -- where nothing was written
-after_nothing : (content piece : List ℕ) → IsAfter content piece content
+pub after_nothing : (content piece : List ℕ) → IsAfter content piece content
 after_nothing content piece = ([], piece, refl, sym (append-nil content))
 
 -- what an error leaves: where it tells that a key is out of range it comes before any text

@@ -24,6 +24,9 @@ use Rattle.naga_names.proofs.Refusal.{element}
 use Rattle.module_meaning.specs.Names.{labels_before}
 use Rattle.naga_wgsl_fns.specs.declared.refusals.error.Error.{Error}
 use Rattle.naga_wgsl_fns.specs.declared.refusals.error.Error.TheVariants.{Custom, FmtError, Memory}
+use Rattle.naga_wgsl_fns.specs.declared.refusals.error.Error.TheVariants.{Unimplemented}
+use Rattle.naga_wgsl_fns.specs.declared.refusals.error.Error.TheVariants.{Unsupported}
+use Rattle.naga_wgsl_fns.specs.declared.refusals.error.Error.TheVariants.{UnsupportedRelationalFunction}
 use Rattle.naga_wgsl_fns.specs.Refusals.{IsFault, IsWritableAt}
 use Rattle.naga_wgsl_fns.specs.Refusals.{HasUnsupportedIn}
 use Rattle.naga_wgsl_fns.specs.DeclarationRefusals.{NamesDeclaration}
@@ -33,10 +36,13 @@ use Rattle.naga_wgsl_fns.specs.DeclarationRefusals.NamesDeclaration.{OfOffsets, 
 use Rattle.naga_wgsl_fns.specs.DeclarationRefusals.NamesDeclaration.{OfType as OfDeclaredType}
 use Rattle.naga_wgsl_fns.specs.DeclarationRefusals.NamesHead.{OfBinding, OfStage}
 use Rattle.naga_wgsl_fns.specs.Refusals.{NamesUnsupported}
-use Rattle.naga_wgsl_fns.specs.Refusals.{TellsOfModule}
-use Rattle.naga_wgsl_fns.proofs.PlanRefusals.{declaration_is_no_sink, named, planned_holds}
+use Rattle.naga_wgsl_fns.specs.Refusals.{TellsOfModule, TellsOfScope}
+use Rattle.naga_scope.specs.Plans.{HasScopeFaultIn}
+use Rattle.naga_wgsl_fns.proofs.PlanRefusals.{declaration_is_no_sink, fault_fails, named}
+use Rattle.naga_wgsl_fns.proofs.PlanRefusals.{planned_holds, unsupported_fails}
 use Rattle.naga_wgsl_out.proofs.UnsupportedTexts.{of_expression, of_statement, of_type}
-use Rattle.naga_wgsl_out.specs.ModuleRefusals.{IsRefusal, ItemsAreFull, TellsOfFunction}
+use Rattle.naga_wgsl_out.specs.ModuleRefusals.{HasUnsupported, IsRefusal, ItemsAreFull}
+use Rattle.naga_wgsl_out.specs.ModuleRefusals.{NothingIsRefused, TellsOfFunction}
 use Rattle.naga_wgsl_out.specs.Writing.{HasPlan}
 
 -- ---- a list of functions and its reverse
@@ -150,6 +156,21 @@ module _ (explicit : Bool) (m : Module) (info : ModuleInfo) (i : ℕ) where
   fault_refuses before after _ tells (inr (inr full)) = absurd full.0
 
 -- ---- declarations without a form
+-- none is named where all have forms
+no_declaration : (m : Module) (error : Error) → DeclarationsHaveForms m → NamesDeclaration m error → ⊥
+no_declaration m error have (OfDeclaredType ty is unsupported named) =
+    false≢true (sym unsupported ∙ have.types ty is)
+no_declaration m error have (OfInitialiser h is unsupported named) =
+    false≢true (sym unsupported ∙ have.initialisers h is)
+no_declaration m error have (OfMember b is unsupported named) =
+    false≢true (sym unsupported ∙ have.members b is)
+no_declaration m error have (OfHead number (OfBinding f b at is unsupported named)) =
+    false≢true (sym unsupported ∙ (have.heads number).bindings f at b is)
+no_declaration m error have (OfHead number (OfStage p at unsupported named)) =
+    false≢true (sym unsupported ∙ (have.heads number).stage p at)
+no_declaration m error have (OfOffsets h fault is named) = have.offsets h fault is
+no_declaration m error have (OfStride h ty is named) = have.strides h ty is
+
 -- one that is named is a reason
 pub declaration_refuses : (explicit : Bool) (m : Module) (info : ModuleInfo) (before after : ℕ)
     (error : Error) → NamesDeclaration m error → IsRefusal explicit m info before after error
@@ -162,16 +183,55 @@ declaration_refuses explicit m info before after _ named = inl named
 -- and tells of no function
 pub declaration_tells_of_none : (m : Module) (error : Error) → NamesDeclaration m error →
     TellsOfFunction m error → ⊥
-declaration_tells_of_none m error (OfDeclaredType ty is unsupported named) of =
-    false≢true (sym unsupported ∙ of.declarations.types ty is)
-declaration_tells_of_none m error (OfInitialiser h is unsupported named) of =
-    false≢true (sym unsupported ∙ of.declarations.initialisers h is)
-declaration_tells_of_none m error (OfMember b is unsupported named) of =
-    false≢true (sym unsupported ∙ of.declarations.members b is)
-declaration_tells_of_none m error (OfHead number (OfBinding f b at is unsupported named)) of =
-    false≢true (sym unsupported ∙ (of.declarations.heads number).bindings f at b is)
-declaration_tells_of_none m error (OfHead number (OfStage p at unsupported named)) of =
-    false≢true (sym unsupported ∙ (of.declarations.heads number).stage p at)
-declaration_tells_of_none m error (OfOffsets h fault is named) of =
-    of.declarations.offsets h fault is
-declaration_tells_of_none m error (OfStride h ty is named) of = of.declarations.strides h ty is
+declaration_tells_of_none m error named of = no_declaration m error of.declarations named
+
+-- ---- where nothing is refused
+-- a list and its reverse
+unturned : (fs following : List Function) → EachScopeHolds (reverse_aux fs following) →
+    EachScopeHolds fs × EachScopeHolds following
+unturned [] following each = (tt, each)
+unturned (f ∷ fs) following each =
+    let rest = unturned fs (f ∷ following) each in ((rest.1.0, rest.0), rest.1.1)
+
+at_each : (fs : List Function) (i : ℕ) → EachScopeHolds fs → IfSome (slice_get fs i) ScopeHolds
+at_each [] i each = tt
+at_each (f ∷ fs) zero each = each.0
+at_each (f ∷ fs) (suc i) each = at_each fs i each.1
+
+module _ (explicit : Bool) (m : Module) (info : ModuleInfo) (nothing : NothingIsRefused explicit m info)
+    where
+  -- each function can be written
+  each_writable : (i : ℕ) → IsWritableAt explicit m info (labels_before m i) i
+  each_writable i = record {
+    in_scope =
+        let own = function_shapes m info (all_functions m) (all_infos info) in
+        at_each own i (unturned own [] nothing.in_scope).0;
+    formed = nothing.formed i;
+    nameable = λ full. nothing.nameable (inr (i, full));
+  }
+
+  none_unsupported : (error : Error) → HasUnsupported explicit m info error → ⊥
+  none_unsupported error (inl named) = no_declaration m error nothing.declarations named
+  none_unsupported error (inr (i, unsupported)) =
+      unsupported_fails explicit m info i error unsupported (labels_before m i) (each_writable i)
+
+  none_out_of_scope : (error : Error) → TellsOfScope error → (i : ℕ) → HasScopeFaultIn m info i → ⊥
+  none_out_of_scope error says i fault =
+      fault_fails explicit m info (labels_before m i) i error (inl (says, fault)) (each_writable i)
+
+  -- so no error that tells of the module has a reason
+  pub no_refusal : (before after : ℕ) (error : Error) → TellsOfModule error →
+      IsRefusal explicit m info before after error → ⊥
+  no_refusal before after (FmtError e) tells is = tells
+  no_refusal before after (Memory e) tells is = tells
+  no_refusal before after (Custom message) tells (inl (inl full)) = nothing.nameable full.1
+  no_refusal before after (Custom message) tells (inl (inr key)) = nothing.keys key.1
+  no_refusal before after (Custom message) tells (inr (inl scope)) =
+      none_out_of_scope (Custom message) scope.0 scope.1.0 scope.1.1
+  no_refusal before after (Custom message) tells (inr (inr unsupported)) =
+      none_unsupported (Custom message) unsupported
+  no_refusal before after (Unimplemented message) tells is = none_unsupported (Unimplemented message) is
+  no_refusal before after (UnsupportedRelationalFunction fun) tells is =
+      none_unsupported (UnsupportedRelationalFunction fun) is
+  no_refusal before after (Unsupported kind value) tells is =
+      none_unsupported (Unsupported kind value) is

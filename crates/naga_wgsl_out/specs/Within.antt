@@ -17,6 +17,7 @@ use Rattle.naga_wgsl_fns.specs.declared.refusals.error.Error.{Error}
 use Rattle.naga_wgsl_fns.specs.declared.refusals.error.Error.TheVariants.{Memory}
 use Rattle.naga_wgsl_out.specs.Checked.{IsCounted}
 use Rattle.naga_wgsl_out.specs.Headline.{EachReading, FaithfulWriting, MatchesModule}
+use Rattle.naga_wgsl_out.specs.Leaving.{LeavesOnError}
 use Rattle.naga_wgsl_out.specs.Writing.{written_text}
 use Rattle.naga_wgsl_out.specs.declared.within.LimitedError.{LimitedError}
 use Rattle.naga_wgsl_out.specs.declared.within.LimitedError.TheVariants as limited
@@ -29,13 +30,15 @@ pub record IsTextWithin (flags : WriterFlags) (bound : ℕ) (m : Module) (info :
   pub faithful : FaithfulWriting flags m info (Ok tt) [] text 0 0
   pub matches : EachReading [] text (MatchesModule (annotates_types flags) m info)
 
--- the writer refused the module, or memory was wanting, after a text that was not too long
+-- the writer refused the module, or memory was wanting, after a text that was not too long, and what
+-- it left is told as of each call of the writer
 pub record IsRefusedWithin (flags : WriterFlags) (bound : ℕ) (m : Module) (info : ModuleInfo)
     (error : Error) : Type 0 where
   pub beginning : List ℕ
   pub failures : ℕ
   pub within : length beginning ≤ bound
   pub faithful : FaithfulWriting flags m info (Err error) [] beginning 0 failures
+  pub leaves : LeavesOnError flags m info error [] beginning 0 failures
 
 -- what is answered of an accepted module; in particular a text is too long only where the module's
 -- is

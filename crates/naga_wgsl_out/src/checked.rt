@@ -1,6 +1,6 @@
 //! The writer, after the question whether a module is accepted.
 
-ghost use Rattle.std.specs.Prelude.{◌≡◌, [], OnOk};
+ghost use Rattle.std.specs.Prelude.{◌≡◌, [], IfErr, OnOk};
 ghost use Rattle.std.specs.Option.{IfSome, is_none};
 ghost use Rattle.module_meaning.specs.acceptance.Accepted.{is_accepted};
 ghost use Rattle.naga_acceptance.specs.Faults.{Fails};
@@ -8,6 +8,8 @@ ghost use Rattle.naga_back.specs.Flags.{annotates_types};
 ghost use Rattle.naga_wgsl_out.specs.Checked.{IsCounted, fault_of, written_of};
 ghost use Rattle.naga_wgsl_out.specs.Headline.{EachReading, FaithfulWriting, MatchesModule};
 ghost use Rattle.naga_wgsl_out.specs.Headline.{answer_of, text_of};
+ghost use Rattle.naga_wgsl_fns.specs.Refusals.{TellsOfModule};
+ghost use Rattle.naga_wgsl_out.specs.Unwritable.{TellsFirst};
 ghost use Rattle.naga_wgsl_out.specs.Writing.{written_text};
 
 use crate::writer::write_string;
@@ -63,6 +65,8 @@ pub fn write_checked(
         (MatchesModule (annotates_types flags) «module».now info.new))) }
     ensures text { IfSome (written_of result) (λ r. OnOk (answer_of r)
         (text_of r ≡ written_text «module».now info.new flags)) }
+    ensures told { IfSome (written_of result) (λ r. IfErr r (λ e. TellsOfModule e →
+        TellsFirst (annotates_types flags) «module».now info.new e)) }
 {
     if let Some(fault) = unaccepted(module, info) {
         return Err(CheckedError::NotAccepted(fault));

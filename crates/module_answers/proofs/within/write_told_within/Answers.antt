@@ -1,13 +1,10 @@
-use Rattle.std.proofs.Common.{◌≡◌, ◌∙◌, ◌<◌, ◌≤◌, ℕ, [], Err, IfErr, IfNone, IfOk, IfSome, Ok, Some}
+use Rattle.std.proofs.Common.{◌≡◌, ◌∙◌, ◌<◌, ◌≤◌, Err, IfErr, IfNone, IfOk, IfSome, Ok, Some}
 use Rattle.std.proofs.Common.{ap, is_ok, length, refl, string_bytes, subst, sym}
-use Rattle.std.specs.Prelude.{OnErr}
-use Rattle.naga_words.specs.Sink.{IsAfter}
 use Rattle.naga_acceptance.specs.Faults.{Fails}
 use Rattle.naga_wgsl_out.specs.Checked.{IsCounted}
-use Rattle.naga_wgsl_out.specs.Headline.{FaithfulWriting}
-use Rattle.naga_wgsl_out.specs.Writing.{AppendsItsText, written_text}
 use Rattle.told_floats.specs.Told.{IsToldModule}
-use Rattle.module_answers.proofs.Bounded.{as_unwritten, is_too_long}
+use Rattle.module_answers.specs.Written.{AnswersWriting}
+use Rattle.module_answers.proofs.Bounded.{as_kept, as_unwritten, is_too_long}
 use Rattle.module_answers.proofs.within.write_told_within.Goals as goal
 
 pub returns-in_err-look_into-clause-unwritten : goal.returns-in_err-look_into-clause-unwritten
@@ -29,35 +26,22 @@ pub returns-in-Some-clause-counted : goal.returns-in-Some-clause-counted
 returns-in-Some-clause-counted c =
     subst (λ r. IfOk r (λ _. IsCounted c.write_told.new.«module» c.args.info.now c.write_told.new.info)) c.in-Ok.is c.write_told.ensures.counted
 
-pub returns-in-Some-clause-faithful : goal.returns-in-Some-clause-faithful
-returns-in-Some-clause-faithful c =
+pub returns-in-Some-clause-written : goal.returns-in-Some-clause-written
+returns-in-Some-clause-written c =
     let flags = c.args.flags in
     let m = c.write_told.new.«module» in
     let info = c.write_told.new.info in
     let w = c.in-Ok.written in
     let v = c.in-Some.whole in
-    let faithful = subst (λ r. IfOk r (λ w. FaithfulWriting flags m info w.answer c.new-empty.result.text w.sink.text c.new-empty.result.failures w.sink.failures)) c.in-Ok.is c.write_told.ensures.faithful in
-    let begun = subst (λ s. FaithfulWriting flags m info w.answer s.text w.sink.text s.failures w.sink.failures) c.new-empty.ensures faithful in
-    let answer = subst (λ o. IfSome o (λ v. v.answer ≡ w.answer)) c.in-Some.is c.kept.ensures.answer in
-    let text = subst (λ o. IfSome o (λ v. string_bytes v.sink ≡ w.sink.text)) c.in-Some.is c.kept.ensures.text in (
+    let written = subst (λ r. IfOk r (λ w. AnswersWriting flags m info w.answer w.refusal c.new-empty.result.text w.sink.text c.new-empty.result.failures w.sink.failures)) c.in-Ok.is c.write_told.ensures.written in
+    let begun = subst (λ s. AnswersWriting flags m info w.answer w.refusal s.text w.sink.text s.failures w.sink.failures) c.new-empty.ensures written in (
       w.sink.failures,
-      subst (λ a. FaithfulWriting flags m info a [] (string_bytes v.sink) 0 w.sink.failures) (sym answer)
-          (subst (λ t. FaithfulWriting flags m info w.answer [] t 0 w.sink.failures) (sym text) begun),
+      as_kept flags m info w.answer v.answer w.refusal v.refusal w.sink.text (string_bytes v.sink) w.sink.failures
+          (subst (λ o. IfSome o (λ v. v.answer ≡ w.answer)) c.in-Some.is c.kept.ensures.answer)
+          (subst (λ o. IfSome o (λ v. v.refusal ≡ w.refusal)) c.in-Some.is c.kept.ensures.refusal)
+          (subst (λ o. IfSome o (λ v. string_bytes v.sink ≡ w.sink.text)) c.in-Some.is c.kept.ensures.text)
+          begun,
     )
-
-pub returns-in-Some-clause-text : goal.returns-in-Some-clause-text
-returns-in-Some-clause-text c =
-    let flags = c.args.flags in
-    let m = c.write_told.new.«module» in
-    let info = c.write_told.new.info in
-    let w = c.in-Ok.written in
-    let v = c.in-Some.whole in
-    let appends = subst (λ r. IfOk r (λ w. AppendsItsText m info flags w.answer c.new-empty.result.text w.sink.text)) c.in-Ok.is c.write_told.ensures.text in
-    let begun = subst (λ s. AppendsItsText m info flags w.answer s.text w.sink.text) c.new-empty.ensures appends in
-    let answer = subst (λ o. IfSome o (λ v. v.answer ≡ w.answer)) c.in-Some.is c.kept.ensures.answer in
-    let text = subst (λ o. IfSome o (λ v. string_bytes v.sink ≡ w.sink.text)) c.in-Some.is c.kept.ensures.text in
-    subst (λ a. AppendsItsText m info flags a [] (string_bytes v.sink)) (sym answer)
-    (subst (λ t. AppendsItsText m info flags w.answer [] t) (sym text) begun)
 
 pub returns-in-Some-clause-within : goal.returns-in-Some-clause-within
 returns-in-Some-clause-within c =
@@ -69,13 +53,12 @@ returns-in-None-clause-unwritten c =
     let m = c.write_told.new.«module» in
     let info = c.write_told.new.info in
     let w = c.in-Ok.written in
-    is_too_long flags c.args.limits c.args.«module».now m c.args.info.now info w.answer c.new-empty.result.text w.sink.text
+    let written = subst (λ r. IfOk r (λ w. AnswersWriting flags m info w.answer w.refusal c.new-empty.result.text w.sink.text c.new-empty.result.failures w.sink.failures)) c.in-Ok.is c.write_told.ensures.written in
+    is_too_long flags c.args.limits c.args.«module».now m c.args.info.now info w.answer w.refusal w.sink.text w.sink.failures
     c.in_ok-look_into.ensures.flat
     (sym c.write_told.ensures.accepted ∙ ap is_ok c.in-Ok.is)
     (subst (λ r. IfOk r (λ _. IsCounted m c.args.info.now info)) c.in-Ok.is c.write_told.ensures.counted)
-    (ap (λ s. s.text) c.new-empty.ensures)
-    (subst (λ r. IfOk r (λ w. AppendsItsText m info flags w.answer c.new-empty.result.text w.sink.text)) c.in-Ok.is c.write_told.ensures.text)
-    (subst (λ r. IfOk r (λ w. OnErr w.answer (IsAfter c.new-empty.result.text (written_text m info flags) w.sink.text))) c.in-Ok.is c.write_told.ensures.beginning)
+    (subst (λ s. AnswersWriting flags m info w.answer w.refusal s.text w.sink.text s.failures w.sink.failures) c.new-empty.ensures written)
     (subst (λ o. IfNone o (c.args.limits.text < length w.sink.text)) c.in-None.is c.kept.ensures.too_long)
 
 pub returns-in-None-clause-too_long : goal.returns-in-None-clause-too_long
@@ -84,4 +67,9 @@ returns-in-None-clause-too_long c =
 
 pub returns-in-Err-clause-unwritten : goal.returns-in-Err-clause-unwritten
 returns-in-Err-clause-unwritten c =
-    (c.in_ok-look_into.ensures.flat, subst (λ r. IfErr r (Fails c.args.«module».now c.args.info.now)) c.in-Err.is c.write_told.ensures.fault, subst (λ r. IfErr r (λ _. c.write_told.new.«module» ≡ c.args.«module».now)) c.in-Err.is c.write_told.ensures.untouched)
+    let untouched = subst (λ r. IfErr r (λ _. (c.write_told.new.«module» ≡ c.args.«module».now) × (c.write_told.new.info ≡ c.args.info.now))) c.in-Err.is c.write_told.ensures.untouched in (
+      c.in_ok-look_into.ensures.flat,
+      subst (λ r. IfErr r (Fails c.args.«module».now c.args.info.now)) c.in-Err.is c.write_told.ensures.fault,
+      untouched.0,
+      untouched.1,
+    )

@@ -2,11 +2,10 @@ use Rattle.std.proofs.Common.{◌≡◌, ◌∙◌, Err, IfErr, IfOk, Ok, ap, le
 use Rattle.std.proofs.Common.{string_bytes, ◌≤◌, ℕ, []}
 use Rattle.std.specs.Prelude.{IsTrue}
 use Rattle.module_answers.specs.Within.{IsUnwritten}
+use Rattle.module_answers.specs.Written.{AnswersWriting}
 use Rattle.module_answers.specs.declared.within.Unwritten.TheVariants as unwritten
 use Rattle.module_meaning.specs.acceptance.Accepted.{is_accepted}
 use Rattle.naga_wgsl_out.specs.Checked.{IsCounted}
-use Rattle.naga_wgsl_out.specs.Headline.{FaithfulWriting}
-use Rattle.naga_wgsl_out.specs.Writing.{AppendsItsText}
 use Rattle.yorwethul_c.specs.Answers.{deepest_nesting, longest_text}
 use Rattle.yorwethul_c.proofs.Told.{as_given, at_most_seven, not_written, wrote}
 use Rattle.yorwethul_c.proofs.answers.written_as_given.Goals as goal
@@ -30,7 +29,6 @@ returns-in-Ok c =
     let w = c.in-Ok.written in
     let accepted = subst (λ r. IfOk r (λ _. IsTrue (is_accepted given read))) c.in-Ok.is c.write_within.ensures.accepted in
     let counted = subst (λ r. IfOk r (λ _. IsCounted m read info)) c.in-Ok.is c.write_within.ensures.counted in
-    let faithful = subst (λ r. IfOk r (λ w. (failures : ℕ) × FaithfulWriting writer m info w.answer [] (string_bytes w.sink) 0 failures)) c.in-Ok.is c.write_within.ensures.faithful in
-    let appends = subst (λ r. IfOk r (λ w. AppendsItsText m info writer w.answer [] (string_bytes w.sink))) c.in-Ok.is c.write_within.ensures.text in
+    let answers = subst (λ r. IfOk r (λ w. (failures : ℕ) × AnswersWriting writer m info w.answer w.refusal [] (string_bytes w.sink) 0 failures)) c.in-Ok.is c.write_within.ensures.written in
     let within = subst (λ r. IfOk r (λ w. length (string_bytes w.sink) ≤ longest_text)) c.in-Ok.is c.write_within.ensures.within in
-    λ json. wrote json c.args.flags writer given m read info w.answer (string_bytes w.sink) faithful.0 _ _ (at_most_seven c.args.flags c.requires.known) c.writer_flags.ensures (as_given c.args.flags given c.requires.known) accepted counted faithful.1 appends within c.told_written.ensures
+    λ json. wrote json c.args.flags writer given m read info w.answer (string_bytes w.sink) answers.0 _ _ (at_most_seven c.args.flags c.requires.known) c.writer_flags.ensures (as_given c.args.flags given c.requires.known) accepted counted answers.1.faithful answers.1.text within c.told_written.ensures

@@ -2,11 +2,10 @@ use Rattle.std.proofs.Common.{◌≡◌, ◌∙◌, Err, IfErr, IfOk, Ok, ap, le
 use Rattle.std.proofs.Common.{string_bytes, ◌≤◌, ℕ, []}
 use Rattle.std.specs.Prelude.{IsTrue}
 use Rattle.module_answers.specs.Within.{IsUnwritten}
+use Rattle.module_answers.specs.Written.{AnswersWriting}
 use Rattle.module_answers.specs.declared.within.Unwritten.TheVariants as unwritten
 use Rattle.module_meaning.specs.acceptance.Accepted.{is_accepted}
 use Rattle.naga_wgsl_out.specs.Checked.{IsCounted}
-use Rattle.naga_wgsl_out.specs.Headline.{FaithfulWriting}
-use Rattle.naga_wgsl_out.specs.Writing.{AppendsItsText}
 use Rattle.told_floats.specs.Told.{IsToldModule}
 use Rattle.yorwethul_c.specs.Answers.{deepest_nesting, longest_text}
 use Rattle.yorwethul_c.proofs.Told.{not_written, with_floats_told, wrote}
@@ -33,7 +32,6 @@ returns-in-Ok c =
     let accepted = subst (λ r. IfOk r (λ _. IsTrue (is_accepted given read))) c.in-Ok.is c.write_told_within.ensures.accepted in
     let counted = subst (λ r. IfOk r (λ _. IsCounted m read info)) c.in-Ok.is c.write_told_within.ensures.counted in
     let told = subst (λ r. IfOk r (λ _. IsToldModule given m)) c.in-Ok.is c.write_told_within.ensures.told in
-    let faithful = subst (λ r. IfOk r (λ w. (failures : ℕ) × FaithfulWriting writer m info w.answer [] (string_bytes w.sink) 0 failures)) c.in-Ok.is c.write_told_within.ensures.faithful in
-    let appends = subst (λ r. IfOk r (λ w. AppendsItsText m info writer w.answer [] (string_bytes w.sink))) c.in-Ok.is c.write_told_within.ensures.text in
+    let answers = subst (λ r. IfOk r (λ w. (failures : ℕ) × AnswersWriting writer m info w.answer w.refusal [] (string_bytes w.sink) 0 failures)) c.in-Ok.is c.write_told_within.ensures.written in
     let within = subst (λ r. IfOk r (λ w. length (string_bytes w.sink) ≤ longest_text)) c.in-Ok.is c.write_told_within.ensures.within in
-    λ json. wrote json c.args.flags writer given m read info w.answer (string_bytes w.sink) faithful.0 _ _ c.requires.known c.writer_flags.ensures (with_floats_told c.args.flags given m c.requires.told told) accepted counted faithful.1 appends within c.told_written.ensures
+    λ json. wrote json c.args.flags writer given m read info w.answer (string_bytes w.sink) answers.0 _ _ c.requires.known c.writer_flags.ensures (with_floats_told c.args.flags given m c.requires.told told) accepted counted answers.1.faithful answers.1.text within c.told_written.ensures

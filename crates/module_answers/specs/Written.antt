@@ -1,0 +1,46 @@
+-- What is told of an accepted module that the writer was asked for.
+--
+-- Throughout, m is the module, info is what is known of it with its uses counted, explicit says
+-- whether `let`s tell types, and answer says whether the module is written, or why not.
+use Rattle.std.specs.Prelude.{ℕ, Bool, List, IfErr, IsErrAnd, MatchOption, OnOk, Option, Result}
+use Rattle.naga_back.specs.Flags.{annotates_types}
+use Rattle.naga_back.specs.declared.flags.WriterFlags.{WriterFlags}
+use Rattle.naga_info.specs.declared.info.ModuleInfo.{ModuleInfo}
+use Rattle.naga_ir.specs.declared.module.Module.{Module}
+use Rattle.naga_wgsl_fns.specs.Refusals.{TellsOfModule}
+use Rattle.naga_wgsl_fns.specs.declared.refusals.error.Error.{Error}
+use Rattle.naga_wgsl_out.specs.Headline.{EachReading, FaithfulWriting, MatchesModule}
+use Rattle.naga_wgsl_out.specs.Leaving.{Leaves}
+use Rattle.naga_wgsl_out.specs.Unwritable.{IsFirst, StandsIn}
+use Rattle.naga_wgsl_out.specs.Writing.{AppendsItsText}
+use Rattle.naga_wgsl_out.specs.declared.unwritable.Refusal.{Refusal}
+
+-- The answer is an error that tells of the module, and a refusal is told beside it: its construct
+-- stands there, and nothing stands in front of it for which the module is refused.
+pub record TellsRefusal (explicit : Bool) (m : Module) (info : ModuleInfo)
+    (answer : Result Unit Error) (refusal : Refusal) : Type 0 where
+  pub tells : IsErrAnd answer TellsOfModule
+  pub stands : StandsIn explicit m info refusal
+  pub first : IsFirst explicit m info refusal.place
+
+-- a refusal is told beside the answer just where that is an error that tells of the module
+abbrev pub TellsBeside : (explicit : Bool) → Module → ModuleInfo → (answer : Result Unit Error) →
+    (told : Option Refusal) → Type 0
+TellsBeside explicit m info answer told =
+    MatchOption told (IfErr answer (λ e. TellsOfModule e → ⊥)) (TellsRefusal explicit m info answer)
+
+-- The writer was asked for the module, and flags say how it is written. Its sink held content before
+-- and holds now after, and had failed so often before and has failed so often after. This was
+-- answered, and told beside the answer:
+pub record AnswersWriting (flags : WriterFlags) (m : Module) (info : ModuleInfo)
+    (answer : Result Unit Error) (told : Option Refusal) (content now : List ℕ)
+    (before after : ℕ) : Type 0 where
+  -- what is promised of each call that writes an accepted module,
+  pub faithful : FaithfulWriting flags m info answer content now before after
+  pub matches : OnOk answer (EachReading content now (MatchesModule (annotates_types flags) m info))
+  -- that an `Ok` appends the text of the module, what the sink holds after an error and what that
+  -- names,
+  pub text : AppendsItsText m info flags answer content now
+  pub leaves : Leaves flags m info answer content now before after
+  -- and what the module is refused for.
+  pub refusal : TellsBeside (annotates_types flags) m info answer told
