@@ -5,6 +5,7 @@ use Rattle.module_answers.specs.Places.{json_place, json_refusal, json_refusal_p
 use Rattle.naga_acceptance.specs.declared.faults.FunctionPosition.TheVariants as place
 use Rattle.naga_acceptance.specs.declared.faults.Item.TheVariants as item
 use Rattle.naga_scope.specs.declared.declarations.DeclarationPosition.TheVariants as declaration
+use Rattle.naga_scope.specs.declared.lines.Line.TheVariants as line
 use Rattle.naga_scope.specs.declared.scope_faults.ScopeFault.TheVariants as scope
 use Rattle.naga_wgsl_fns.specs.declared.refusals.construct.Construct.TheVariants as construct
 use Rattle.naga_wgsl_fns.specs.declared.plans.FunctionPart.TheVariants as part
@@ -23,8 +24,8 @@ out_of_scope : json_refusal_place (refused.Function 0 (part.Scope (scope.Operand
 unfolding digits
 out_of_scope = refl
 
-a_refusal : json_refusal (record { construct = construct.FloatLiteral; place = refused.Function 0 (part.Expression 3) })
-    ≡ Some (codes "float literal: module.functions[0].expressions[3]")
+a_refusal : json_refusal (record { construct = construct.FloatLiteral; place = refused.Function 0 (part.Expression (line.Statement 1) 3) })
+    ≡ Some (codes "float literal: module.functions[0].expressions[3], in statement 1")
 unfolding digits
 a_refusal = refl
 

@@ -11,6 +11,10 @@ use Rattle.naga_acceptance.specs.declared.faults.Item.{Item}
 use Rattle.naga_acceptance.specs.declared.faults.Item.TheVariants as item
 use Rattle.naga_scope.specs.declared.declarations.DeclarationPosition.{DeclarationPosition}
 use Rattle.naga_scope.specs.declared.declarations.DeclarationPosition.TheVariants as declaration
+use Rattle.naga_scope.specs.declared.lines.Declared.{Declared}
+use Rattle.naga_scope.specs.declared.lines.Declared.TheVariants as declared
+use Rattle.naga_scope.specs.declared.lines.Line.{Line}
+use Rattle.naga_scope.specs.declared.lines.Line.TheVariants as line
 use Rattle.naga_scope.specs.declared.scope_faults.ScopeFault.{ScopeFault}
 use Rattle.naga_scope.specs.declared.scope_faults.ScopeFault.TheVariants as scope
 use Rattle.naga_wgsl_fns.specs.Constructs.{construct_text}
@@ -85,14 +89,27 @@ scope_place (scope.NeedsNoEmit statement expression) =
     expression_text expression
     ++ (codes ", which needs no Emit, in statement " ++ decimal statement)
 
+-- the line that writes an expression, after the expression
+abbrev pub line_place : Line → List ℕ
+line_place line.Signature = []
+line_place (line.Local h) = codes ", first value of " ++ listed (codes "local_variables") h
+line_place (line.Statement n) = codes ", in statement " ++ decimal n
+
+-- what declares a type, after the function
+abbrev pub declared_place : Declared → List ℕ
+declared_place (declared.Argument h) = listed (codes ".arguments") h
+declared_place declared.Result = codes ".result"
+declared_place (declared.Local h) = listed (codes ".local_variables") h
+
 -- a part of a function, after the function
 abbrev pub refused_part : FunctionPart → List ℕ
 refused_part part.Labels = codes ".named_expressions"
 refused_part (part.Scope fault) = scope_place fault
 refused_part (part.Statement n) = statement_text n
-refused_part (part.Expression h) = expression_text h
-refused_part (part.Type_ h) = codes ", of " ++ listed (codes "module.types") h
-refused_part (part.Let h) = expression_text h ++ codes ", the type of its let"
+refused_part (part.Expression at h) = expression_text h ++ line_place at
+refused_part (part.Type_ at ty) = declared_place at
+refused_part (part.Let n h) =
+    expression_text h ++ (codes ", the type of its let in statement " ++ decimal n)
 
 -- a declaration, after the module
 abbrev pub declaration_in_module : DeclarationPosition → List ℕ

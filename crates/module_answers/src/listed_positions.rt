@@ -2,7 +2,9 @@
 
 use naga_listing::{Listed, ListingPosition, Spot};
 use naga_wgsl_out::info::{FunctionPosition, Item};
-use naga_wgsl_out::wgsl::{DeclarationPosition, FunctionPart, RefusalPosition, ScopeFault};
+use naga_wgsl_out::wgsl::{
+    DeclarationPosition, Declared, FunctionPart, Line, RefusalPosition, ScopeFault,
+};
 
 /// The place of an item in a listing of what it is in.
 pub fn listed_position(item: Item) -> ListingPosition {
@@ -25,7 +27,8 @@ pub fn listed_position(item: Item) -> ListingPosition {
 }
 
 /// The place of a construct for which a module is refused in a listing of what it is in: of what is
-/// out of scope the expression, with the statement that uses or gives it beside.
+/// out of scope the expression, with the statement that uses or gives it beside; of an expression
+/// without a form, or whose `let` tells a type without one, the expression with its line beside.
 pub fn refused_position(place: RefusalPosition) -> ListingPosition {
     match place {
         RefusalPosition::Labels => declared(Spot::Whole),
@@ -67,7 +70,8 @@ fn declaration_position(place: DeclarationPosition) -> ListingPosition {
 
 fn refused_in(listed: Listed, part: FunctionPart) -> ListingPosition {
     match part {
-        FunctionPart::Labels | FunctionPart::Type_(_) => ListingPosition::of(listed, Spot::Whole),
+        FunctionPart::Labels => ListingPosition::of(listed, Spot::Whole),
+        FunctionPart::Type_(declared, _) => ListingPosition::of(listed, declared_spot(declared)),
         FunctionPart::Scope(fault) => {
             let (spot, beside) = fault_spots(fault);
             ListingPosition {
@@ -77,9 +81,33 @@ fn refused_in(listed: Listed, part: FunctionPart) -> ListingPosition {
             }
         }
         FunctionPart::Statement(number) => ListingPosition::of(listed, Spot::Statement(number)),
-        FunctionPart::Expression(handle) | FunctionPart::Let(handle) => {
-            ListingPosition::of(listed, Spot::Expression(handle))
-        }
+        FunctionPart::Expression(line, handle) => ListingPosition {
+            listed,
+            spot: Spot::Expression(handle),
+            beside: line_spot(line),
+        },
+        FunctionPart::Let(number, handle) => ListingPosition {
+            listed,
+            spot: Spot::Expression(handle),
+            beside: Some(Spot::Statement(number)),
+        },
+    }
+}
+
+/// What declares a type, where it is a local.
+fn declared_spot(declared: Declared) -> Spot {
+    match declared {
+        Declared::Argument(_) | Declared::Result => Spot::Whole,
+        Declared::Local(local) => Spot::Local(local),
+    }
+}
+
+/// The line that writes an expression.
+fn line_spot(line: Line) -> Option<Spot> {
+    match line {
+        Line::Signature => None,
+        Line::Local(local) => Some(Spot::Local(local)),
+        Line::Statement(number) => Some(Spot::Statement(number)),
     }
 }
 

@@ -1,8 +1,9 @@
 -- What a definition tells of a block by recursion over statements, blocks and cases is what is told of
 -- the list of its statements, each by itself.
-use Rattle.std.proofs.Common.{◌≡◌, ℕ, ◌+◌, ◌<◌, Bool, true, false, ◌&&◌, ◌||◌, List, [], ◌∷◌, ◌++◌}
+use Rattle.std.proofs.Common.{◌≡◌, ℕ, ◌+◌, ◌<◌, ◌≤◌, Bool, true, false, ◌&&◌, ◌||◌, List, [], ◌∷◌, ◌++◌}
 use Rattle.std.proofs.Common.{Option, refl, sym, ap, ◌∙◌, arith, append-nil, append_assoc, drop, length}
 use Rattle.std.proofs.Common.{Some, slice_get, slice_index_or, suc, zero}
+use Rattle.std.proofs.lemmas.List.{drop_all}
 use Rattle.std.proofs.Math.Bool.{and-true, and_assoc, or-false, or_assoc, or_comm}
 use Rattle.std.proofs.lemmas.List.Folds.{list_any-append}
 use Rattle.std.proofs.lemmas.List.Sums.{sum_by-cons}
@@ -197,3 +198,7 @@ tree_at ss i n x same lt is = ap (slice_get (trees_of ss)) same ∙ at ss i lt i
     at [] i lt is = absurd (omega (arith, lt))
     at (s ∷ ss) zero lt is = ap (λ y. Some (tree_of y.now)) (sym is)
     at (s ∷ ss) (suc i) lt is = at ss i (omega (arith, lt)) is
+
+-- none is left of them
+pub no_tree : (ss : List (Bor Statement)) (i : ℕ) → length ss ≤ i → trees_of (drop i ss) ≡ []
+no_tree ss i past = ap trees_of (drop_all i ss past)

@@ -21,3 +21,8 @@ pub mod Turns
 pub mod WrittenConstants
 pub mod UnsupportedDeclarations
 pub mod Searching
+pub mod FirstLines
+pub mod LineOrder
+pub mod EarliestFound
+pub mod WrittenLines
+pub mod FirstInText

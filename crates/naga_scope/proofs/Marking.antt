@@ -3,9 +3,6 @@ use Rattle.std.proofs.Common.{◌≡◌, ℕ, Bool, true, false, List, [], ◌�
 use Rattle.std.proofs.Common.{ap, ◌∙◌, length, nat_eq, nat_lt, suc, ◌+◌}
 use Rattle.std.proofs.Common.{append-nil, append_assoc, subst}
 use Rattle.std.specs.Prelude.{if◌then◌else◌}
-use Rattle.std.specs.List.{enumerate_from, filter, flat_map}
-use Rattle.std.specs.Option.{option_to_list}
-use Rattle.naga_ir.specs.declared.module.LocalVariable.{LocalVariable}
 use Rattle.naga_scope.specs.Marks.{MarksAlso, MarksJust, is_marked, is_one_of, marked_with}
 use Rattle.std.proofs.Common.{replicate, zero}
 
@@ -73,14 +70,6 @@ marks_then {old} {mid} {new} {xs} {ys} first second = record {
   marks = λ h. second.marks h ∙ marked_both old mid first.size h xs ys (first.marks h);
 }
 
--- what is left of a list by a test, by its first item
-pub kept_first : (keep : ℕ → Bool) (x : ℕ) (xs : List ℕ) → filter keep (x ∷ xs) ≡ (if keep x then x ∷ [] else []) ++ filter keep xs
-kept_first keep x xs = by (keep x)
-  where
-    by : (b : Bool) → (if b then x ∷ filter keep xs else filter keep xs) ≡ (if b then x ∷ [] else []) ++ filter keep xs
-    by true = refl
-    by false = refl
-
 -- some of these are marked, and the others are left
 pub record MarkedSoFar (old : List Bool) (all left : List ℕ) (new : List Bool) : Type 0 where
   pub done : List ℕ
@@ -99,16 +88,6 @@ so_far_more here left1 s split more = record {
 
 pub so_far_all : {old new : List Bool} {all left : List ℕ} → MarkedSoFar old all left new → left ≡ [] → MarksAlso old all new
 so_far_all {old} {new} s none = subst (λ hs. MarksAlso old hs new) (sym (s.parts ∙ (ap (λ hs. s.done ++ hs) none ∙ append-nil s.done))) s.so_far
-
--- ---- lists that a loop goes through
--- the first values of locals with their handles
-abbrev pub firsts_of : List (ℕ × LocalVariable) → List ℕ
-firsts_of ps = flat_map (λ p. option_to_list p.1.init) ps
-
-pub firsts_listed : (k : ℕ) (ls : List LocalVariable) →
-    firsts_of (enumerate_from k ls) ≡ flat_map (λ l. option_to_list l.init) ls
-firsts_listed k [] = refl
-firsts_listed k (l ∷ ls) = ap (λ hs. option_to_list l.init ++ hs) (firsts_listed (k + 1) ls)
 
 -- a table without marks
 pub unmarked : (n h : ℕ) → is_marked (replicate n false) h ≡ false

@@ -2,7 +2,6 @@
 use Rattle.std.proofs.Common.{◌≡◌, ℕ, zero, suc, ◌<◌, ◌≤◌, Bool, true, false, List, [], ◌∷◌}
 use Rattle.std.proofs.Common.{◌&&◌, ◌⊎◌, inl, inr, refl, sym, ap, ◌∙◌, subst, length, arith}
 use Rattle.std.proofs.Common.{nat_eq, nat_lt, None, Option, Some, slice_get, eqb-true, ap₂}
-use Rattle.std.specs.Prelude.{IsTrue}
 use Rattle.std.specs.List.{IsAmong}
 use Rattle.std.proofs.lemmas.Bool.{and_parts, cases_order, eqb-false, false≢true, lt-ltb}
 use Rattle.std.proofs.lemmas.Bool.{or_cases, or_left, or_right}
@@ -10,11 +9,11 @@ use Rattle.std.proofs.lemmas.Option.{same_Some, slice_get_within}
 use Rattle.module_meaning.specs.Written.{IsWritten, OperandOf, Root}
 use Rattle.naga_ir.specs.Operands.{expression_operands}
 use Rattle.naga_ir.specs.declared.expression.Expression.{Expression}
-use Rattle.naga_scope.specs.Marks.{MarksJust, Sweeps, is_marked, is_one_of, marked_with}
+use Rattle.naga_scope.specs.Marks.{MarksJust, is_marked, is_one_of, marked_with}
 use Rattle.shader_runs.specs.Premises.{AllBelow}
 
 -- ---- one of a list
-one_among : (hs : List ℕ) (x : ℕ) → is_one_of hs x ≡ true → IsAmong hs x
+pub one_among : (hs : List ℕ) (x : ℕ) → is_one_of hs x ≡ true → IsAmong hs x
 one_among [] x is = absurd cc
 one_among (h ∷ hs) x is = by (or_cases (nat_eq x h) (is_one_of hs x) is) (one_among hs x)
   where
@@ -23,7 +22,7 @@ one_among (h ∷ hs) x is = by (or_cases (nat_eq x h) (is_one_of hs x) is) (one_
     by (inl same) among = (0, (omega arith, eqb-true x h same))
     by (inr more) among = let a = among more in (suc a.0, (omega (arith, a.1.0), a.1.1))
 
-among_one : (hs : List ℕ) (x : ℕ) → IsAmong hs x → is_one_of hs x ≡ true
+pub among_one : (hs : List ℕ) (x : ℕ) → IsAmong hs x → is_one_of hs x ≡ true
 among_one [] x a = absurd (omega (arith, a.1.0))
 among_one (h ∷ hs) x (zero, a) = or_left (nat_eq x h) (is_one_of hs x) (same x h a.1)
   where
@@ -36,7 +35,7 @@ among_one (h ∷ hs) x (zero, a) = or_left (nat_eq x h) (is_one_of hs x) (same x
 among_one (h ∷ hs) x (suc i, a) =
     or_right (nat_eq x h) (is_one_of hs x) (among_one hs x (i, (omega (arith, a.0), a.1)))
 
-below_one : (h : ℕ) (hs : List ℕ) (x : ℕ) → AllBelow h hs → is_one_of hs x ≡ true → x < h
+pub below_one : (h : ℕ) (hs : List ℕ) (x : ℕ) → AllBelow h hs → is_one_of hs x ≡ true → x < h
 below_one h [] x below is = absurd cc
 below_one h (y ∷ hs) x below is =
     by (or_cases (nat_eq x y) (is_one_of hs x) is) (below_one h hs x below.1)
@@ -45,7 +44,7 @@ below_one h (y ∷ hs) x below is =
     by (inl same) more = subst (λ z. z < h) (sym (eqb-true x y same)) below.0
     by (inr is) more = more is
 
-from_there : (h j : ℕ) → h ≤ j → (j ≡ h) ⊎ (suc h ≤ j)
+pub from_there : (h j : ℕ) → h ≤ j → (j ≡ h) ⊎ (suc h ≤ j)
 from_there h j le = by (cases_order j h)
   where
     by : (j ≡ h) ⊎ ((j < h) ⊎ (h < j)) → (j ≡ h) ⊎ (suc h ≤ j)
@@ -54,14 +53,12 @@ from_there h j le = by (cases_order j h)
     by (inr (inr lt)) = inr lt
 
 -- ---- the sweep
-module _ (expression_has_form : Expression → Bool) (es : List Expression) (roots : List ℕ) (first : List Bool) where
-  -- After this handle, what is marked has a form and its operands are marked. What is marked is
-  -- written, and what was is.
+module _ (es : List Expression) (roots : List ℕ) (first : List Bool) where
+  -- After this handle, of what is marked the operands are marked. What is marked is written, and
+  -- what was is.
   pub record Swept (marks : List Bool) (end : ℕ) : Type 0 where
     pub sound : (h : ℕ) → is_marked marks h ≡ true → IsWritten es roots h
     pub kept : (h : ℕ) → is_marked first h ≡ true → is_marked marks h ≡ true
-    pub formed : (h : ℕ) (e : Expression) → end ≤ h → is_marked marks h ≡ true →
-        slice_get es h ≡ Some e → IsTrue (expression_has_form e)
     pub closed : (h : ℕ) (e : Expression) (y : ℕ) → end ≤ h → is_marked marks h ≡ true →
         slice_get es h ≡ Some e → is_one_of (expression_operands e) y ≡ true → y < length es →
         is_marked marks y ≡ true
@@ -73,7 +70,6 @@ module _ (expression_has_form : Expression → Bool) (es : List Expression) (roo
           (one_among roots h
           (and_parts (is_one_of roots h) (nat_lt h (length first)) (sym (just h) ∙ is)).0);
       kept = λ h is. is;
-      formed = λ h e le is at. absurd (none h e le at);
       closed = λ h e y le is at one lt. absurd (none h e le at);
     }
       where
@@ -81,7 +77,7 @@ module _ (expression_has_form : Expression → Bool) (es : List Expression) (roo
         none h e le at = let lt = slice_get_within es h e at in omega (arith, lt, le, past)
 
     -- at the end each written handle is marked
-    all_marked : (marks : List Bool) → Swept marks 0 → (h : ℕ) → h < length es →
+    pub all_marked : (marks : List Bool) → Swept marks 0 → (h : ℕ) → h < length es →
         IsWritten es roots h → is_marked marks h ≡ true
     all_marked marks swept h lt (Root _ among) =
         swept.kept h
@@ -92,41 +88,12 @@ module _ (expression_has_form : Expression → Bool) (es : List Expression) (roo
         swept.closed h e x (omega arith) (all_marked marks swept h (slice_get_within es h e at) is) at
         (among_one (expression_operands e) x among) lt
 
-    -- and has a form
-    pub ended : (marks : List Bool) → Swept marks 0 → (h : ℕ) (e : Expression) →
-        slice_get es h ≡ Some e → IsWritten es roots h → IsTrue (expression_has_form e)
-    ended marks swept h e at is =
-        swept.formed h e (omega arith) (all_marked marks swept h (slice_get_within es h e at) is) at
-
-  -- from the handle on to which the sweep came, each that is written is marked, and has a form
-  module _ (just : MarksJust roots first) (size : length first ≡ length es)
-      (ordered : (h : ℕ) (e : Expression) → slice_get es h ≡ Some e → AllBelow h (expression_operands e))
-      (marks : List Bool) (end : ℕ) (swept : Swept marks end) where
-    later_marked : (h : ℕ) → end ≤ h → h < length es → IsWritten es roots h → is_marked marks h ≡ true
-    later_marked h le lt (Root _ among) =
-        swept.kept h
-        (just h
-        ∙ ap₂ (λ a b. a && b) (among_one roots h among)
-        (lt-ltb h (length first) (subst (λ n. h < n) (sym size) lt)))
-    later_marked x le lt (OperandOf h _ e is at among) =
-        let one = among_one (expression_operands e) x among in
-        let below = below_one h (expression_operands e) x (ordered h e at) one in
-        let after : end ≤ h = omega (arith, le, below) in
-        swept.closed h e x after (later_marked h after (slice_get_within es h e at) is) at one lt
-
-    pub later_formed : (h : ℕ) → end ≤ suc h → (x : ℕ) (e : Expression) → h < x → slice_get es x ≡ Some e →
-        IsWritten es roots x → IsTrue (expression_has_form e)
-    later_formed h le x e lt at is =
-        let after : end ≤ x = omega (arith, le, lt) in
-        swept.formed x e after (later_marked x after (slice_get_within es x e at) is) at
-
   -- what has no mark is passed
   pub passed : (marks : List Bool) (h : ℕ) → is_marked marks h ≡ false → Swept marks (suc h) →
       Swept marks h
   passed marks h unmarked swept = record {
     sound = swept.sound;
     kept = swept.kept;
-    formed = λ j e le is at. swept.formed j e (later j le is) is at;
     closed = λ j e y le is at one lt. swept.closed j e y (later j le is) is at one lt;
   }
     where
@@ -137,16 +104,22 @@ module _ (expression_has_form : Expression → Bool) (es : List Expression) (roo
           by (inl same) = absurd (false≢true (sym unmarked ∙ (ap (is_marked marks) (sym same) ∙ is)))
           by (inr lt) = lt
 
-  -- what is marked has a form, and its operands are marked
+  -- the same of a table with the same marks
+  pub moved : (old new : List Bool) (end : ℕ) → ((j : ℕ) → is_marked new j ≡ is_marked old j) → Swept old end → Swept new end
+  moved old new end same swept = record {
+    sound = λ h is. swept.sound h (sym (same h) ∙ is);
+    kept = λ h is. same h ∙ swept.kept h is;
+    closed = λ h e y le is at one lt. same y ∙ swept.closed h e y le (sym (same h) ∙ is) at one lt;
+  }
+
+  -- the operands of what is marked are marked
   pub next : (old new : List Bool) (h : ℕ) (e : Expression) → length old ≡ length es →
       slice_get es h ≡ Some e → AllBelow h (expression_operands e) → is_marked old h ≡ true →
-      IsTrue (expression_has_form e) →
       ((j : ℕ) → is_marked new j ≡ marked_with old (expression_operands e) j) → Swept old (suc h) →
       Swept new h
-  next old new h e size at below marked formed marks swept = record {
+  next old new h e size at below marked marks swept = record {
     sound = λ j is. sound j (or_cases (is_marked old j) _ (sym (marks j) ∙ is));
     kept = λ j is. stays j (swept.kept j is);
-    formed = λ j d le is there. form j d is there (from_there h j le);
     closed = λ j d y le is there one lt. close j d y is there one lt (from_there h j le);
   }
     where
@@ -177,13 +150,6 @@ module _ (expression_has_form : Expression → Bool) (es : List Expression) (roo
               (and_parts (is_one_of (expression_operands e) j) (nat_lt j (length old)) is).0 in
               absurd (omega (arith, lt, le))
 
-      form : (j : ℕ) (d : Expression) → is_marked new j ≡ true → slice_get es j ≡ Some d →
-          (j ≡ h) ⊎ (suc h ≤ j) → IsTrue (expression_has_form d)
-      form j d is there (inl same) =
-          subst (λ x. IsTrue (expression_has_form x))
-          (same_Some e d (sym at ∙ (ap (slice_get es) (sym same) ∙ there))) formed
-      form j d is there (inr lt) = swept.formed j d lt (was j (omega (arith, lt)) is) there
-
       close : (j : ℕ) (d : Expression) (y : ℕ) → is_marked new j ≡ true → slice_get es j ≡ Some d →
           is_one_of (expression_operands d) y ≡ true → y < length es →
           (j ≡ h) ⊎ (suc h ≤ j) → is_marked new y ≡ true
@@ -198,18 +164,8 @@ module _ (expression_has_form : Expression → Bool) (es : List Expression) (roo
 
 -- ---- other lists of the same handles
 module _ (es : List Expression) where
-  written_by : (roots other : List ℕ) → ((h : ℕ) → is_one_of roots h ≡ is_one_of other h) → (h : ℕ) →
+  pub written_by : (roots other : List ℕ) → ((h : ℕ) → is_one_of roots h ≡ is_one_of other h) → (h : ℕ) →
       IsWritten es roots h → IsWritten es other h
   written_by roots other same h (Root _ is) = Root h (one_among other h (sym (same h) ∙ among_one roots h is))
   written_by roots other same x (OperandOf h _ e written at among) =
       OperandOf h x e (written_by roots other same h written) at among
-
-  pub sweeps_by : (formed : Expression → Bool) (roots other : List ℕ) → ((h : ℕ) → is_one_of roots h ≡ is_one_of other h) →
-      (found : Option ℕ) → Sweeps formed es roots found → Sweeps formed es other found
-  sweeps_by formed roots other same None each =
-      λ h e at written. each h e at (written_by other roots (λ h. sym (same h)) h written)
-  sweeps_by formed roots other same (Some h) swept = (
-    written_by roots other same h swept.0,
-    swept.1,
-    λ x e lt at written. swept.2 x e lt at (written_by other roots (λ h. sym (same h)) x written),
-  )

@@ -2,11 +2,14 @@ pub mod Availabilities
 pub mod Changes
 pub mod Continues
 pub mod Declarations
+pub mod Earliest
 pub mod ExpressionNames
 pub mod UnsupportedStatements
+pub mod FirstLines
 pub mod Forms
 pub mod InOrder
 pub mod KnownFunctions
+pub mod Lines
 pub mod Log
 pub mod Marks
 pub mod Plans

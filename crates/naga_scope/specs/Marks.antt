@@ -53,14 +53,3 @@ pub record GlobalsStandInOrder (m : Module) : Type 0 where
 -- just what may be written out as a constant has a mark
 abbrev pub MarksConstants : List Expression → List Bool → Type 0
 MarksConstants es marks = (h : ℕ) → is_marked marks h ≡ is_written_out es h
-
--- Each written handle has a form, as formed says of its expression, or this one, which is written,
--- is the last that has none.
-abbrev pub Sweeps : (formed : Expression → Bool) → List Expression → (roots : List ℕ) → Option ℕ →
-    Type 0
-Sweeps formed es roots None =
-    (h : ℕ) (e : Expression) → slice_get es h ≡ Some e → IsWritten es roots h → IsTrue (formed e)
-Sweeps formed es roots (Some h) =
-    IsWritten es roots h × IsSomeAnd (slice_get es h) (λ e. IsFalse (formed e))
-    × ((x : ℕ) (e : Expression) → h < x → slice_get es x ≡ Some e → IsWritten es roots x →
-    IsTrue (formed e))

@@ -2,16 +2,16 @@
 --
 -- Throughout, m is the module, info is what is known of its expressions, f is the shape of a
 -- function, and explicit says whether `let`s tell types.
-use Rattle.std.specs.Prelude.{◌≡◌, ◌<◌, ◌^◌, ⊤, ℕ, Bool, List, [], Some, None, Err, IsSomeAnd}
-use Rattle.std.specs.Prelude.{IsFalse, IsTrue, get_or, length, nat_le, slice_get}
+use Rattle.std.specs.Prelude.{◌≡◌, ◌<◌, ◌^◌, ◌⊎◌, ⊤, ℕ, Bool, List, [], Some, None, Err, IsSomeAnd}
+use Rattle.std.specs.Prelude.{IsFalse, IsTrue, Result, get_or, length, nat_le, slice_get}
+use Rattle.std.specs.List.{IsAmong}
 use Rattle.naga_ir.specs.declared.expression.Expression.{Expression}
 use Rattle.naga_ir.specs.declared.module.Function as ir
 use Rattle.naga_info.specs.declared.info.ExpressionInfo.{ExpressionInfo}
 use Rattle.module_meaning.specs.ExpressionForms.{expression_has_form}
 use Rattle.module_meaning.specs.Namings.{function_naming}
-use Rattle.module_meaning.specs.StatementForms.{block_has_forms}
 use Rattle.module_meaning.specs.Undeclared.{is_spellable}
-use Rattle.module_meaning.specs.Written.{IsSpelledIn, IsWrittenIn, OfFunctionAt, WrittenHaveForms}
+use Rattle.module_meaning.specs.Written.{IsSpelledIn, OfFunctionAt, WrittenHaveForms}
 use Rattle.naga_ir.specs.declared.module.Module.{Module}
 use Rattle.naga_info.specs.declared.info.ModuleInfo.{ModuleInfo}
 use Rattle.naga_info.specs.declared.info.TypeResolution.TheVariants.{Handle}
@@ -27,12 +27,19 @@ use Rattle.naga_names.specs.Naming.{HasNamed, Names}
 use Rattle.naga_scope.specs.ExpressionNames.{IsRefusalOfLabels}
 use Rattle.naga_scope.specs.Availabilities.{TextPoint, handles_of}
 use Rattle.naga_scope.specs.Changes.{block_changes}
-use Rattle.naga_scope.specs.UnsupportedStatements.{FormedBefore, IsUnsupportedAt}
+use Rattle.naga_scope.specs.UnsupportedStatements.{IsUnsupportedAt, own_unsupported}
 use Rattle.naga_scope.specs.UnsupportedStatements.{unsupported_statement}
+use Rattle.naga_scope.specs.Earliest.{line_of, line_of_declared, line_of_fault}
 use Rattle.naga_scope.specs.InOrder.{trees_in}
 use Rattle.naga_scope.specs.ScopeChecks.{check_function}
 use Rattle.naga_scope.specs.ScopeFaults.{IsScopeFault}
-use Rattle.naga_scope.specs.SpelledTypes.{annotated_unsupported, declared_unsupported}
+use Rattle.naga_scope.specs.Lines.{IsWrittenAt, declared_type, is_before, lets_at}
+use Rattle.naga_scope.specs.SpelledTypes.{declared_unsupported, own_annotated}
+use Rattle.naga_scope.specs.declared.lines.Declared.{Declared}
+use Rattle.naga_scope.specs.declared.lines.Line.{Line}
+use Rattle.naga_scope.specs.declared.lines.Line.TheVariants.{Statement}
+use Rattle.naga_scope.specs.declared.scope_faults.ScopeFault.{ScopeFault}
+use Rattle.naga_ir.specs.StatementTree.{StatementTree}
 use Rattle.naga_scope.specs.declared.known_function.KnownFunction.{KnownFunction}
 use Rattle.naga_scope.specs.Log.{HasRoom}
 use Rattle.naga_scope.specs.declared.plan.PlanError.{PlanError}
@@ -68,62 +75,121 @@ pub record IsPlan (explicit : Bool) (m : Module) (info : ModuleInfo) (f : ir.Fun
   pub formed : WrittenHaveForms explicit m info f es
 
 -- why there is no plan of it, where the namer was this: it breaks a rule of scope with this fault,
--- this statement is the first without a form, a written handle has none, a type that is spelled has
--- none, a label gets no name, or memory ran out
+-- this statement has no form, nor has what this line writes, a type that is declared here or one that
+-- a `let` of this statement tells, a label gets no name, or memory ran out
 abbrev pub IsRefusalToPlan : (explicit : Bool) → Module → ModuleInfo → ir.Function →
     List ExpressionInfo → Names → PlanError → Type 0
 IsRefusalToPlan explicit m info f es namer (OutOfScope fault) =
     IsScopeFault (function_shape m info f es) fault
 IsRefusalToPlan explicit m info f es namer (StatementWithoutForm n it) =
     (unsupported_statement f.body ≡ Some it) × IsUnsupportedAt f.body n it
-IsRefusalToPlan explicit m info f es namer (WithoutForm h) =
-    IsWrittenIn m info f es h
+IsRefusalToPlan explicit m info f es namer (WithoutForm line h) =
+    IsWrittenAt m info f es line h
     × IsSomeAnd (slice_get f.expressions h)
     (λ e. IsFalse (expression_has_form m es f.expressions e))
-IsRefusalToPlan explicit m info f es namer (TypeWithoutForm ty) =
-    IsSpelledIn explicit m info f es (Handle ty) × IsFalse (is_spellable m (Handle ty))
-IsRefusalToPlan explicit m info f es namer (LetWithoutForm h) =
-    IsSomeAnd (slice_get es h)
+IsRefusalToPlan explicit m info f es namer (TypeWithoutForm at ty) =
+    (declared_type f at ≡ Some ty) × IsFalse (is_spellable m (Handle ty))
+IsRefusalToPlan explicit m info f es namer (LetWithoutForm n h) =
+    IsAmong (lets_at (binds (function_shape m info f es)) f n) h
+    × IsSomeAnd (slice_get es h)
     (λ k. IsSpelledIn explicit m info f es k.ty × IsFalse (is_spellable m k.ty))
 IsRefusalToPlan explicit m info f es namer (Unnamed error) =
     (earlier : List (List ℕ)) → HasNamed namer earlier →
     IsRefusalOfLabels namer earlier (expression_labels f) error
 IsRefusalToPlan explicit m info f es namer (Memory e) = Unit {0}
 
--- the rules of scope hold in it, and its statements and all that is written of it have forms
-abbrev pub IsFormedBefore : Module → ModuleInfo → ir.Function → List ExpressionInfo → Type 0
-IsFormedBefore m info f es =
-    ScopeHolds (function_shape m info f es) × IsTrue (block_has_forms f.body)
-    × ((x : ℕ) (e : Expression) → slice_get f.expressions x ≡ Some e → IsWrittenIn m info f es x →
-    IsTrue (expression_has_form m es f.expressions e))
-
 -- the labels that front ends gave in it get names after all that the namer has named
 abbrev pub LabelsGetNames : Names → ir.Function → Type 0
 LabelsGetNames namer f = (earlier : List (List ℕ)) → HasNamed namer earlier →
     SomeLabelIsFull namer earlier (expression_labels f) → ⊥
 
--- A function is looked at by the labels that front ends gave in it, the rules of scope, its
--- statements, what is written of it, the types that it declares and those that its `let`s tell. All
--- that is looked at before this error is found is without one; of the labels Labelled says it. In
--- front of a label without a name, and of want of memory, nothing is told.
+-- ---- which refusal is the first
+-- what a line can be refused for, in the order in which it is told: a rule of scope, the form of the
+-- statement, that of an expression, of a type that is declared, or of one that a `let` tells
+pub data Kind : Type 0 where
+  ScopeRule : Kind
+  StatementForm : Kind
+  ExpressionForm : Kind
+  DeclaredType : Kind
+  LetType : Kind
+
+abbrev pub kind_rank : Kind → ℕ
+kind_rank ScopeRule = 0
+kind_rank StatementForm = 1
+kind_rank ExpressionForm = 2
+kind_rank DeclaredType = 3
+kind_rank LetType = 4
+
+abbrev pub kind_of : PlanError → Kind
+kind_of (StatementWithoutForm n it) = StatementForm
+kind_of (WithoutForm line h) = ExpressionForm
+kind_of (TypeWithoutForm at ty) = DeclaredType
+kind_of (LetWithoutForm n h) = LetType
+kind_of error = ScopeRule
+
+-- the first kind on the first line comes before the second on the second
+abbrev pub ComesBefore : Line → Kind → Line → Kind → Type 0
+ComesBefore first kind second other =
+    IsTrue (is_before first second) ⊎ ((first ≡ second) × (kind_rank kind < kind_rank other))
+
+-- what the check of scope finds in a function
+abbrev pub checked_scope : Module → ModuleInfo → ir.Function → List ExpressionInfo →
+    Result ℕ ScopeFault
+checked_scope m info f es =
+    check_function (function_naming (λ key. None) (λ number. []) m info 0 f es)
+
+-- Nothing of this kind is refused on this line.
+abbrev pub NothingAt : (explicit : Bool) → Module → ModuleInfo → ir.Function →
+    List ExpressionInfo → Kind → Line → Type 0
+NothingAt explicit m info f es ScopeRule line =
+    (fault : ScopeFault) → checked_scope m info f es ≡ Err fault → line_of_fault fault ≡ line → ⊥
+NothingAt explicit m info f es StatementForm (Statement n) =
+    (st : StatementTree) → slice_get (trees_in f.body) n ≡ Some st → own_unsupported st ≡ None
+NothingAt explicit m info f es ExpressionForm line =
+    (h : ℕ) (e : Expression) → slice_get f.expressions h ≡ Some e →
+    IsWrittenAt m info f es line h → IsTrue (expression_has_form m es f.expressions e)
+NothingAt explicit m info f es DeclaredType line =
+    (at : Declared) (ty : ℕ) → declared_type f at ≡ Some ty → line_of_declared at ≡ line →
+    IsTrue (is_spellable m (Handle ty))
+NothingAt explicit m info f es LetType (Statement n) =
+    (st : StatementTree) → slice_get (trees_in f.body) n ≡ Some st →
+    own_annotated explicit m es (binds (function_shape m info f es)) st ≡ None
+NothingAt explicit m info f es kind line = ⊤
+
+-- It is the first of its kind on its line: the fault that the check finds, the written expression
+-- without a form with the lowest handle, the first declared type without a form, or the first `let`
+-- of the statement that tells one.
+abbrev pub IsFirstOfKind : (explicit : Bool) → Module → ModuleInfo → ir.Function →
+    List ExpressionInfo → PlanError → Type 0
+IsFirstOfKind explicit m info f es (OutOfScope fault) = checked_scope m info f es ≡ Err fault
+IsFirstOfKind explicit m info f es (WithoutForm line h) =
+    (x : ℕ) (e : Expression) → x < h → slice_get f.expressions x ≡ Some e →
+    IsWrittenAt m info f es line x → IsTrue (expression_has_form m es f.expressions e)
+IsFirstOfKind explicit m info f es (TypeWithoutForm at ty) =
+    declared_unsupported m f ≡ Some (at, ty)
+IsFirstOfKind explicit m info f es (LetWithoutForm n h) =
+    (st : StatementTree) → slice_get (trees_in f.body) n ≡ Some st →
+    own_annotated explicit m es (binds (function_shape m info f es)) st ≡ Some h
+IsFirstOfKind explicit m info f es error = ⊤
+
+-- It is the first of its kind on its line, and nothing is refused on a line before, nor on its own
+-- line for a kind that is told before.
+pub record IsFirstInText (explicit : Bool) (m : Module) (info : ModuleInfo) (f : ir.Function)
+    (es : List ExpressionInfo) (error : PlanError) : Type 0 where
+  pub of_kind : IsFirstOfKind explicit m info f es error
+  pub before : (line : Line) (kind : Kind) →
+      ComesBefore line kind (line_of error) (kind_of error) →
+      NothingAt explicit m info f es kind line
+
+-- A function is looked at by the labels that front ends gave in it, and then in the order of its
+-- text. All that is looked at before this error is found is without one; of the labels Labelled says
+-- it. In front of a label without a name, and of want of memory, nothing is told.
 abbrev pub IsFirstToPlan : (Labelled : Type 0) → (explicit : Bool) → Module → ModuleInfo →
     ir.Function → List ExpressionInfo → PlanError → Type 0
-IsFirstToPlan Labelled explicit m info f es (OutOfScope fault) =
-    Labelled × (check_function (function_naming (λ key. None) (λ number. []) m info 0 f es)
-    ≡ Err fault)
-IsFirstToPlan Labelled explicit m info f es (StatementWithoutForm n it) =
-    Labelled × ScopeHolds (function_shape m info f es) × FormedBefore (trees_in f.body) n
-IsFirstToPlan Labelled explicit m info f es (WithoutForm h) =
-    Labelled × ScopeHolds (function_shape m info f es) × IsTrue (block_has_forms f.body)
-    × ((x : ℕ) (e : Expression) → h < x → slice_get f.expressions x ≡ Some e →
-    IsWrittenIn m info f es x → IsTrue (expression_has_form m es f.expressions e))
-IsFirstToPlan Labelled explicit m info f es (TypeWithoutForm ty) =
-    Labelled × IsFormedBefore m info f es × (declared_unsupported m f ≡ Some ty)
-IsFirstToPlan Labelled explicit m info f es (LetWithoutForm h) =
-    Labelled × IsFormedBefore m info f es × (declared_unsupported m f ≡ None)
-    × (annotated_unsupported explicit m es (binds (function_shape m info f es)) f ≡ Some h)
 IsFirstToPlan Labelled explicit m info f es (Unnamed error) = ⊤
 IsFirstToPlan Labelled explicit m info f es (Memory e) = ⊤
+IsFirstToPlan Labelled explicit m info f es error =
+    Labelled × IsFirstInText explicit m info f es error
 
 -- so it is where the namer was this
 abbrev pub IsFirstToPlanFor : (explicit : Bool) → KnownFunction → Names → PlanError → Type 0

@@ -2,34 +2,52 @@
 -- them that no text can spell.
 --
 -- Throughout, m is a module, ty is the handle of one of its types, r a type of an expression, f is
--- a function, es is what is known of its expressions, h is the handle of one, and binds says of
--- each whether a `let` binds it.
-use Rattle.std.specs.Prelude.{ℕ, Bool, false, List, ◌&&◌, ◌++◌, Option, None, if◌then◌else◌, map}
-use Rattle.std.specs.Prelude.{not, slice_get}
-use Rattle.std.specs.List.{find}
+-- a function, es is what is known of its expressions, h is the handle of one, binds says of each
+-- whether a `let` binds it, and n is the number of a statement.
+use Rattle.std.specs.Prelude.{◌≡◌, ℕ, Bool, false, List, ◌&&◌, ◌++◌, Option, Some, None, map}
+use Rattle.std.specs.Prelude.{if◌then◌else◌, not, slice_get}
+use Rattle.std.specs.List.{enumerate_from, find}
 use Rattle.std.specs.Option.{option_map, option_map_or, option_to_list}
 use Rattle.module_meaning.specs.AlikeTypes.{is_spelled}
 use Rattle.module_meaning.specs.Undeclared.{is_spellable, names_undeclared}
-use Rattle.module_meaning.specs.Written.{block_lets}
 use Rattle.naga_info.specs.declared.info.ExpressionInfo.{ExpressionInfo}
 use Rattle.naga_info.specs.declared.info.TypeResolution.{TypeResolution}
 use Rattle.naga_info.specs.declared.info.TypeResolution.TheVariants.{Handle}
+use Rattle.naga_ir.specs.StatementTree.{StatementTree}
 use Rattle.naga_ir.specs.declared.module.Function.{Function}
+use Rattle.naga_ir.specs.declared.module.FunctionArgument.{FunctionArgument}
+use Rattle.naga_ir.specs.declared.module.FunctionResult.{FunctionResult}
+use Rattle.naga_ir.specs.declared.module.LocalVariable.{LocalVariable}
 use Rattle.naga_ir.specs.declared.module.Module.{Module}
+use Rattle.naga_scope.specs.Declarations.{FindsFirst}
+use Rattle.naga_scope.specs.InOrder.{own_lets}
+use Rattle.naga_scope.specs.declared.lines.Declared.{Declared}
+use Rattle.naga_scope.specs.declared.lines.Declared.TheVariants.{Argument, Result, Local}
 
--- those of its arguments, its result and its locals
-abbrev pub declared_types : Function → List ℕ
+-- those of its arguments, its result and its locals, each with what declares it
+abbrev pub argument_types : List FunctionArgument → List (Declared × ℕ)
+argument_types arguments = map (λ p. (Argument p.0, p.1.ty)) (enumerate_from 0 arguments)
+
+abbrev pub result_types : Option FunctionResult → List (Declared × ℕ)
+result_types result = option_to_list (option_map (λ r. (Result, r.ty)) result)
+
+abbrev pub local_types : List LocalVariable → List (Declared × ℕ)
+local_types locals = map (λ p. (Local p.0, p.1.ty)) (enumerate_from 0 locals)
+
+abbrev pub declared_types : Function → List (Declared × ℕ)
 declared_types f =
-    map (λ a. a.ty) f.arguments.items ++
-    (option_to_list (option_map (λ r. r.ty) f.result) ++ map (λ l. l.ty) f.local_variables)
+    argument_types f.arguments.items ++ (result_types f.result ++ local_types f.local_variables)
 
 -- no text can spell it
 abbrev pub is_unsupported : Module → (ty : ℕ) → Bool
 is_unsupported m ty = not (is_spellable m (Handle ty))
 
--- the first of them that none can
-abbrev pub declared_unsupported : Module → Function → Option ℕ
-declared_unsupported m f = find (is_unsupported m) (declared_types f)
+-- the first of some that none can, and of all of them
+abbrev pub first_unsupported : Module → List (Declared × ℕ) → Option (Declared × ℕ)
+first_unsupported m types = find (λ d. is_unsupported m d.1) types
+
+abbrev pub declared_unsupported : Module → Function → Option (Declared × ℕ)
+declared_unsupported m f = first_unsupported m (declared_types f)
 
 -- a type is told, since it names no struct that no text declares, and has no form
 abbrev pub is_annotated_unsupported : Module → TypeResolution → Bool
@@ -40,8 +58,16 @@ abbrev pub is_unsupported_let : Module → List ExpressionInfo → (h : ℕ) →
 is_unsupported_let m es h =
     option_map_or (λ k. is_annotated_unsupported m k.ty) (slice_get es h) false
 
--- the first such one that a `let` of a function names, where `let`s tell types
-abbrev pub annotated_unsupported : (explicit : Bool) → Module → List ExpressionInfo →
-    (binds : ℕ → Bool) → Function → Option ℕ
-annotated_unsupported explicit m es binds f =
-    if explicit then find (is_unsupported_let m es) (block_lets binds f.body) else None
+-- the first such one that a `let` of a statement names, those in its blocks left out, where `let`s
+-- tell types
+abbrev pub own_annotated : (explicit : Bool) → Module → List ExpressionInfo → (binds : ℕ → Bool) →
+    StatementTree → Option ℕ
+own_annotated explicit m es binds st =
+    if explicit then find (is_unsupported_let m es) (own_lets binds st) else None
+
+-- no statement of these has one, or this statement is the first that has one, with its number
+abbrev pub FindsAnnotated : (explicit : Bool) → Module → List ExpressionInfo → (binds : ℕ → Bool) →
+    List StatementTree → Option (ℕ × ℕ) → Type 0
+FindsAnnotated explicit m es binds sts found =
+    FindsFirst sts (λ n st. own_annotated explicit m es binds st ≡ None) (λ n. n)
+    (λ n st h. own_annotated explicit m es binds st ≡ Some h) found

@@ -15,13 +15,15 @@ ghost use Rattle.naga_scope.specs.Plans.{IsFirstToPlanFor, IsFirstToPlanOf, IsPl
 ghost use Rattle.naga_scope.specs.Plans.{IsRefusalToPlanFor, IsRefusalToPlanOf};
 ghost use Rattle.naga_scope.specs.Results.{ResultsFit};
 ghost use Rattle.naga_scope.specs.Tables.{AreTablesOf};
-ghost use Rattle.naga_scope.specs.declared.plan.PlanError.TheVariants.{Memory, OutOfScope, Unnamed};
+ghost use Rattle.naga_scope.specs.declared.plan.PlanError.TheVariants.{Memory, Unnamed};
 
 use crate::changes::count_changes;
 use crate::check::check_function;
+use crate::earliest::first_lack;
 use crate::functions::function_of;
 use crate::in_order::statements_in;
 use crate::known_function::KnownFunction;
+use crate::lines::{Declared, Line};
 use crate::named::expression_names;
 use crate::points::Scope;
 use crate::scope_faults::ScopeFault;
@@ -46,24 +48,17 @@ pub enum PlanError {
     /// The statement with this number is the first without a form, where those in blocks are
     /// counted too, each after the one that holds the block, from 0. A case is told by its `switch`.
     StatementWithoutForm(usize, UnsupportedStatement),
-    /// The expression with this handle is written, and has no form.
-    WithoutForm(Handle<Expression>),
-    /// An argument, the result or a local is of this type, which has no form.
-    TypeWithoutForm(Handle<Type_>),
-    /// The `let` of the expression with this handle tells its type, which has no form.
-    LetWithoutForm(Handle<Expression>),
+    /// The line writes the expression with this handle, which has no form.
+    WithoutForm(Line, Handle<Expression>),
+    /// What is declared here is of this type, which has no form.
+    TypeWithoutForm(Declared, Handle<Type_>),
+    /// The statement with this number has a `let` of the expression with this handle, and it tells
+    /// the expression's type, which has no form.
+    LetWithoutForm(usize, Handle<Expression>),
     /// A label that a front end gave gets no name.
     Unnamed(NamerError),
     /// Memory has run out.
     Memory(AllocError),
-}
-
-impl From<ScopeFault> for PlanError {
-    ghost from_gives = { λ fault error. error ≡ OutOfScope fault };
-
-    fn from(fault: ScopeFault) -> PlanError {
-        PlanError::OutOfScope(fault)
-    }
 }
 
 impl From<NamerError> for PlanError {
@@ -118,8 +113,8 @@ impl Plan {
     ///
     /// Beside the names it takes memory for a list of the statements, and four times more: one table
     /// and its log serve the check, are then set back to the function's start, and serve the text;
-    /// two others have the marks of what may be written out as a constant and of what is written,
-    /// and are given back as the list is.
+    /// two others have the marks of what may be written out as a constant and the first lines of what
+    /// is written, and are given back as the list is.
     pub fn of<'a>(
         alloc: Global,
         module: &'a Module,
@@ -186,18 +181,17 @@ impl Plan {
             return Err(PlanError::Memory(AllocError));
         };
         let mut scope = Scope::start(alloc, known.function, changes)?;
-        check_function(&mut scope, known)?;
-        if let Some((number, unsupported)) = unsupported_statement(statements) {
-            return Err(PlanError::StatementWithoutForm(number, unsupported));
-        }
-        if let Some(handle) = written_without_form(alloc, known, statements, names)? {
-            return Err(PlanError::WithoutForm(handle));
-        }
-        if let Some(ty) = declared_without_form(known.shader, known.tables, known.function) {
-            return Err(PlanError::TypeWithoutForm(ty));
-        }
-        if let Some(handle) = annotated_without_form(known, statements, explicit) {
-            return Err(PlanError::LetWithoutForm(handle));
+        let checked = check_function(&mut scope, known);
+        let written = written_without_form(alloc, known, statements, names)?;
+        let first = first_lack(
+            checked,
+            unsupported_statement(statements),
+            written,
+            declared_without_form(known.shader, known.tables, known.function),
+            annotated_without_form(known, statements, explicit),
+        );
+        if let Some(error) = first {
+            return Err(error);
         }
         scope.restart(known.function);
         Ok(Plan { scope, named })

@@ -1,18 +1,20 @@
 //! Which of the types that the text of a function spells no text can spell.
 
-ghost use Rattle.std.specs.Prelude.{◌≡◌, ◌-◌, ◌&&◌, None, if◌then◌else◌, map};
-ghost use Rattle.std.specs.List.{filter, find, flat_map};
-ghost use Rattle.std.specs.Option.{option_map, option_to_list};
+ghost use Rattle.std.specs.Prelude.{◌≡◌, ◌-◌, ◌&&◌, true};
+ghost use Rattle.std.specs.List.{filter, find};
+ghost use Rattle.std.specs.Option.{option_to_list};
 ghost use Rattle.naga_ir.specs.Operands.{own_result};
 ghost use Rattle.naga_ir.specs.StatementViews.{tree_of};
 ghost use Rattle.naga_scope.specs.InOrder.{own_lets, trees_of};
 ghost use Rattle.naga_scope.specs.KnownFunctions.{bound_in};
-ghost use Rattle.naga_scope.specs.SpelledTypes.{declared_unsupported, is_unsupported};
-ghost use Rattle.naga_scope.specs.SpelledTypes.{is_unsupported_let};
+ghost use Rattle.naga_scope.specs.SpelledTypes.{FindsAnnotated, argument_types};
+ghost use Rattle.naga_scope.specs.SpelledTypes.{declared_unsupported, first_unsupported};
+ghost use Rattle.naga_scope.specs.SpelledTypes.{is_unsupported_let, local_types, result_types};
 ghost use Rattle.naga_scope.specs.Tables.{AreTablesOf};
 ghost use Rattle.shader_runs.specs.Program.{from};
 
 use crate::known_function::KnownFunction;
+use crate::lines::Declared;
 use crate::tables::ModuleTables;
 use naga_info::FunctionInfo;
 use naga_ir::{
@@ -24,14 +26,16 @@ fn argument_without_form(
     module: &Module,
     tables: &ModuleTables,
     arguments: &[FunctionArgument],
-) -> Option<Handle<Type_>>
+) -> Option<(Declared, Handle<Type_>)>
     requires tables { AreTablesOf «module».now tables.now }
-    ensures { result ≡ find (is_unsupported «module».now) (map (λ a. a.ty) arguments.now) }
+    ensures { result ≡ first_unsupported «module».now (argument_types arguments.now) }
 {
+    let mut index = 0;
     for argument in arguments {
         if !tables.is_spellable(module, argument.ty) {
-            return Some(argument.ty);
+            return Some((Declared::Argument(index), argument.ty));
         }
+        index += 1;
     }
     None
 }
@@ -40,17 +44,16 @@ fn answer_without_form(
     module: &Module,
     tables: &ModuleTables,
     answer: &Option<FunctionResult>,
-) -> Option<Handle<Type_>>
+) -> Option<(Declared, Handle<Type_>)>
     requires tables { AreTablesOf «module».now tables.now }
-    ensures { result
-        ≡ find (is_unsupported «module».now) (option_to_list (option_map (λ r. r.ty) answer.now)) }
+    ensures { result ≡ first_unsupported «module».now (result_types answer.now) }
 {
     match answer {
         Some(answer) => {
             if tables.is_spellable(module, answer.ty) {
                 None
             } else {
-                Some(answer.ty)
+                Some((Declared::Result, answer.ty))
             }
         }
         None => None,
@@ -61,34 +64,33 @@ fn local_without_form(
     module: &Module,
     tables: &ModuleTables,
     function: &Function,
-) -> Option<Handle<Type_>>
+) -> Option<(Declared, Handle<Type_>)>
     requires tables { AreTablesOf «module».now tables.now }
-    ensures { result
-        ≡ find (is_unsupported «module».now) (map (λ l. l.ty) function.now.local_variables) }
+    ensures { result ≡ first_unsupported «module».now (local_types function.now.local_variables) }
 {
-    for (_, local) in function.local_variables.iter() {
+    for (handle, local) in function.local_variables.iter() {
         if !tables.is_spellable(module, local.ty) {
-            return Some(local.ty);
+            return Some((Declared::Local(handle), local.ty));
         }
     }
     None
 }
 
 /// The first type of the function's arguments, its result and its locals that no text can spell, if
-/// there is one.
+/// there is one, with what declares it.
 pub(crate) fn declared_without_form(
     module: &Module,
     tables: &ModuleTables,
     function: &Function,
-) -> Option<Handle<Type_>>
+) -> Option<(Declared, Handle<Type_>)>
     requires tables { AreTablesOf «module».now tables.now }
     ensures { result ≡ declared_unsupported «module».now function.now }
 {
-    if let Some(ty) = argument_without_form(module, tables, &function.arguments) {
-        return Some(ty);
+    if let Some(found) = argument_without_form(module, tables, &function.arguments) {
+        return Some(found);
     }
-    if let Some(ty) = answer_without_form(module, tables, &function.result) {
-        return Some(ty);
+    if let Some(found) = answer_without_form(module, tables, &function.result) {
+        return Some(found);
     }
     local_without_form(module, tables, function)
 }
@@ -178,19 +180,22 @@ fn let_in_statement(known: &KnownFunction<'_>, statement: &Statement) -> Option<
     }
 }
 
-/// The first expression that a `let` of these statements names and whose type has no form.
+/// The first statement of these of which a `let` names an expression whose type has no form, by its
+/// number, with the first such expression.
 fn let_without_form(
     known: &KnownFunction<'_>,
     statements: &[&Statement],
-) -> Option<Handle<Expression>>
+) -> Option<(usize, Handle<Expression>)>
     requires tables { AreTablesOf known.now.shader.now known.now.tables.now }
-    ensures { result ≡ find (is_unsupported_let known.now.shader.now known.now.info.now)
-        (flat_map (own_lets (bound_in known.now)) (trees_of statements.now)) }
+    ensures { FindsAnnotated true known.now.shader.now known.now.info.now (bound_in known.now)
+        (trees_of statements.now) result }
 {
+    let mut number = 0;
     for statement in statements {
         if let Some(handle) = let_in_statement(known, statement) {
-            return Some(handle);
+            return Some((number, handle));
         }
+        number += 1;
     }
     None
 }
@@ -200,11 +205,10 @@ pub(crate) fn annotated_without_form(
     known: &KnownFunction<'_>,
     statements: &[&Statement],
     explicit: bool,
-) -> Option<Handle<Expression>>
+) -> Option<(usize, Handle<Expression>)>
     requires tables { AreTablesOf known.now.shader.now known.now.tables.now }
-    ensures { result
-        ≡ if explicit then find (is_unsupported_let known.now.shader.now known.now.info.now)
-        (flat_map (own_lets (bound_in known.now)) (trees_of statements.now)) else None }
+    ensures { FindsAnnotated explicit known.now.shader.now known.now.info.now
+        (bound_in known.now) (trees_of statements.now) result }
 {
     if explicit {
         let_without_form(known, statements)

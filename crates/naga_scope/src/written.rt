@@ -1,8 +1,8 @@
-//! Which expressions of a function are written, and which of these has no form.
+//! Which expressions of a function are written, on which lines, and which of these has no form.
 
-ghost use Rattle.std.specs.Prelude.{IfOk, false, replicate};
+ghost use Rattle.std.specs.Prelude.{IfOk, None, false, get_or, replicate};
 ghost use Rattle.std.specs.Prelude.{[], ◌∷◌, ◌≡◌, ◌-◌, ℕ, List, if◌then◌else◌, length};
-ghost use Rattle.std.specs.List.{filter, flat_map, list_all};
+ghost use Rattle.std.specs.List.{filter, list_all};
 ghost use Rattle.std.specs.Option.{option_to_list};
 ghost use Rattle.naga_ir.specs.Operands.{expression_operands, own_operands};
 ghost use Rattle.naga_ir.specs.StatementViews.{tree_of};
@@ -14,15 +14,20 @@ ghost use Rattle.module_meaning.specs.Sampling.{own_offset_is_written};
 ghost use Rattle.module_meaning.specs.WrittenOut.{written_out_over};
 ghost use Rattle.module_meaning.specs.ExpressionForms.{expression_has_form};
 ghost use Rattle.naga_scope.specs.Forms.{AreKnownIn};
-ghost use Rattle.naga_scope.specs.InOrder.{own_roots, roots_with, trees_of};
+ghost use Rattle.naga_scope.specs.FirstLines.{FindsEarliest, WritesAlso, WritesJust};
+ghost use Rattle.naga_scope.specs.FirstLines.{first_line, found_with, function_writes};
+ghost use Rattle.naga_scope.specs.FirstLines.{local_writes, statement_writes, writes_at};
+ghost use Rattle.naga_scope.specs.InOrder.{own_roots, trees_of};
 ghost use Rattle.naga_scope.specs.KnownFunctions.{bound_in, expressions_of, has_form_in};
-ghost use Rattle.naga_scope.specs.Marks.{MarksAlso, MarksConstants, MarksJust, Sweeps};
+ghost use Rattle.naga_scope.specs.Marks.{MarksAlso, MarksConstants};
 ghost use Rattle.naga_scope.specs.Marks.{is_marked};
 ghost use Rattle.naga_scope.specs.Tables.{AreTablesOf};
+ghost use Rattle.naga_scope.specs.declared.lines.Line.{Line};
 ghost use Rattle.shader_runs.specs.Program.{from};
 
 use crate::forms::is_written;
 use crate::known_function::KnownFunction;
+use crate::lines::{Line, is_before};
 use crate::tables::ModuleTables;
 use naga_info::FunctionInfo;
 use naga_ir::{Expression, Function, Handle, ItemIndex, Module, Range, Statement};
@@ -40,10 +45,12 @@ pub(crate) fn mark<M>(marks: &mut [bool], handle: ItemIndex<M>)
     }
 }
 
-fn mark_if(marks: &mut [bool], handle: Handle<Expression>, is_written: bool)
-    ensures { MarksAlso marks.old (if is_written then handle ∷ [] else []) marks.new }
+/// Marks the item with this handle, if there is one.
+#[tactic(auto, using(crate::proofs::Marking::marks_none))]
+pub(crate) fn mark_present<M>(marks: &mut [bool], handle: Option<ItemIndex<M>>)
+    ensures { MarksAlso marks.old (option_to_list handle) marks.new }
 {
-    if is_written {
+    if let Some(handle) = handle {
         mark(marks, handle);
     }
 }
@@ -130,75 +137,118 @@ fn expression_has_form(
     is_written(module, tables, names, info, expression) && offset_has_form(constants, expression)
 }
 
-/// Marks what these handles of an `Emit` write: those that a `let` binds.
-fn mark_emitted(marks: &mut [bool], known: &KnownFunction<'_>, range: Range)
-    ensures { MarksAlso marks.old
-        (filter (bound_in known.now) (from range.first (range.end - range.first))) marks.new }
+/// The first of a line that is known and this one.
+fn first_line(known: &Option<Line>, line: &Line) -> Line
+    ensures { result ≡ first_line known.now line.now }
+{
+    match known {
+        Some(known) => {
+            if is_before(*line, *known) {
+                *line
+            } else {
+                *known
+            }
+        }
+        None => *line,
+    }
+}
+
+/// The line at this index.
+fn line_at(lines: &[Option<Line>], index: usize) -> Option<Line>
+    ensures { result ≡ get_or lines.now index None }
+{
+    match lines.get(index) {
+        Some(line) => *line,
+        None => None,
+    }
+}
+
+/// Notes that this line writes the expression with this handle, if there is one.
+fn note(lines: &mut [Option<Line>], handle: Handle<Expression>, line: &Line)
+    ensures { WritesAlso lines.old ((line.now, handle) ∷ []) lines.new }
+{
+    let index = handle.index();
+    if index < lines.len() {
+        let known = line_at(lines, index);
+        lines[index] = Some(first_line(&known, line));
+    }
+}
+
+fn note_if(lines: &mut [Option<Line>], handle: Handle<Expression>, line: &Line, is_written: bool)
+    ensures { WritesAlso lines.old (if is_written then (line.now, handle) ∷ [] else []) lines.new }
+{
+    if is_written {
+        note(lines, handle, line);
+    }
+}
+
+/// Notes what these handles of an `Emit` on this line write: those that a `let` binds.
+fn note_emitted(lines: &mut [Option<Line>], known: &KnownFunction<'_>, range: Range, line: &Line)
+    ensures { WritesAlso lines.old (writes_at line.now
+        (filter (bound_in known.now) (from range.first (range.end - range.first)))) lines.new }
 {
     for index in range.first..range.end {
         let handle = ItemIndex::from_index(index);
-        mark_if(marks, handle, known.binds(handle));
+        note_if(lines, handle, line, known.binds(handle));
     }
 }
 
-/// Marks the operands of a statement itself.
-fn mark_own(marks: &mut [bool], statement: &Statement)
-    ensures { MarksAlso marks.old (own_operands (tree_of statement.now)) marks.new }
+/// Notes the operands of a statement itself, which stands on this line.
+fn note_own(lines: &mut [Option<Line>], statement: &Statement, line: &Line)
+    ensures { WritesAlso lines.old (writes_at line.now (own_operands (tree_of statement.now)))
+        lines.new }
 {
     for operand in statement.operands() {
-        mark(marks, operand);
+        note(lines, operand, line);
     }
 }
 
-/// Marks what a statement writes by itself.
-fn mark_statement(marks: &mut [bool], known: &KnownFunction<'_>, statement: &Statement)
-    ensures { MarksAlso marks.old (own_roots (bound_in known.now) (tree_of statement.now))
-        marks.new }
+/// Notes what a statement, which stands on this line, writes by itself.
+fn note_statement(
+    lines: &mut [Option<Line>],
+    known: &KnownFunction<'_>,
+    statement: &Statement,
+    line: &Line,
+)
+    ensures { WritesAlso lines.old
+        (writes_at line.now (own_roots (bound_in known.now) (tree_of statement.now))) lines.new }
 {
     match statement {
-        Statement::Emit(range) => mark_emitted(marks, known, *range),
-        _ => mark_own(marks, statement),
+        Statement::Emit(range) => note_emitted(lines, known, *range, line),
+        _ => note_own(lines, statement, line),
     }
 }
 
-/// Marks what these statements write by themselves.
-fn mark_statements(marks: &mut [bool], known: &KnownFunction<'_>, statements: &[&Statement])
-    ensures { MarksAlso marks.old
-        (flat_map (own_roots (bound_in known.now)) (trees_of statements.now)) marks.new }
+/// Notes what these statements write by themselves.
+fn note_statements(lines: &mut [Option<Line>], known: &KnownFunction<'_>, statements: &[&Statement])
+    ensures { WritesAlso lines.old
+        (statement_writes (bound_in known.now) (trees_of statements.now)) lines.new }
 {
+    let mut number = 0;
     for statement in statements {
-        mark_statement(marks, known, statement);
+        note_statement(lines, known, statement, &Line::Statement(number));
+        number += 1;
     }
 }
 
-/// Marks the item with this handle, if there is one.
-#[tactic(auto, using(crate::proofs::Marking::marks_none))]
-pub(crate) fn mark_present<M>(marks: &mut [bool], handle: Option<ItemIndex<M>>)
-    ensures { MarksAlso marks.old (option_to_list handle) marks.new }
+/// Notes the first values of a function's locals.
+fn note_first_values(lines: &mut [Option<Line>], function: &Function)
+    ensures { WritesAlso lines.old (local_writes function.now) lines.new }
 {
-    if let Some(handle) = handle {
-        mark(marks, handle);
-    }
-}
-
-/// Marks the first values of a function's locals.
-fn mark_first_values(marks: &mut [bool], function: &Function)
-    ensures { MarksAlso marks.old
-        (flat_map (λ l. option_to_list l.init) function.now.local_variables) marks.new }
-{
-    for (_, local) in function.local_variables.iter() {
+    for (handle, local) in function.local_variables.iter() {
         if let Some(value) = local.init {
-            mark(marks, value);
+            note(lines, value, &Line::Local(handle));
         }
     }
 }
 
-/// Marks the operands of an expression.
-fn mark_operands(marks: &mut [bool], expression: &Expression)
-    ensures { MarksAlso marks.old (expression_operands expression.now) marks.new }
+/// Notes the operands of an expression that this line writes.
+fn note_operands(lines: &mut [Option<Line>], expression: &Expression, line: &Line)
+    ensures { WritesAlso lines.old (writes_at line.now (expression_operands expression.now))
+        lines.new }
 {
     for operand in expression.operands() {
-        mark(marks, operand);
+        note(lines, operand, line);
     }
 }
 
@@ -209,64 +259,98 @@ pub(crate) fn no_marks(alloc: Global, count: usize) -> Result<Vec<bool>, AllocEr
     vec![in alloc; false; count]
 }
 
-/// Goes from the last expression to the first and marks the operands of what is marked, up to one
-/// that has no form, which it gives.
+/// A table of so many cells without lines.
+fn no_lines(alloc: Global, count: usize) -> Result<Vec<Option<Line>>, AllocError>
+    ensures { IfOk result (λ lines. lines.items ≡ replicate count None) }
+{
+    vec![in alloc; None; count]
+}
+
+/// What was found, and an expression on this line: where it has no form, and what was found stands
+/// on no line before, it is found.
+fn found_with(
+    found: &Option<(Line, Handle<Expression>)>,
+    line: &Line,
+    handle: Handle<Expression>,
+    has_form: bool,
+) -> Option<(Line, Handle<Expression>)>
+    ensures { result ≡ found_with found.now line.now handle has_form }
+{
+    if has_form {
+        return *found;
+    }
+    match found {
+        Some((first, _)) => {
+            if is_before(*first, *line) {
+                *found
+            } else {
+                Some((*line, handle))
+            }
+        }
+        None => Some((*line, handle)),
+    }
+}
+
+/// Goes from the last expression to the first, notes the operands of what is written on the lines
+/// that write it, and gives the first that has no form.
 fn sweep(
-    marks: &mut [bool],
+    lines: &mut [Option<Line>],
     constants: &[bool],
     module: &Module,
     tables: &ModuleTables,
     names: &HashMap<NameKey, String>,
     function: &Function,
     info: &FunctionInfo,
-) -> Option<Handle<Expression>>
-    requires size { length marks.old ≡ length function.now.expressions }
+) -> Option<(Line, Handle<Expression>)>
+    requires size { length lines.old ≡ length function.now.expressions }
     requires constants { MarksConstants function.now.expressions constants.now }
     requires ordered { OperandsStandBefore function.now.expressions }
     requires tables { AreTablesOf «module».now tables.now }
     requires named { HasNamesOf «module».now (names_in names.now) }
     requires known { AreKnownIn «module».now.types info.now }
-    ensures { (roots : List ℕ) → MarksJust roots marks.old →
-        Sweeps (expression_has_form «module».now info.now function.now.expressions)
-        function.now.expressions roots result }
+    ensures { (writes : List (Line × ℕ)) → WritesJust writes lines.old →
+        FindsEarliest (expression_has_form «module».now info.now function.now.expressions)
+        function.now.expressions writes result }
 {
+    let mut found = None;
     let mut end = function.expressions.len();
     while end > 0 {
         end -= 1;
-        if marks[end] {
+        if let Some(line) = line_at(lines, end) {
             let handle = ItemIndex::from_index(end);
             let expression = &function.expressions[handle];
-            if !expression_has_form(constants, module, tables, names, info, expression) {
-                return Some(handle);
-            }
-            mark_operands(marks, expression);
+            let has_form = expression_has_form(constants, module, tables, names, info, expression);
+            found = found_with(&found, &line, handle, has_form);
+            note_operands(lines, expression, &line);
         }
     }
-    None
+    found
 }
 
-/// The last written expression of the function, which has these statements, that has no form, if
-/// there is one, by a table without marks and one of those that may be written out as constants.
+/// The first written expression of the function, which has these statements, that has no form, with
+/// the first line that writes it, if there is one, by a table without lines and one of those that may
+/// be written out as constants.
 fn without_form(
-    marks: &mut [bool],
+    lines: &mut [Option<Line>],
     constants: &[bool],
     known: &KnownFunction<'_>,
     statements: &[&Statement],
     names: &HashMap<NameKey, String>,
-) -> Option<Handle<Expression>>
+) -> Option<(Line, Handle<Expression>)>
     requires ordered { OperandsStandBefore (expressions_of known.now) }
-    requires marks { marks.old ≡ replicate (length (expressions_of known.now)) false }
+    requires lines { lines.old ≡ replicate (length (expressions_of known.now)) None }
     requires constants { MarksConstants (expressions_of known.now) constants.now }
     requires tables { AreTablesOf known.now.shader.now known.now.tables.now }
     requires named { HasNamesOf known.now.shader.now (names_in names.now) }
     requires types { AreKnownIn known.now.shader.now.types known.now.info.now }
-    ensures { Sweeps (has_form_in known.now) (expressions_of known.now)
-        (roots_with (bound_in known.now) known.now.function.now (trees_of statements.now)) result }
+    ensures { FindsEarliest (has_form_in known.now) (expressions_of known.now)
+        (function_writes (bound_in known.now) known.now.function.now (trees_of statements.now))
+        result }
 {
-    mark_first_values(marks, known.function);
-    mark_statements(marks, known, statements);
+    note_first_values(lines, known.function);
+    note_statements(lines, known, statements);
     sweep(
-        marks,
+        lines,
         constants,
         known.shader,
         known.tables,
@@ -276,23 +360,24 @@ fn without_form(
     )
 }
 
-/// The last written expression of the function, which has these statements, that has no form, if
-/// there is one.
+/// The first written expression of the function, which has these statements, that has no form, with
+/// the first line that writes it, if there is one. Of those on one line it is the one with the lowest
+/// handle.
 pub(crate) fn written_without_form(
     alloc: Global,
     known: &KnownFunction<'_>,
     statements: &[&Statement],
     names: &HashMap<NameKey, String>,
-) -> Result<Option<Handle<Expression>>, AllocError>
+) -> Result<Option<(Line, Handle<Expression>)>, AllocError>
     requires ordered { OperandsStandBefore (expressions_of known.now) }
     requires tables { AreTablesOf known.now.shader.now known.now.tables.now }
     requires named { HasNamesOf known.now.shader.now (names_in names.now) }
     requires types { AreKnownIn known.now.shader.now.types known.now.info.now }
-    ensures { IfOk result (Sweeps (has_form_in known.now) (expressions_of known.now)
-        (roots_with (bound_in known.now) known.now.function.now (trees_of statements.now))) }
+    ensures { IfOk result (FindsEarliest (has_form_in known.now) (expressions_of known.now)
+        (function_writes (bound_in known.now) known.now.function.now (trees_of statements.now))) }
 {
     let mut constants = no_marks(alloc, known.function.expressions.len())?;
     mark_constants(&mut constants, known.function);
-    let mut marks = no_marks(alloc, known.function.expressions.len())?;
-    Ok(without_form(&mut marks, &constants, known, statements, names))
+    let mut lines = no_lines(alloc, known.function.expressions.len())?;
+    Ok(without_form(&mut lines, &constants, known, statements, names))
 }

@@ -25,7 +25,7 @@ use Rattle.naga_ir.specs.declared.module.Function as ir_function
 use Rattle.naga_ir.specs.declared.module.Module.{Module}
 use Rattle.naga_info.specs.declared.info.ExpressionInfo.{ExpressionInfo}
 use Rattle.naga_info.specs.declared.info.ModuleInfo.{ModuleInfo}
-use Rattle.shader_runs.specs.Program.{Function}
+use Rattle.shader_runs.specs.Program.{Function, binds}
 use Rattle.shader_runs.specs.ScopeFaults.{HasScopeFault}
 use Rattle.shader_runs.specs.ScopeRules.{ScopeHolds}
 use Rattle.shader_runs.proofs.ScopeFaults.{fault_is_no_rule}
@@ -59,6 +59,8 @@ use Rattle.naga_scope.specs.declared.plan.PlanError.TheVariants.{TypeWithoutForm
 use Rattle.naga_scope.specs.declared.plan.PlanError.TheVariants.{WithoutForm}
 use Rattle.naga_scope.specs.declared.plan.PlanError.TheVariants as plan_error
 use Rattle.naga_scope.proofs.Planned.{shape_found}
+use Rattle.naga_scope.proofs.SpelledTypes.{declared_is_spelled}
+use Rattle.naga_scope.proofs.WrittenLines.{in_the_function}
 use Rattle.naga_wgsl_fns.specs.declared.refusals.error.Error.{Error}
 use Rattle.naga_wgsl_fns.specs.declared.refusals.error.Error.TheVariants.{Custom, FmtError, Memory}
 use Rattle.naga_words.specs.declared.sink.SinkError.{SinkError}
@@ -304,12 +306,12 @@ module _ (explicit : Bool) (m : Module) (info : ModuleInfo) (accepted : IsTrue (
       IsOfPlan m f es error
   is_of_plan es here namer (OutOfScope fault) refusal = tt
   is_of_plan es here namer (StatementWithoutForm number statement) refusal = tt
-  is_of_plan es here namer (WithoutForm h) refusal = (refusal f es stands here).1
-  is_of_plan es here namer (TypeWithoutForm ty) refusal = tt
-  is_of_plan es here namer (LetWithoutForm h) refusal =
+  is_of_plan es here namer (WithoutForm line h) refusal = (refusal f es stands here).1
+  is_of_plan es here namer (TypeWithoutForm at ty) refusal = tt
+  is_of_plan es here namer (LetWithoutForm number h) refusal =
       known_there es h
       (λ k. IsSpelledIn explicit m info f es k.ty × IsFalse (is_spellable m k.ty))
-      (refusal f es stands here)
+      (refusal f es stands here).1
   is_of_plan es here namer (Unnamed e) refusal = tt
   is_of_plan es here namer (plan_error.Memory e) refusal = tt
 
@@ -407,7 +409,7 @@ module _ (explicit : Bool) (m : Module) (info : ModuleInfo) (accepted : IsTrue (
           unsupported = (refusal f es stands at).0;
           named = is;
         })))
-    plan_refusal es at namer words has (WithoutForm h) reported refusal is =
+    plan_refusal es at namer words has (WithoutForm line h) reported refusal is =
         let here = refusal f es stands at in
         for_form reported (inl (record {
           function = f;
@@ -415,7 +417,7 @@ module _ (explicit : Bool) (m : Module) (info : ModuleInfo) (accepted : IsTrue (
           stands = stands;
           is_known = at;
           expression = h;
-          written = here.0;
+          written = in_the_function (binds (function_shape m info f es)) f f.expressions line h here.0;
           named = both _ _ (slice_get f.expressions h) here.1 is;
         }))
       where
@@ -423,11 +425,12 @@ module _ (explicit : Bool) (m : Module) (info : ModuleInfo) (accepted : IsTrue (
             IsSomeAnd o Q → IsSomeAnd o (λ e. P e × Q e)
         both P Q None p q = absurd p
         both P Q (Some e) p q = (p, q)
-    plan_refusal es at namer words has (TypeWithoutForm ty) reported refusal is =
+    plan_refusal es at namer words has (TypeWithoutForm declared ty) reported refusal is =
         let here = refusal f es stands at in
-        for_form reported (inr (inl (type_named es at reported (Handle ty) here.0 here.1 is)))
-    plan_refusal es at namer words has (LetWithoutForm h) reported refusal is =
-        by (slice_get es h) (refusal f es stands at) is
+        let spelled = declared_is_spelled m f explicit info es declared ty here.0 in
+        for_form reported (inr (inl (type_named es at reported (Handle ty) spelled here.1 is)))
+    plan_refusal es at namer words has (LetWithoutForm number h) reported refusal is =
+        by (slice_get es h) (refusal f es stands at).1 is
       where
         by : (o : Option ExpressionInfo) →
             IsSomeAnd o (λ k. IsSpelledIn explicit m info f es k.ty × IsFalse (is_spellable m k.ty)) →

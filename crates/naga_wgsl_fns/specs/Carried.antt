@@ -94,10 +94,10 @@ CarriesOfExpression m info _ it = ⊤
 
 -- that of what keeps the function from having a plan
 abbrev pub CarriesOfPlan : Module → Function → List ExpressionInfo → PlanError → Construct → Type 0
-CarriesOfPlan m f info (plan_error.WithoutForm h) it =
+CarriesOfPlan m f info (plan_error.WithoutForm line h) it =
     IsSomeAnd (slice_get f.expressions h) (λ e. CarriesOfExpression m info e it)
-CarriesOfPlan m f info (plan_error.TypeWithoutForm ty) it = CarriesOfType m (Handle ty) it
-CarriesOfPlan m f info (plan_error.LetWithoutForm h) it =
+CarriesOfPlan m f info (plan_error.TypeWithoutForm at ty) it = CarriesOfType m (Handle ty) it
+CarriesOfPlan m f info (plan_error.LetWithoutForm n h) it =
     IsSomeAnd (slice_get info h) (λ k. CarriesOfType m k.ty it)
 CarriesOfPlan m f info _ it = ⊤
 

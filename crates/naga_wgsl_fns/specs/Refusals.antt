@@ -370,10 +370,10 @@ IsPlanRefusal explicit m info earlier number error =
 -- the handle that an error of a plan tells of has an expression without a form, or one of which a
 -- type is known; and what is told is the name of that, or what else the error says
 abbrev pub IsOfPlan : Module → Function → List ExpressionInfo → PlanError → Type 0
-IsOfPlan m f known (WithoutForm handle) =
+IsOfPlan m f known (WithoutForm line handle) =
     IsSomeAnd (slice_get f.expressions handle) (λ e.
     IsFalse (expression_has_form m known f.expressions e))
-IsOfPlan m f known (LetWithoutForm handle) = handle < length known
+IsOfPlan m f known (LetWithoutForm number handle) = handle < length known
 IsOfPlan m f known error = ⊤
 
 abbrev pub TellsPlanError : Module → Function → List ExpressionInfo → PlanError → Error → Type 0
@@ -381,11 +381,11 @@ TellsPlanError m f known (OutOfScope fault) reported =
     IsCustom (codes "operand out of scope") reported
 TellsPlanError m f known (StatementWithoutForm number statement) reported =
     NamesStatement statement reported
-TellsPlanError m f known (WithoutForm handle) reported =
+TellsPlanError m f known (WithoutForm line handle) reported =
     IsSomeAnd (slice_get f.expressions handle) (λ e.
     NamesExpression m known f.expressions e reported)
-TellsPlanError m f known (TypeWithoutForm ty) reported = NamesType m (Handle ty) reported
-TellsPlanError m f known (LetWithoutForm handle) reported =
+TellsPlanError m f known (TypeWithoutForm at ty) reported = NamesType m (Handle ty) reported
+TellsPlanError m f known (LetWithoutForm number handle) reported =
     IsSomeAnd (slice_get known handle) (λ k. NamesType m k.ty reported)
 TellsPlanError m f known (Unnamed e) reported = IsErrorOfNames e reported
 TellsPlanError m f known (plan_error.Memory e) reported = reported ≡ Memory e

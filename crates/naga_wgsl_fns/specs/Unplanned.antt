@@ -24,9 +24,9 @@ use Rattle.naga_wgsl_fns.specs.declared.plans.Unplanned.TheVariants as unplanned
 abbrev pub part_of : PlanError → FunctionPart
 part_of (plan_error.OutOfScope fault) = part.Scope fault
 part_of (plan_error.StatementWithoutForm number statement) = part.Statement number
-part_of (plan_error.WithoutForm handle) = part.Expression handle
-part_of (plan_error.TypeWithoutForm ty) = part.Type_ ty
-part_of (plan_error.LetWithoutForm handle) = part.Let handle
+part_of (plan_error.WithoutForm line handle) = part.Expression line handle
+part_of (plan_error.TypeWithoutForm at ty) = part.Type_ at ty
+part_of (plan_error.LetWithoutForm number handle) = part.Let number handle
 part_of (plan_error.Unnamed error) = part.Labels
 part_of (plan_error.Memory error) = part.Labels
 
@@ -41,7 +41,7 @@ is_want (plan_error.Memory e) = true
 is_want _ = false
 
 -- the function with this number has no plan where the namer was this: for a construct at a part of
--- it, which is the first that is found
+-- it, which is the first in the order of the text
 pub record IsRefusedFor (explicit : Bool) (m : Module) (info : ModuleInfo) (number : ℕ)
     (namer : Names) (it : Construct) (at : FunctionPart) : Type 0 where
   pub error : PlanError

@@ -33,7 +33,7 @@ use naga_info::{FunctionInfo, ModuleInfo, TypeResolution};
 use naga_ir::{Expression, Function, Handle, Module, Type_};
 use naga_names::namer::Namer;
 use naga_names::{NameKey, NamerError};
-use naga_scope::{ModuleTables, Plan, PlanError, ScopeFault, function_of};
+use naga_scope::{Declared, Line, ModuleTables, Plan, PlanError, ScopeFault, function_of};
 use std::alloc::{AllocError, Global};
 use std::collections::HashMap;
 
@@ -48,12 +48,12 @@ pub enum FunctionPart {
     Scope(ScopeFault),
     /// The statement with this number.
     Statement(usize),
-    /// An expression that is written.
-    Expression(Handle<Expression>),
-    /// The type of an argument, of the result or of a local.
-    Type_(Handle<Type_>),
-    /// The type that the `let` of this expression tells.
-    Let(Handle<Expression>),
+    /// An expression that this line writes.
+    Expression(Line, Handle<Expression>),
+    /// The type of what is declared here: an argument, the result or a local.
+    Type_(Declared, Handle<Type_>),
+    /// The type that the `let` of this expression tells in the statement with this number.
+    Let(usize, Handle<Expression>),
 }
 
 /// Why there is no plan of a function.
@@ -95,7 +95,7 @@ pub fn plan_of<'a>(
     ensures err { IfErr result (λ e. (earlier : List (List ℕ)) → HasNamed namer.old earlier →
         IsPlanRefusal (annotates_types flags) «module».now info.now earlier
         (function_number «module».now ty.now) e) }
-    // The construct that it names stands there, and is the first that is found.
+    // The construct that it names stands there, and is the first in the order of the text.
     ensures told { IfErr result (IsToldOfUnplanned (annotates_types flags) «module».now info.now
         (function_number «module».now ty.now) namer.old) }
     ensures begun { OnErr result (HasBegunLabels namer.old
@@ -118,8 +118,9 @@ fn unplanned_error(alloc: Global, unplanned: Unplanned) -> Error
 }
 
 /// The same plan, or the construct for which there is none, and where it stands. Where several stand,
-/// it is the first that is found: by the labels, the rules of scope, the statements, the expressions
-/// from the last to the first, the types that are declared, and those that `let`s tell.
+/// labels come first, and then it is the first in the order of the text: the signature, the locals,
+/// the statements. On one line it is the first of the rules of scope, the form of the statement, the
+/// expressions from the lowest handle on, the type that is declared, and those that `let`s tell.
 pub fn plan_or_refusal<'a>(
     alloc: Global,
     module: &'a Module,
@@ -172,9 +173,9 @@ fn part_of(error: &PlanError) -> FunctionPart
     match error {
         PlanError::OutOfScope(fault) => FunctionPart::Scope(*fault),
         PlanError::StatementWithoutForm(number, _) => FunctionPart::Statement(*number),
-        PlanError::WithoutForm(handle) => FunctionPart::Expression(*handle),
-        PlanError::TypeWithoutForm(ty) => FunctionPart::Type_(*ty),
-        PlanError::LetWithoutForm(handle) => FunctionPart::Let(*handle),
+        PlanError::WithoutForm(line, handle) => FunctionPart::Expression(*line, *handle),
+        PlanError::TypeWithoutForm(declared, ty) => FunctionPart::Type_(*declared, *ty),
+        PlanError::LetWithoutForm(number, handle) => FunctionPart::Let(*number, *handle),
         PlanError::Unnamed(_) | PlanError::Memory(_) => FunctionPart::Labels,
     }
 }
@@ -203,13 +204,13 @@ fn construct_of_plan(
     match error {
         PlanError::OutOfScope(_) => Ok(Construct::OutOfScope),
         PlanError::StatementWithoutForm(_, statement) => Ok(statement_without_form(statement)),
-        PlanError::WithoutForm(handle) => {
+        PlanError::WithoutForm(_, handle) => {
             Ok(without_form(module, tables, info, &function.expressions[handle]))
         }
-        PlanError::TypeWithoutForm(ty) => {
+        PlanError::TypeWithoutForm(_, ty) => {
             Ok(type_without_form(module, tables, &TypeResolution::Handle(ty)))
         }
-        PlanError::LetWithoutForm(handle) => {
+        PlanError::LetWithoutForm(_, handle) => {
             Ok(type_without_form(module, tables, &info[handle].ty))
         }
         PlanError::Unnamed(error) => construct_of_names(error),

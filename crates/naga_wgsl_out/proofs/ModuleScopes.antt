@@ -199,39 +199,39 @@ at_each (f ∷ fs) zero each = each.0
 at_each (f ∷ fs) (suc i) each = at_each fs i each.1
 
 module _ (explicit : Bool) (m : Module) (info : ModuleInfo) (nothing : NothingIsRefused explicit m info)
-    where
-  -- each function can be written
-  each_writable : (i : ℕ) → IsWritableAt explicit m info (labels_before m i) i
-  each_writable i = record {
-    in_scope =
-        let own = function_shapes m info (all_functions m) (all_infos info) in
-        at_each own i (unturned own [] nothing.in_scope).0;
-    formed = nothing.formed i;
-    nameable = λ full. nothing.nameable (inr (i, full));
-  }
+  where
+    -- each function can be written
+    each_writable : (i : ℕ) → IsWritableAt explicit m info (labels_before m i) i
+    each_writable i = record {
+      in_scope =
+          let own = function_shapes m info (all_functions m) (all_infos info) in
+          at_each own i (unturned own [] nothing.in_scope).0;
+      formed = nothing.formed i;
+      nameable = λ full. nothing.nameable (inr (i, full));
+    }
 
-  none_unsupported : (error : Error) → HasUnsupported explicit m info error → ⊥
-  none_unsupported error (inl named) = no_declaration m error nothing.declarations named
-  none_unsupported error (inr (i, unsupported)) =
-      unsupported_fails explicit m info i error unsupported (labels_before m i) (each_writable i)
+    none_unsupported : (error : Error) → HasUnsupported explicit m info error → ⊥
+    none_unsupported error (inl named) = no_declaration m error nothing.declarations named
+    none_unsupported error (inr (i, unsupported)) =
+        unsupported_fails explicit m info i error unsupported (labels_before m i) (each_writable i)
 
-  none_out_of_scope : (error : Error) → TellsOfScope error → (i : ℕ) → HasScopeFaultIn m info i → ⊥
-  none_out_of_scope error says i fault =
-      fault_fails explicit m info (labels_before m i) i error (inl (says, fault)) (each_writable i)
+    none_out_of_scope : (error : Error) → TellsOfScope error → (i : ℕ) → HasScopeFaultIn m info i → ⊥
+    none_out_of_scope error says i fault =
+        fault_fails explicit m info (labels_before m i) i error (inl (says, fault)) (each_writable i)
 
-  -- so no error that tells of the module has a reason
-  pub no_refusal : (before after : ℕ) (error : Error) → TellsOfModule error →
-      IsRefusal explicit m info before after error → ⊥
-  no_refusal before after (FmtError e) tells is = tells
-  no_refusal before after (Memory e) tells is = tells
-  no_refusal before after (Custom message) tells (inl (inl full)) = nothing.nameable full.1
-  no_refusal before after (Custom message) tells (inl (inr key)) = nothing.keys key.1
-  no_refusal before after (Custom message) tells (inr (inl scope)) =
-      none_out_of_scope (Custom message) scope.0 scope.1.0 scope.1.1
-  no_refusal before after (Custom message) tells (inr (inr unsupported)) =
-      none_unsupported (Custom message) unsupported
-  no_refusal before after (Unimplemented message) tells is = none_unsupported (Unimplemented message) is
-  no_refusal before after (UnsupportedRelationalFunction fun) tells is =
-      none_unsupported (UnsupportedRelationalFunction fun) is
-  no_refusal before after (Unsupported kind value) tells is =
-      none_unsupported (Unsupported kind value) is
+    -- so no error that tells of the module has a reason
+    pub no_refusal : (before after : ℕ) (error : Error) → TellsOfModule error →
+        IsRefusal explicit m info before after error → ⊥
+    no_refusal before after (FmtError e) tells is = tells
+    no_refusal before after (Memory e) tells is = tells
+    no_refusal before after (Custom message) tells (inl (inl full)) = nothing.nameable full.1
+    no_refusal before after (Custom message) tells (inl (inr key)) = nothing.keys key.1
+    no_refusal before after (Custom message) tells (inr (inl scope)) =
+        none_out_of_scope (Custom message) scope.0 scope.1.0 scope.1.1
+    no_refusal before after (Custom message) tells (inr (inr unsupported)) =
+        none_unsupported (Custom message) unsupported
+    no_refusal before after (Unimplemented message) tells is = none_unsupported (Unimplemented message) is
+    no_refusal before after (UnsupportedRelationalFunction fun) tells is =
+        none_unsupported (UnsupportedRelationalFunction fun) is
+    no_refusal before after (Unsupported kind value) tells is =
+        none_unsupported (Unsupported kind value) is

@@ -23,6 +23,7 @@ use Rattle.naga_names.specs.Naming.{Names}
 use Rattle.naga_names.specs.Refusal.{IsResetRefusal}
 use Rattle.naga_names.specs.declared.error.NamerError.{NamerError}
 use Rattle.naga_names.specs.declared.error.NamerError.TheVariants as namer_error
+use Rattle.naga_scope.proofs.SpelledTypes.{declared_is_spelled}
 use Rattle.naga_scope.specs.Plans.{IsFirstToPlan, IsRefusalToPlan, LabelsGetNames}
 use Rattle.naga_scope.specs.declared.plan.PlanError.{PlanError}
 use Rattle.naga_scope.specs.declared.plan.PlanError.TheVariants as plan_error
@@ -70,7 +71,7 @@ module _ (explicit : Bool) (m : Module) (info : ModuleInfo) (accepted : IsTrue (
       StandsAtPart explicit m info number f known (part_of error) it
   by_error (plan_error.OutOfScope fault) it refused told carries other = (refused, told)
   by_error (plan_error.StatementWithoutForm n statement) it refused told carries other = (statement, refused.1, told)
-  by_error (plan_error.WithoutForm h) it refused told carries other =
+  by_error (plan_error.WithoutForm line h) it refused told carries other =
       (refused.0, written (slice_get f.expressions h) refused.1 told carries)
     where
       written : (o : Option Expression) → IsSomeAnd o (λ e. IsFalse (expression_has_form m known f.expressions e)) →
@@ -79,8 +80,9 @@ module _ (explicit : Bool) (m : Module) (info : ModuleInfo) (accepted : IsTrue (
           IsSomeAnd o (λ e. IsFalse (expression_has_form m known f.expressions e) × Tells it (NamesExpression m known f.expressions e) × CarriesOfExpression m known e it)
       written None lacks told carries = lacks
       written (Some e) lacks told carries = (lacks, told, carries)
-  by_error (plan_error.TypeWithoutForm ty) it refused told carries other = (refused.0, refused.1, told, carries)
-  by_error (plan_error.LetWithoutForm h) it refused told carries other = let_ (slice_get known h) refused told carries
+  by_error (plan_error.TypeWithoutForm declared ty) it refused told carries other =
+      (refused.0, declared_is_spelled m f explicit info known declared ty refused.0, refused.1, told, carries)
+  by_error (plan_error.LetWithoutForm n h) it refused told carries other = (refused.0, let_ (slice_get known h) refused.1 told carries)
     where
       let_ : (o : Option ExpressionInfo) →
           IsSomeAnd o (λ k. IsSpelledIn explicit m info f known k.ty × IsFalse (is_spellable m k.ty)) →
@@ -107,11 +109,11 @@ module _ (explicit : Bool) (m : Module) (info : ModuleInfo) (accepted : IsTrue (
 
   first_in : (error : PlanError) → IsFirstToPlan (LabelsGetNames namer f) explicit m info f known error →
       IsFirstToPlan (LabelsGetNamesIn m number) explicit m info f known error
-  first_in (plan_error.OutOfScope fault) (labelled, found) = (named_labels labelled, found)
-  first_in (plan_error.StatementWithoutForm n statement) (labelled, holds, found) = (named_labels labelled, holds, found)
-  first_in (plan_error.WithoutForm h) (labelled, holds, formed, later) = (named_labels labelled, holds, formed, later)
-  first_in (plan_error.TypeWithoutForm ty) (labelled, formed, found) = (named_labels labelled, formed, found)
-  first_in (plan_error.LetWithoutForm h) (labelled, formed, none, found) = (named_labels labelled, formed, none, found)
+  first_in (plan_error.OutOfScope fault) (labelled, first) = (named_labels labelled, first)
+  first_in (plan_error.StatementWithoutForm n statement) (labelled, first) = (named_labels labelled, first)
+  first_in (plan_error.WithoutForm line h) (labelled, first) = (named_labels labelled, first)
+  first_in (plan_error.TypeWithoutForm declared ty) (labelled, first) = (named_labels labelled, first)
+  first_in (plan_error.LetWithoutForm n h) (labelled, first) = (named_labels labelled, first)
   first_in (plan_error.Unnamed e) first = tt
   first_in (plan_error.Memory e) first = tt
 

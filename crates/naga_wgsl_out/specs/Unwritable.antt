@@ -5,13 +5,14 @@
 -- it is a construct and at is where it stands.
 use Rattle.std.specs.Prelude.{◌≡◌, ℕ, ◌+◌, ◌<◌, ◌⊎◌, Bool, List, Option, Some, IsFalse, IsSomeAnd}
 use Rattle.std.specs.Prelude.{codes, length, slice_get}
+use Rattle.std.specs.List.{IsAmong}
 use Rattle.module_meaning.specs.DeclarationForms.{DeclarationsHaveForms}
 use Rattle.module_meaning.specs.ExpressionForms.{expression_has_form}
 use Rattle.module_meaning.specs.FunctionNumbers.{all_functions, all_infos, function_number}
 use Rattle.module_meaning.specs.FunctionShapes.{function_shape}
 use Rattle.module_meaning.specs.Names.{labels_before}
 use Rattle.module_meaning.specs.Undeclared.{is_spellable}
-use Rattle.module_meaning.specs.Written.{IsSpelledIn, IsWrittenIn}
+use Rattle.module_meaning.specs.Written.{IsSpelledIn}
 use Rattle.naga_back.specs.declared.context.FunctionType.{FunctionType}
 use Rattle.naga_back.specs.declared.context.FunctionType.TheVariants as item
 use Rattle.naga_info.specs.declared.info.ExpressionInfo.{ExpressionInfo}
@@ -23,12 +24,14 @@ use Rattle.naga_ir.specs.declared.module.Module.{Module}
 use Rattle.naga_names.specs.Naming.{Names}
 use Rattle.naga_scope.specs.Declarations.{HaveFormsBefore, IsUnsupportedIn}
 use Rattle.naga_scope.specs.UnsupportedStatements.{IsUnsupportedAt}
+use Rattle.naga_scope.specs.Lines.{IsWrittenAt, declared_type, lets_at}
 use Rattle.naga_scope.specs.Plans.{IsFirstToPlan}
 use Rattle.naga_scope.specs.ScopeFaults.{IsScopeFault}
 use Rattle.naga_scope.specs.declared.declarations.DeclarationPosition.{DeclarationPosition}
 use Rattle.naga_scope.specs.declared.declarations.UnsupportedDeclaration.{UnsupportedDeclaration}
 use Rattle.naga_scope.specs.declared.plan.PlanError.{PlanError}
 use Rattle.naga_scope.specs.declared.statements.UnsupportedStatement.{UnsupportedStatement}
+use Rattle.shader_runs.specs.Program.{binds}
 use Rattle.naga_wgsl_fns.specs.Carried.{CarriesOfDeclaration, CarriesOfExpression, CarriesOfType}
 use Rattle.naga_wgsl_fns.specs.Constructs.{IsToldAs, Tells}
 use Rattle.naga_wgsl_fns.specs.DeclarationRefusals.{NamesUnsupportedDeclaration}
@@ -60,9 +63,10 @@ IsUnspelled explicit m info f known ty it =
     IsSpelledIn explicit m info f known ty × IsFalse (is_spellable m ty)
     × Tells it (NamesType m ty) × CarriesOfType m ty it
 
--- It stands at this part of the function with this number: a fault of scope, a statement or a written
--- expression without a form, a type without one that the function declares or that a `let` tells, or
--- labels that front ends gave, of which one gets no name after all labels in front of the function.
+-- It stands at this part of the function with this number: a fault of scope, a statement without a
+-- form, an expression without one that this line writes, a type without one that is declared here or
+-- that a `let` of this statement tells, or labels that front ends gave, of which one gets no name
+-- after all labels in front of the function.
 abbrev pub StandsAtPart : (explicit : Bool) → Module → ModuleInfo → (number : ℕ) → Function →
     (known : List ExpressionInfo) → FunctionPart → Construct → Type 0
 StandsAtPart explicit m info number f known (part.Scope fault) it =
@@ -71,15 +75,16 @@ StandsAtPart explicit m info number f known (part.Scope fault) it =
 StandsAtPart explicit m info number f known (part.Statement n) it =
     (statement : UnsupportedStatement) × IsUnsupportedAt f.body n statement
     × Tells it (NamesStatement statement)
-StandsAtPart explicit m info number f known (part.Expression h) it =
-    IsWrittenIn m info f known h
+StandsAtPart explicit m info number f known (part.Expression line h) it =
+    IsWrittenAt m info f known line h
     × IsSomeAnd (slice_get f.expressions h) (λ e.
     IsFalse (expression_has_form m known f.expressions e)
     × Tells it (NamesExpression m known f.expressions e) × CarriesOfExpression m known e it)
-StandsAtPart explicit m info number f known (part.Type_ ty) it =
-    IsUnspelled explicit m info f known (Handle ty) it
-StandsAtPart explicit m info number f known (part.Let h) it =
-    IsSomeAnd (slice_get known h) (λ k. IsUnspelled explicit m info f known k.ty it)
+StandsAtPart explicit m info number f known (part.Type_ at ty) it =
+    (declared_type f at ≡ Some ty) × IsUnspelled explicit m info f known (Handle ty) it
+StandsAtPart explicit m info number f known (part.Let n h) it =
+    IsAmong (lets_at (binds (function_shape m info f known)) f n) h
+    × IsSomeAnd (slice_get known h) (λ k. IsUnspelled explicit m info f known k.ty it)
 StandsAtPart explicit m info number f known part.Labels it =
     ExpressionNamesAreFullIn m (labels_before m number) number
     × TellsCustom it (codes "namer is full")
@@ -89,8 +94,8 @@ StandsAtPart explicit m info number f known part.Labels it =
 abbrev pub LabelsGetNamesIn : Module → (number : ℕ) → Type 0
 LabelsGetNamesIn m number = ExpressionNamesAreFullIn m (labels_before m number) number → ⊥
 
--- so it is with a function that there is, and nothing in front of it keeps the function from having a
--- plan
+-- so it is with a function that there is, and nothing in front of it in the order of the text keeps
+-- the function from having a plan
 pub record StandsInFunction (explicit : Bool) (m : Module) (info : ModuleInfo) (number : ℕ)
     (found : Construct × FunctionPart) : Type 0 where
   pub function : Function

@@ -97,13 +97,13 @@ const CALLS: &[(Call, &str, u32, &str)] = &[
         Call::Write(0),
         FLOAT_LITERAL,
         1,
-        "float literal: module.functions[0].expressions[0]",
+        "float literal: module.functions[0].expressions[0], in statement 0",
     ),
     (
         Call::Write(3),
         FLOAT_LITERAL,
         1,
-        "float literal: module.functions[0].expressions[0]",
+        "float literal: module.functions[0].expressions[0], in statement 0",
     ),
     (
         Call::Write(4),

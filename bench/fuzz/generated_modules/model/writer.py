@@ -56,15 +56,26 @@ def constants_of(f):
 
 def written_of(f):
     """The operands of statements, what is bound, first values, and the operands of all these."""
-    uses = uses_of(f)
-    written = {init for _, _, init in f.locals if init is not None}
-    for s in statements_in(f.body):
-        written |= {h for h in emitted_by(s) if binds(f, h, uses)}
-        written.update(s.operands)
+    return set(first_lines(f))
+
+
+def first_lines(f):
+    """The first line that writes each of these: a local, `(0, NUMBER)`, or a statement, `(1, NUMBER)`."""
+    uses, lines = uses_of(f), {}
+
+    def write(handles, line):
+        for h in handles:
+            lines[h] = min(lines.get(h, line), line)
+
+    for number, (_, _, init) in enumerate(f.locals):
+        write([init] * (init is not None), (0, number))
+    for number, s in enumerate(statements_in(f.body)):
+        write([h for h in emitted_by(s) if binds(f, h, uses)], (1, number))
+        write(s.operands, (1, number))
     for h in reversed(range(len(f.expressions))):
-        if h in written:
-            written.update(f.expressions[h].operands)
-    return written
+        if h in lines:
+            write(f.expressions[h].operands, lines[h])
+    return lines
 
 
 def own_text(module, names, h):

@@ -2,9 +2,7 @@
 written.
 
 A plant gives what is planted, or none where the module has no room for it. What it plants stands at
-one place, or at the place that it tells before any other: of a function in its scope, then its
-statements, its expressions from the last to the first, the types that it declares, and those that
-its `let`s tell.
+one place, or at the place that it tells before any other in the order of the function's text.
 """
 
 from chance import some_bits
@@ -16,7 +14,7 @@ from numerals import numeral_of
 from operators import LITERALS, wanted_scalar
 from places import (
     Head, always, at_expression, at_first_value, at_item, at_let, at_needless, at_operand,
-    at_operand_of_emitted, at_second, at_statement, at_struct, at_type)
+    at_operand_of_emitted, at_second, at_statement, at_struct, at_type, at_value)
 from planting import FLOAT, INT, TRUTH, Planter
 from refusals import (
     ABSTRACT, NO_STAGE, OPERATOR, OUT_OF_SCOPE, UNDECLARED, unsupported_binding, unsupported_scalar,
@@ -53,12 +51,12 @@ def in_function(plant):
     return planted
 
 
-def written(p, name, h, *before, stands=always, is_stored=True):
+def written(p, name, h, *before, stands=always, is_stored=True, told=at_expression):
     """An expression that is written somewhere, now and then with a twin that is not."""
     e = p.at(h)
     p.write(h, *before, is_stored=is_stored)
     p.unwritten(e)
-    return at_expression(name, p.f, e, stands)
+    return told(name, p.f, e, stands)
 
 
 def wrapped(p, name, kind, what, count=1, test=lambda ty: True):
@@ -155,7 +153,8 @@ def constant_of_operator(p):
 @in_function
 def constant_of_type(p):
     ty, name = some_unsupported_type(p.r, p.module)
-    return written(p, name, constant(p, ty, own_maker(p.r, p.module).zero(ty)))
+    h = constant(p, ty, own_maker(p.r, p.module).zero(ty))
+    return written(p, name, h, told=at_value)
 
 
 def in_declaration(plant):
@@ -348,11 +347,12 @@ def type_of_local(p):
 
 @in_function
 def type_of_value(p):
-    """That of a zero value or a composition, also where a local of the type is told after it."""
+    """That of a zero value or a composition, also where a local of the type is told before it."""
     ty, name = some_unsupported_type(p.r, p.module)
     if p.chance(0.5):
-        return written(p, name, p.put_typed("zero", ty))
-    return written(p, name, p.put_typed("compose", ty, p.leaves(p.r.choice([0, 1, 2]))))
+        return written(p, name, p.put_typed("zero", ty), told=at_value)
+    h = p.put_typed("compose", ty, p.leaves(p.r.choice([0, 1, 2])))
+    return written(p, name, h, told=at_value)
 
 
 @in_function

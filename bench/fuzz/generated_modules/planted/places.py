@@ -5,6 +5,7 @@ afterwards.
 """
 
 from modules import statements_in
+from writer import emitted_by, first_lines
 
 
 def index_of(items, item):
@@ -71,20 +72,48 @@ def statement(f, s):
     return f"statement {index_of(statements_in(f.body), s)}"
 
 
+def first_line(f, e):
+    return first_lines(f)[index_of(f.expressions, e)]
+
+
+def expression_on_line(f, e):
+    is_statement, number = first_line(f, e)
+    line = f"in statement {number}" if is_statement else f"first value of local_variables[{number}]"
+    return f"{expression(f, e)}, {line}"
+
+
 def at_expression(name, f, e, stands=always):
-    return Planted(name, f, lambda: expression(f, e), stands)
+    """What is written, with the first line that writes it."""
+    return Planted(name, f, lambda: expression_on_line(f, e), stands)
+
+
+def at_value(name, f, e, stands=always):
+    """What is written of a type without a form, or a local of that type in front of its line."""
+    def part():
+        numbers = [number for number, (_, ty, _) in enumerate(f.locals) if ty == e.type]
+        is_before = numbers and (0, numbers[0]) < first_line(f, e)
+        return f".local_variables[{numbers[0]}]" if is_before else expression_on_line(f, e)
+    return Planted(name, f, part, stands)
 
 
 def at_let(name, f, e):
     """A type that a `let` tells, where `let`s tell types."""
     def part():
-        return expression(f, e) + ", the type of its let"
+        h = index_of(f.expressions, e)
+        s = next(s for s in statements_in(f.body) if s.result == h or h in emitted_by(s))
+        return f"{expression(f, e)}, the type of its let in {statement(f, s)}"
     return Planted(name, f, part, lambda is_plain, explicit: explicit)
 
 
 def at_type(name, f, ty):
-    """The type of an argument, of the result or of a local."""
-    return Planted(name, f, lambda: f", of module.types[{f.module.types.index(ty)}]")
+    """The first of this type of the arguments, the result and the locals."""
+    def part():
+        declared = [
+            *((f".arguments[{number}]", each) for number, (_, each) in enumerate(f.arguments)),
+            (".result", f.result),
+            *((f".local_variables[{number}]", each) for number, (_, each, _) in enumerate(f.locals))]
+        return next(place for place, each in declared if each == ty)
+    return Planted(name, f, part)
 
 
 def at_statement(name, f, s):

@@ -331,7 +331,7 @@ function 0 \"double\"(\"x\": i32) -> i32
 ";
 
 const LITERAL_LISTING: &str = "\
-refused: float literal: module.functions[0].expressions[0], in \"half\"
+refused: float literal: module.functions[0].expressions[0], in statement 0, in \"half\"
 
 function 0 \"half\"() -> f32
   expressions
@@ -402,7 +402,7 @@ const MODULES: &[(&str, Task, Style, Told)] = &[
         (
             REFUSED,
             "",
-            "refused: float literal: module.functions[0].expressions[0], in \"half\"\n",
+            "refused: float literal: module.functions[0].expressions[0], in statement 0, in \"half\"\n",
         ),
     ),
     (
@@ -412,7 +412,7 @@ const MODULES: &[(&str, Task, Style, Told)] = &[
         (
             REFUSED,
             "",
-            "refused: float literal: module.functions[0].expressions[0], in \"endless\"\n",
+            "refused: float literal: module.functions[0].expressions[0], in statement 0, in \"endless\"\n",
         ),
     ),
     (FLOAT_LITERAL, Task::Check, STANDARD, (0, "accepted\n", "")),

@@ -1,9 +1,9 @@
-use Rattle.std.proofs.Common.{◌≡◌, map}
-use Rattle.std.specs.List.{find}
-use Rattle.naga_scope.specs.SpelledTypes.{is_unsupported}
+use Rattle.std.proofs.Common.{◌≡◌}
+use Rattle.naga_scope.specs.SpelledTypes.{first_unsupported, local_types}
+use Rattle.naga_scope.proofs.SpelledTypes.{numbered_locals}
 use Rattle.naga_scope.proofs.spelled.local_without_form.Given as goal
 
-abbrev pub invariant-loop-local : goal.invariant-loop-local
-invariant-loop-local l =
-    find (is_unsupported l.module) (map (λ q. q.1.ty) l.local-iterator) ≡
-    find (is_unsupported l.module) (map (λ v. v.ty) l.function.local_variables)
+abbrev pub invariant-loop-handle : goal.invariant-loop-handle
+invariant-loop-handle l =
+    first_unsupported l.module (numbered_locals l.handle-iterator) ≡
+    first_unsupported l.module (local_types l.function.local_variables)

@@ -1,81 +1,77 @@
 use Rattle.std.proofs.Common.{◌≡◌, ◌<◌, ◌≤◌, ◌-◌, suc, arith, ap, sym, subst, ◌∙◌, length}
-use Rattle.std.proofs.Common.{slice_get}
-use Rattle.std.specs.Prelude.{IsFalse, IsSomeAnd}
+use Rattle.std.proofs.Common.{None, slice_get}
+use Rattle.std.specs.Prelude.{get_or}
 use Rattle.module_meaning.specs.ExpressionForms.{expression_has_form}
-use Rattle.naga_scope.proofs.Sweeping.{Swept, begun, ended, later_formed, next, passed}
-use Rattle.naga_scope.specs.Marks.{is_marked}
+use Rattle.naga_scope.proofs.EarliestFound.{FoundFrom, SweptTo, found_all, found_begun, found_next, found_passed}
+use Rattle.naga_scope.proofs.EarliestFound.{swept_begun, swept_next, swept_passed}
+use Rattle.naga_scope.proofs.FirstLines.{size_kept}
+use Rattle.naga_scope.specs.FirstLines.{found_with}
 use Rattle.naga_scope.proofs.written.sweep.Goals as goal
 
 pub loop-end-init : goal.loop-end-init
 loop-end-init c =
-    let len : length c.args.function.now.expressions ≡ c.len-end.result = sym c.len-end.ensures in
+    let es = c.args.function.now.expressions in
+    let formed = expression_has_form c.args.module.now c.args.info.now es in
+    let len : length es ≡ c.len-end.result = sym c.len-end.ensures in
     record {
       size = c.requires.size;
       bound = omega (arith, len);
-      swept = λ roots just. begun (expression_has_form c.args.module.now c.args.info.now c.args.function.now.expressions) _ roots _ just c.requires.size c.len-end.result (omega (arith, len));
+      swept = λ writes just. swept_begun es writes c.args.lines.now just c.requires.size c.len-end.result (omega (arith, len));
+      found = found_begun formed es c.args.lines.now c.len-end.result (omega (arith, len));
     }
 
-pub bounds-marks-end : goal.bounds-marks-end
-bounds-marks-end c =
-    let size : length c.loop-end.marks ≡ length c.args.function.now.expressions = c.loop-end.invariant.size in
-    let bound : c.loop-end.end ≤ length c.args.function.now.expressions = c.loop-end.invariant.bound in
+pub loop-end-preserved-in-Some : goal.loop-end-preserved-in-Some
+loop-end-preserved-in-Some c =
+    let es = c.args.function.now.expressions in
+    let formed = expression_has_form c.args.module.now c.args.info.now es in
+    let bound : c.loop-end.end ≤ length es = c.loop-end.invariant.bound in
     let some : 0 < c.loop-end.end = c.loop-end-test.true in
-    omega (arith, size, bound, some)
-
-pub returns-then-not-expression_has_form : goal.returns-then-not-expression_has_form
-returns-then-not-expression_has_form c roots just =
-    let swept = c.loop-end.invariant.swept roots just in
-    let here = c.from_index-handle.ensures in (
-      swept.sound c.from_index-handle.result (ap (is_marked c.loop-end.marks) here ∙ c.if-marks-end.true),
-      subst (λ o. IsSomeAnd o (λ e. IsFalse (expression_has_form c.args.module.now c.args.info.now c.args.function.now.expressions e))) (sym c.index-expression.ensures)
-          (sym (c.if-not-expression_has_form.ensures c.args.function.now.expressions
-          c.requires.constants)),
-      later_formed (expression_has_form c.args.module.now c.args.info.now c.args.function.now.expressions) _ roots _ just
-          c.requires.size c.requires.ordered c.loop-end.marks c.loop-end.end swept c.from_index-handle.result
-          (omega (arith, here, c.loop-end-test.true)),
-    )
-
-pub loop-end-preserved-then-marks-end : goal.loop-end-preserved-then-marks-end
-loop-end-preserved-then-marks-end c =
-    let bound : c.loop-end.end ≤ length c.args.function.now.expressions = c.loop-end.invariant.bound in
-    let some : 0 < c.loop-end.end = c.loop-end-test.true in
-    let last : suc (c.loop-end.end - 1) ≡ c.loop-end.end = omega (arith, some) in
-    let at = ap (slice_get c.args.function.now.expressions) (sym c.from_index-handle.ensures) ∙ c.index-expression.ensures in
+    let x = c.loop-end.end - 1 in
+    let last : suc x ≡ c.loop-end.end = omega (arith, some) in
+    let at = ap (slice_get es) (sym c.from_index-handle.ensures) ∙ c.index-expression.ensures in
+    let e = c.index-expression.result.now in
+    let below = c.requires.ordered x e at in
+    let is = sym c.line_at.ensures ∙ c.in-Some.is in
+    let line = c.in-Some.line in
     record {
-      size = c.mark_operands.ensures.size ∙ c.loop-end.invariant.size;
+      size = size_kept c.note_operands.ensures ∙ c.loop-end.invariant.size;
       bound = omega (arith, bound);
-      swept = λ roots just.
-          next (expression_has_form c.args.module.now c.args.info.now c.args.function.now.expressions) _ roots _ c.loop-end.marks c.mark_operands.new.marks (c.loop-end.end - 1) _
-          c.loop-end.invariant.size at
-          (c.requires.ordered (c.loop-end.end - 1) c.index-expression.result.now at)
-          c.if-marks-end.true (sym (c.if-not-expression_has_form.ensures c.args.function.now.expressions c.requires.constants)) c.mark_operands.ensures.marks
-          (subst (λ k. Swept
-          (expression_has_form c.args.module.now c.args.info.now
-          c.args.function.now.expressions) c.args.function.now.expressions roots
-          c.args.marks.now c.loop-end.marks k) (sym last)
-          (c.loop-end.invariant.swept roots just));
+      swept = λ writes just.
+          swept_next es writes c.args.lines.now c.loop-end.lines c.note_operands.new.lines x e line c.loop-end.invariant.size at below is
+          c.note_operands.ensures
+          (subst (SweptTo es writes c.args.lines.now c.loop-end.lines) (sym last) (c.loop-end.invariant.swept writes just));
+      found =
+          subst (FoundFrom formed es x c.note_operands.new.lines)
+          (sym (c.found_with-found.ensures ∙ ap (λ h. found_with c.loop-end.found line h c.expression_has_form-has_form.result) c.from_index-handle.ensures))
+          (found_next formed es c.loop-end.lines c.note_operands.new.lines x e line c.expression_has_form-has_form.result c.loop-end.found at below is
+          (sym (c.expression_has_form-has_form.ensures es c.requires.constants)) c.note_operands.ensures
+          (subst (λ k. FoundFrom formed es k c.loop-end.lines c.loop-end.found) (sym last) c.loop-end.invariant.found));
     }
 
 pub loop-end-preserved : goal.loop-end-preserved
 loop-end-preserved c =
-    let bound : c.loop-end.end ≤ length c.args.function.now.expressions = c.loop-end.invariant.bound in
+    let es = c.args.function.now.expressions in
+    let formed = expression_has_form c.args.module.now c.args.info.now es in
+    let bound : c.loop-end.end ≤ length es = c.loop-end.invariant.bound in
     let some : 0 < c.loop-end.end = c.loop-end-test.true in
-    let last : suc (c.loop-end.end - 1) ≡ c.loop-end.end = omega (arith, some) in
+    let x = c.loop-end.end - 1 in
+    let last : suc x ≡ c.loop-end.end = omega (arith, some) in
+    let none = sym c.line_at.ensures ∙ c.in_default.is in
     record {
       size = c.loop-end.invariant.size;
       bound = omega (arith, bound);
-      swept = λ roots just.
-          passed (expression_has_form c.args.module.now c.args.info.now c.args.function.now.expressions) _ roots _ c.loop-end.marks (c.loop-end.end - 1) c.if-marks-end.false
-          (subst (λ k. Swept
-          (expression_has_form c.args.module.now c.args.info.now
-          c.args.function.now.expressions) c.args.function.now.expressions roots
-          c.args.marks.now c.loop-end.marks k) (sym last)
-          (c.loop-end.invariant.swept roots just));
+      swept = λ writes just.
+          swept_passed es writes c.args.lines.now c.loop-end.lines x none
+          (subst (SweptTo es writes c.args.lines.now c.loop-end.lines) (sym last) (c.loop-end.invariant.swept writes just));
+      found = found_passed formed es c.loop-end.lines x c.loop-end.found none
+          (subst (λ k. FoundFrom formed es k c.loop-end.lines c.loop-end.found) (sym last) c.loop-end.invariant.found);
     }
 
 pub returns : goal.returns
-returns c roots just h e at is =
+returns c writes just =
+    let es = c.args.function.now.expressions in
+    let formed = expression_has_form c.args.module.now c.args.info.now es in
     let none : c.loop-end.end ≡ 0 = omega (arith, c.loop-end-test.false) in
-    ended (expression_has_form c.args.module.now c.args.info.now c.args.function.now.expressions) _ roots _ just c.requires.size c.loop-end.marks
-    (subst (λ k. Swept (expression_has_form c.args.module.now c.args.info.now c.args.function.now.expressions) c.args.function.now.expressions roots c.args.marks.now c.loop-end.marks k) none
-    (c.loop-end.invariant.swept roots just)) h e at is
+    found_all formed es writes c.args.lines.now c.loop-end.lines c.loop-end.found just c.requires.size
+    (subst (SweptTo es writes c.args.lines.now c.loop-end.lines) none (c.loop-end.invariant.swept writes just))
+    (subst (λ k. FoundFrom formed es k c.loop-end.lines c.loop-end.found) none c.loop-end.invariant.found)

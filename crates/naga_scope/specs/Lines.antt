@@ -1,0 +1,60 @@
+-- The lines of a function's text: its signature, its locals and its statements, in this order. A
+-- loop's `break if` belongs to the loop's own line. And what stands on each of them.
+--
+-- Throughout, f is a function, h is the handle of an expression, i of a local, n the number of a
+-- statement, ty the handle of a type, and bound says of each expression whether a `let` binds it.
+use Rattle.std.specs.Prelude.{ℕ, Bool, true, false, List, [], nat_lt, not, Option, slice_get}
+use Rattle.std.specs.Option.{option_and_then, option_map, option_map_or, option_to_list}
+use Rattle.module_meaning.specs.FunctionShapes.{function_shape}
+use Rattle.module_meaning.specs.Written.{IsWritten}
+use Rattle.naga_info.specs.declared.info.ExpressionInfo.{ExpressionInfo}
+use Rattle.naga_info.specs.declared.info.ModuleInfo.{ModuleInfo}
+use Rattle.naga_ir.specs.declared.module.Function.{Function}
+use Rattle.naga_ir.specs.declared.module.Module.{Module}
+use Rattle.naga_scope.specs.InOrder.{own_lets, own_roots, trees_in}
+use Rattle.naga_scope.specs.declared.lines.Declared.{Declared}
+use Rattle.naga_scope.specs.declared.lines.Declared.TheVariants as declared
+use Rattle.naga_scope.specs.declared.lines.Line.{Line}
+use Rattle.naga_scope.specs.declared.lines.Line.TheVariants.{Signature, Local, Statement}
+use Rattle.shader_runs.specs.Program.{binds}
+
+-- ---- their order
+-- the first line stands before the second
+abbrev pub is_before : Line → Line → Bool
+is_before Signature Signature = false
+is_before Signature line = true
+is_before (Local i) Signature = false
+is_before (Local i) (Local j) = nat_lt i j
+is_before (Local i) (Statement n) = true
+is_before (Statement n) (Statement k) = nat_lt n k
+is_before (Statement n) line = false
+
+-- the second line stands before the first, or is the same
+abbrev pub is_up_to : Line → Line → Bool
+is_up_to last line = not (is_before last line)
+
+-- ---- what stands on them
+-- the handles that are written on a line by the line itself: a local's first value, and what a
+-- statement writes, those in its blocks left out
+abbrev pub roots_at : (bound : ℕ → Bool) → Function → Line → List ℕ
+roots_at bound f Signature = []
+roots_at bound f (Local i) =
+    option_to_list (option_and_then (λ l. l.init) (slice_get f.local_variables i))
+roots_at bound f (Statement n) =
+    option_map_or (own_roots bound) (slice_get (trees_in f.body) n) []
+
+-- the handles that the `let`s of this statement name, those in its blocks left out
+abbrev pub lets_at : (bound : ℕ → Bool) → Function → (n : ℕ) → List ℕ
+lets_at bound f n = option_map_or (own_lets bound) (slice_get (trees_in f.body) n) []
+
+-- the expression is written on a line of a function of a module
+abbrev pub IsWrittenAt : Module → ModuleInfo → Function → List ExpressionInfo → Line → (h : ℕ) →
+    Type 0
+IsWrittenAt m info f known line h =
+    IsWritten f.expressions (roots_at (binds (function_shape m info f known)) f line) h
+
+-- the type that is declared there, if something is
+abbrev pub declared_type : Function → Declared → Option ℕ
+declared_type f (declared.Argument i) = option_map (λ a. a.ty) (slice_get f.arguments.items i)
+declared_type f declared.Result = option_map (λ r. r.ty) f.result
+declared_type f (declared.Local i) = option_map (λ l. l.ty) (slice_get f.local_variables i)
