@@ -1,14 +1,14 @@
--- Each fault of types of a module in which all that is named is there has a reason, but for swizzles that lack a letter.
+-- Each fault of types of a module in which all that is named is there has a reason.
 --
 -- Throughout, m is a module, info what is known of it, f a function, known the types of several expressions, e is one of them and h its handle, n is how many
 -- there are, s a statement, and fails says that a test fails.
-use Rattle.std.proofs.Common.{◌≡◌, ◌∙◌, ◌⊎◌, ◌<◌, ◌≤◌, ◌+◌, ◌^◌, ◌%◌, ◌==◌, ◌&&◌, ℕ, zero, suc}
+use Rattle.std.proofs.Common.{◌≡◌, ◌∙◌, ◌<◌, ◌≤◌, ◌+◌, ◌^◌, ◌%◌, ◌==◌, ◌&&◌, ℕ, zero, suc}
 use Rattle.std.proofs.Common.{Bool, true, false, List, [], ◌∷◌, length, map, Option, Some, None}
 use Rattle.std.proofs.Common.{IsSome}
-use Rattle.std.proofs.Common.{arith, inl, inr, ⊎_elim, ap, is_some, nat_lt, option_and_then}
+use Rattle.std.proofs.Common.{arith, ⊎_elim, ap, is_some, nat_lt, option_and_then}
 use Rattle.std.proofs.Common.{option_map, option_to_list, refl, slice_get, subst, sym, true≢false}
 use Rattle.std.proofs.Common.{zip}
-use Rattle.std.specs.Prelude.{if◌then◌else◌, IsSomeAnd, IsTrue}
+use Rattle.std.specs.Prelude.{if◌then◌else◌, IsTrue, take}
 use Rattle.std.specs.List.{list_all, enumerate_from}
 use Rattle.std.specs.Option.{option_map_or, option_or}
 use Rattle.std.proofs.lemmas.Bool.{and_parts, and_cases, eqb-true, lt-ltb, ltb-true}
@@ -30,6 +30,9 @@ use Rattle.naga_ir.specs.declared.operators.BinaryOperator.TheVariants as binary
 use Rattle.naga_ir.specs.declared.types.Type_.{Type_}
 use Rattle.naga_ir.specs.declared.types.TypeInner.{TypeInner}
 use Rattle.naga_ir.specs.declared.types.TypeInner.TheVariants as inner
+use Rattle.naga_ir.specs.declared.types.VectorSize.{VectorSize}
+use Rattle.naga_ir.specs.declared.expression.SwizzleComponent.{SwizzleComponent}
+use Rattle.module_meaning.specs.TypeIdentity.{vector_number}
 use Rattle.naga_info.specs.Resolution.{inner_of}
 use Rattle.naga_info.specs.declared.info.ExpressionInfo.{ExpressionInfo}
 use Rattle.naga_info.specs.declared.info.ModuleInfo.{ModuleInfo}
@@ -44,7 +47,7 @@ use Rattle.module_meaning.specs.acceptance.ExpressionTypes.{is_expected, local_t
 use Rattle.module_meaning.specs.acceptance.ExpressionTypes.{logical_type, only, vector_of}
 use Rattle.module_meaning.specs.acceptance.ExpressionTypes.{expected_type}
 use Rattle.module_meaning.specs.acceptance.OperandDemands.{is_components, is_integer, operand_is}
-use Rattle.module_meaning.specs.acceptance.OperandDemands.{operands_fit}
+use Rattle.module_meaning.specs.acceptance.OperandDemands.{is_swizzled, operands_fit}
 use Rattle.module_meaning.specs.acceptance.InfoSizes.{all_known, all_paired, entry_point_size_fits}
 use Rattle.module_meaning.specs.acceptance.InfoSizes.{function_size_fits, sizes_fit, type_is_fit}
 use Rattle.module_meaning.specs.acceptance.Initialisers.{constant_is_sound, global_is_sound}
@@ -76,6 +79,7 @@ use Rattle.naga_acceptance.specs.Faults.{GlobalExpressionFails}
 use Rattle.naga_acceptance.specs.Faults.{GlobalFails}
 use Rattle.naga_acceptance.specs.Faults.{ItemFails, ModuleFails, OverrideFails, TypeFails}
 use Rattle.naga_acceptance.specs.Faults.{UnfitStatement, known_of}
+use Rattle.naga_acceptance.specs.FirstFaults.{IsOfTypes}
 use Rattle.naga_acceptance.specs.TextOrder.{is_in_range, is_sound, case_values_fit_32_bits}
 use Rattle.naga_acceptance.specs.TextOrder.{own_in_range}
 use Rattle.naga_acceptance.specs.TextOrder.{own_is_sound, text_order}
@@ -90,6 +94,8 @@ use Rattle.naga_acceptance.proofs.Walking.{block_range}
 use Rattle.module_meaning.specs.TypeParts.{component_scalar, has_computed_parts, is_part_number}
 use Rattle.module_meaning.specs.TypeParts.{known_inner, part_count, part_type, pointee_type}
 use Rattle.module_meaning.specs.TypeParts.{points_to_atomic, vector_scalar}
+use Rattle.fault_details.specs.Reasons.{LacksLetter, first_reason, has_letter, letter_reason}
+use Rattle.fault_details.specs.Reasons.{swizzle_reason}
 use Rattle.fault_details.specs.Reasons.{answer_reason, call_reason, class_reason, declared_reason}
 use Rattle.fault_details.specs.Reasons.{entry_point_reason, expression_reason, function_reason}
 use Rattle.fault_details.specs.Reasons.{global_reason}
@@ -99,8 +105,7 @@ use Rattle.fault_details.specs.Reasons.{own_type_reason, passed_reason, result_r
 use Rattle.fault_details.specs.Reasons.{simple_reason}
 use Rattle.fault_details.specs.Reasons.{statement_reason, type_reason, typeless_reason}
 use Rattle.fault_details.specs.Reasons.{expected_reason}
-use Rattle.fault_details.specs.WithReason.{AreNumbered, IsOfTypes, LacksLetter, LacksLetterAt}
-use Rattle.fault_details.specs.WithReason.{LacksLetterIn, TypeFaultsHaveReasons}
+use Rattle.fault_details.specs.WithReason.{AreNumbered, TypeFaultsHaveReasons}
 use Rattle.fault_details.specs.declared.words.Counted.TheVariants as counted
 use Rattle.fault_details.specs.declared.words.ListName.TheVariants as list
 use Rattle.fault_details.specs.declared.words.Need.TheVariants as need
@@ -198,30 +203,54 @@ module _ (m : Module) (f : Option Function) (known : List TypeResolution) (argum
   index_told index None fails = absurd (true≢false fails)
   index_told index (Some c) fails = some_unless (nat_lt index c) _ fails
 
+  -- a letter for which the type has no component
+  lacking_told : (r : TypeResolution) (it : TypeInner) → inner_of r m.types ≡ Some it → (xs : List SwizzleComponent) →
+      list_all (λ letter. has_letter letter it) xs ≡ false → IsSome (first_reason (letter_reason m.types r) xs)
+  lacking_told r it is [] fails = absurd (true≢false fails)
+  lacking_told r it is (x ∷ xs) fails =
+      ⊎_elim
+      (λ lacks. some_first (letter_reason m.types r x) (first_reason (letter_reason m.types r) xs)
+      (some_unless (option_map_or (has_letter x) (inner_of r m.types) false) (LacksLetter x r) (ap (λ o. option_map_or (has_letter x) o false) is ∙ lacks)))
+      (λ further. some_second (letter_reason m.types r x) (first_reason (letter_reason m.types r) xs) (lacking_told r it is xs further))
+      (and_cases (has_letter x it) (list_all (λ letter. has_letter letter it) xs) fails)
+
+  letters_told : (n : VectorSize) (pattern : List SwizzleComponent) (r : TypeResolution) (it : TypeInner) → inner_of r m.types ≡ Some it →
+      is_in_class m.types class.Vector it ≡ true → is_swizzled n pattern it ≡ false → IsSome (first_reason (letter_reason m.types r) (take (vector_number n) pattern))
+  letters_told n pattern r (inner.Vector size scalar) is vector fails = lacking_told r (inner.Vector size scalar) is (take (vector_number n) pattern) fails
+  letters_told n pattern r _ is vector fails = absurd (true≢false (sym vector))
+
   operands_told : (e : Expression) → operands_fit m.types known e ≡ false → all_below h (expression_operands e) ≡ true →
-      IsSome (operand_reason m.types known e) ⊎ LacksLetter m.types known e
+      IsSome (operand_reason m.types known e)
   operands_told (expression.Access base index) fails below =
       let parts = and_parts (nat_lt base h) (all_below h (index ∷ [])) below in
-      inl (⊎_elim
+      ⊎_elim
       (λ other. some_first (class_reason m.types known class.Composite base) (class_reason m.types known class.Integer index) (class_told m.types known class.Composite base (there base parts.0) other))
       (λ other. some_second (class_reason m.types known class.Composite base) (class_reason m.types known class.Integer index) (class_told m.types known class.Integer index (first_there index [] parts.1) other))
-      (and_cases (operand_is m.types known (has_computed_parts m.types) base) (operand_is m.types known is_integer index) fails))
+      (and_cases (operand_is m.types known (has_computed_parts m.types) base) (operand_is m.types known is_integer index) fails)
   operands_told (expression.AccessIndex base index) fails below =
       let k = first_there base [] below in
       let it = formed base k.0 k.1 in
       let is : known_inner m.types known base ≡ Some it.0 = ap (option_and_then (λ r. inner_of r m.types)) k.1 ∙ it.1 in
-      inl (ap (λ o. is_some (option_and_then (index_reason index) (option_and_then (part_count m.types) o))) is
-      ∙ index_told index (part_count m.types it.0) (sym (ap (λ o. option_map_or (λ it. is_part_number m.types it index) o false) is) ∙ fails))
-  operands_told (expression.Splat n value) fails below = inl (class_told m.types known class.Components value (first_there value [] below) fails)
+      ap (λ o. is_some (option_and_then (index_reason index) (option_and_then (part_count m.types) o))) is
+      ∙ index_told index (part_count m.types it.0) (sym (ap (λ o. option_map_or (λ it. is_part_number m.types it index) o false) is) ∙ fails)
+  operands_told (expression.Splat n value) fails below = class_told m.types known class.Components value (first_there value [] below) fails
   operands_told (expression.Swizzle n vector pattern) fails below = by (operand_is m.types known (is_in_class m.types class.Vector) vector) refl
     where
-      by : (b : Bool) → operand_is m.types known (is_in_class m.types class.Vector) vector ≡ b →
-          IsSome (operand_reason m.types known (expression.Swizzle n vector pattern)) ⊎ LacksLetter m.types known (expression.Swizzle n vector pattern)
-      by true is = inr (is, fails)
-      by false is = inl (class_told m.types known class.Vector vector (first_there vector [] below) is)
-  operands_told (expression.Load pointer) fails below = inl (class_told m.types known class.Pointer pointer (first_there pointer [] below) fails)
+      by : (b : Bool) → operand_is m.types known (is_in_class m.types class.Vector) vector ≡ b → IsSome (option_or (class_reason m.types known class.Vector vector) (swizzle_reason m.types known n pattern vector))
+      by true is =
+          let k = first_there vector [] below in
+          let it = formed vector k.0 k.1 in
+          let here : known_inner m.types known vector ≡ Some it.0 = ap (option_and_then (λ r. inner_of r m.types)) k.1 ∙ it.1 in
+          some_second (class_reason m.types known class.Vector vector) (swizzle_reason m.types known n pattern vector)
+          (some_then (λ r. first_reason (letter_reason m.types r) (take (vector_number n) pattern)) (slice_get known vector) k.0 k.1
+          (letters_told n pattern k.0 it.0 it.1 (sym (ap (λ o. option_map_or (is_in_class m.types class.Vector) o false) here) ∙ is)
+          (sym (ap (λ o. option_map_or (is_swizzled n pattern) o false) here) ∙ fails)))
+      by false is =
+          some_first (class_reason m.types known class.Vector vector) (swizzle_reason m.types known n pattern vector)
+          (class_told m.types known class.Vector vector (first_there vector [] below) is)
+  operands_told (expression.Load pointer) fails below = class_told m.types known class.Pointer pointer (first_there pointer [] below) fails
   operands_told (expression.CooperativeLoad columns rows role place) fails below =
-      inl (class_told m.types known class.ComponentsPointer place.pointer (first_there place.pointer (place.stride ∷ []) below) fails)
+      class_told m.types known class.ComponentsPointer place.pointer (first_there place.pointer (place.stride ∷ []) below) fails
   operands_told _ fails below = absurd (true≢false fails)
 
 -- ---- statements of a function that may call so many
@@ -328,14 +357,6 @@ initialiser_told types known n within ty (Some h) below fails = type_told types 
 placed : {X : Type 0} (test : ℕ → X → Bool) (xs : List X) (h : ℕ) (x : X) → list_all (λ p. test p.0 p.1) (enumerate_from 0 xs) ≡ true → slice_get xs h ≡ Some x → test h x ≡ true
 placed test xs h x all at = let is : 0 + h ≡ h = omega arith in sym (ap (λ k. test k x) is) ∙ placed_at test 0 xs h x all at
 
--- such a swizzle stands at a part of a function
-abbrev LacksLetterWithin : List Type_ → (known : List TypeResolution) → Function → FunctionPosition → Type 0
-LacksLetterWithin types known f (part.Expression e) = LacksLetterIn types known f.expressions e
-LacksLetterWithin types known f _ = ⊥
-
-some_and : {X : Type 0} (P : X → Type 0) (o : Option X) (x : X) → o ≡ Some x → P x → IsSomeAnd o P
-some_and P o x is holds = subst (λ o. IsSomeAnd o P) (sym is) holds
-
 module _ (m : Module) (f : Function) (known : List TypeResolution) (callees : ℕ) (within : callees ≤ length m.functions)
     (sized : length f.expressions ≡ length known) (range : function_in_range m callees f ≡ true)
     (formed : (x : ℕ) (r : TypeResolution) → slice_get known x ≡ Some r → (it : TypeInner) × (inner_of r m.types ≡ Some it))
@@ -367,30 +388,28 @@ module _ (m : Module) (f : Function) (known : List TypeResolution) (callees : �
       and_parts (all_below h (expression_operands e)) (names_in_range m (length f.arguments.items) (length f.local_variables) e) fits
 
   function_told : (kind : Fault) (place : FunctionPosition) → IsOfTypes kind → FunctionPositionFails m callees f known place kind →
-      IsSome (function_reason m callees f known kind place) ⊎ ((kind ≡ fault.OperandTypes) × LacksLetterWithin m.types known f place)
+      IsSome (function_reason m callees f known kind place)
   function_told fault.OtherType (part.Expression h) of fails =
       let e = unfit_item (has_its_type m (Some f) known h) f.expressions h fails in
       let fits = expression_ranges h e.0 e.1 in
       let le = slice_get_within f.expressions h e.0 e.1 in
-      inl (some_then (expression_reason m (Some f) known fault.OtherType h) (slice_get f.expressions h) e.0 e.1
+      some_then (expression_reason m (Some f) known fault.OtherType h) (slice_get f.expressions h) e.0 e.1
       (own_type_told m (Some f) known (length f.arguments.items) (length f.local_variables) argument_there local_there h (λ x below. there_within h x (omega (arith, le)) below) formed e.0
-      (there_within (length f.expressions) h (omega arith) (lt-ltb h (length f.expressions) le)) e.2 fits.0 fits.1))
+      (there_within (length f.expressions) h (omega arith) (lt-ltb h (length f.expressions) le)) e.2 fits.0 fits.1)
   function_told fault.OperandTypes (part.Expression h) of fails =
       let e = unfit_item (operands_fit m.types known) f.expressions h fails in
       let fits = expression_ranges h e.0 e.1 in
       let le = slice_get_within f.expressions h e.0 e.1 in
-      ⊎_elim
-      (λ told. inl (some_then (expression_reason m (Some f) known fault.OperandTypes h) (slice_get f.expressions h) e.0 e.1 told))
-      (λ lacks. inr (refl, some_and (LacksLetter m.types known) (slice_get f.expressions h) e.0 e.1 lacks))
+      some_then (expression_reason m (Some f) known fault.OperandTypes h) (slice_get f.expressions h) e.0 e.1
       (operands_told m (Some f) known (length f.arguments.items) (length f.local_variables) argument_there local_there h (λ x below. there_within h x (omega (arith, le)) below) formed e.0 e.2 fits.0)
   function_told fault.InitialiserType (part.Local h) of fails =
       let l = unfit_item (local_is_sound m.types known) f.local_variables h fails in
       let fits = list_all_at (local_in_range (length m.types) (length f.expressions)) f.local_variables h l.0 parts_in_range.0 l.1 in
-      inl (some_then (λ k. declared_reason m.types list.Expressions (length f.expressions) known fault.InitialiserType k.ty k.init) (slice_get f.local_variables h) l.0 l.1
+      some_then (λ k. declared_reason m.types list.Expressions (length f.expressions) known fault.InitialiserType k.ty k.init) (slice_get f.local_variables h) l.0 l.1
       (initialiser_told m.types known (length f.expressions) (omega (arith, sized)) l.0.ty l.0.init
-      (and_parts (nat_lt l.0.ty (length m.types)) (is_below (length f.expressions) l.0.init) fits).1 l.2))
+      (and_parts (nat_lt l.0.ty (length m.types)) (is_below (length f.expressions) l.0.init) fits).1 l.2)
   function_told fault.Unsatisfied (part.Statement number) of fails =
-      inl (statement_told m f known callees within (λ x below. there_within (length f.expressions) x (omega arith) below) parts_in_range.2 few number fails)
+      statement_told m f known callees within (λ x below. there_within (length f.expressions) x (omega arith) below) parts_in_range.2 few number fails
   function_told fault.OtherType part.Whole of fails = absurd fails
   function_told fault.OtherType (part.Local h) of fails = absurd fails
   function_told fault.OtherType (part.Statement number) of fails = absurd fails
@@ -499,7 +518,7 @@ module _ (m : Module) (info : ModuleInfo) (ranges : IsTrue (module_ranges_fit m 
       (a.0, b.0, b.1)
 
   abbrev Told : Fault → Item → Type 0
-  Told kind at = IsSome (item_reason m info kind at) ⊎ ((kind ≡ fault.OperandTypes) × LacksLetterAt m info at)
+  Told kind at = IsSome (item_reason m info kind at)
 
   -- of the module itself and of its types there is no such fault
   no_module : (kind : Fault) → IsOfTypes kind → ModuleFails m info kind → ⊥
@@ -520,9 +539,9 @@ module _ (m : Module) (info : ModuleInfo) (ranges : IsTrue (module_ranges_fit m 
   constant_told h fault.InitialiserType of fails =
       let k = unfit_item (constant_is_sound m.types info.const_expression_types.items) m.constants h fails in
       let fits = list_all_at (constant_in_range (length m.types) (length m.global_expressions)) m.constants h k.0 declared_in_range.0 k.1 in
-      inl (some_then (λ k. global_reason m info fault.InitialiserType k.ty (Some k.init)) (slice_get m.constants h) k.0 k.1
+      some_then (λ k. global_reason m info fault.InitialiserType k.ty (Some k.init)) (slice_get m.constants h) k.0 k.1
       (initialiser_told m.types info.const_expression_types.items (length m.global_expressions) (omega (arith, known_sizes.2)) k.0.ty (Some k.0.init)
-      (and_parts (nat_lt k.0.ty (length m.types)) (nat_lt k.0.init (length m.global_expressions)) fits).1 k.2))
+      (and_parts (nat_lt k.0.ty (length m.types)) (nat_lt k.0.init (length m.global_expressions)) fits).1 k.2)
   constant_told h fault.OtherType of fails = absurd fails
   constant_told h fault.OperandTypes of fails = absurd fails
   constant_told h fault.Unsatisfied of fails = absurd fails
@@ -534,9 +553,9 @@ module _ (m : Module) (info : ModuleInfo) (ranges : IsTrue (module_ranges_fit m 
       let fits = list_all_at (override_in_range (length m.types) (length m.global_expressions)) m.overrides h k.0 declared_in_range.1 k.1 in
       let initialised = is_below (length m.global_expressions) k.0.init in
       let number = option_map_or fits_16_bits k.0.id true in
-      inl (some_then (λ k. global_reason m info fault.InitialiserType k.ty k.init) (slice_get m.overrides h) k.0 k.1
+      some_then (λ k. global_reason m info fault.InitialiserType k.ty k.init) (slice_get m.overrides h) k.0 k.1
       (initialiser_told m.types info.const_expression_types.items (length m.global_expressions) (omega (arith, known_sizes.2)) k.0.ty k.0.init
-      (and_parts initialised number (and_parts (nat_lt k.0.ty (length m.types)) (initialised && number) fits).1).0 k.2))
+      (and_parts initialised number (and_parts (nat_lt k.0.ty (length m.types)) (initialised && number) fits).1).0 k.2)
   override_told h fault.OtherType of fails = absurd fails
   override_told h fault.OperandTypes of fails = absurd fails
   override_told h fault.Unsatisfied of fails = absurd fails
@@ -548,9 +567,9 @@ module _ (m : Module) (info : ModuleInfo) (ranges : IsTrue (module_ranges_fit m 
       let fits = list_all_at (global_in_range (length m.types) (length m.global_expressions)) m.global_variables h k.0 declared_in_range.2 k.1 in
       let initialised = is_below (length m.global_expressions) k.0.init in
       let bound = option_map_or resource_fits_32_bits k.0.binding true in
-      inl (some_then (λ k. global_reason m info fault.InitialiserType k.ty k.init) (slice_get m.global_variables h) k.0 k.1
+      some_then (λ k. global_reason m info fault.InitialiserType k.ty k.init) (slice_get m.global_variables h) k.0 k.1
       (initialiser_told m.types info.const_expression_types.items (length m.global_expressions) (omega (arith, known_sizes.2)) k.0.ty k.0.init
-      (and_parts initialised bound (and_parts (nat_lt k.0.ty (length m.types)) (initialised && bound) fits).1).0 k.2))
+      (and_parts initialised bound (and_parts (nat_lt k.0.ty (length m.types)) (initialised && bound) fits).1).0 k.2)
   global_told h fault.OtherType of fails = absurd fails
   global_told h fault.OperandTypes of fails = absurd fails
   global_told h fault.Unsatisfied of fails = absurd fails
@@ -577,17 +596,15 @@ module _ (m : Module) (info : ModuleInfo) (ranges : IsTrue (module_ranges_fit m 
       let e = unfit_item (has_its_type m None info.const_expression_types.items h) m.global_expressions h fails in
       let fits = global_ranges h e.0 e.1 in
       let le = slice_get_within m.global_expressions h e.0 e.1 in
-      inl (some_then (expression_reason m None info.const_expression_types.items fault.OtherType h) (slice_get m.global_expressions h) e.0 e.1
+      some_then (expression_reason m None info.const_expression_types.items fault.OtherType h) (slice_get m.global_expressions h) e.0 e.1
       (own_type_told m None info.const_expression_types.items 0 0 (λ number below none. no_number number below) (λ number below none. no_number number below) h
       (λ x below. global_before h e.0 e.1 h x (omega (arith, le)) below) global_formed e.0
-      (global_before h e.0 e.1 (length m.global_expressions) h (omega arith) (lt-ltb h (length m.global_expressions) le)) e.2 fits.0 fits.1))
+      (global_before h e.0 e.1 (length m.global_expressions) h (omega arith) (lt-ltb h (length m.global_expressions) le)) e.2 fits.0 fits.1)
   global_expression_told h fault.OperandTypes of fails =
       let e = unfit_item (operands_fit m.types info.const_expression_types.items) m.global_expressions h fails in
       let fits = global_ranges h e.0 e.1 in
       let le = slice_get_within m.global_expressions h e.0 e.1 in
-      ⊎_elim
-      (λ told. inl (some_then (expression_reason m None info.const_expression_types.items fault.OperandTypes h) (slice_get m.global_expressions h) e.0 e.1 told))
-      (λ lacks. inr (refl, some_and (LacksLetter m.types info.const_expression_types.items) (slice_get m.global_expressions h) e.0 e.1 lacks))
+      some_then (expression_reason m None info.const_expression_types.items fault.OperandTypes h) (slice_get m.global_expressions h) e.0 e.1
       (operands_told m None info.const_expression_types.items 0 0 (λ number below none. no_number number below) (λ number below none. no_number number below) h
       (λ x below. global_before h e.0 e.1 h x (omega (arith, le)) below) global_formed e.0 e.2 fits.0)
   global_expression_told h fault.InitialiserType of fails = absurd fails
@@ -599,18 +616,9 @@ module _ (m : Module) (info : ModuleInfo) (ranges : IsTrue (module_ranges_fit m 
       let es = paired_at function_size_fits m.functions info.functions.items known_sizes.0 h f at in
       let known = known_of info.functions.items h in
       let sized : length f.expressions ≡ length known = eqb-true (length f.expressions) (length es.0) es.2 ∙ sym (known_sized m info.functions.items known_fit.0 h es.0 es.1) in
-      ⊎_elim
-      (λ told. inl (some_then (λ f. function_reason m h f known kind place) (slice_get m.functions h) f at told))
-      (λ lacks. inr (lacks.0, lacks_in place f at lacks.1))
+      some_then (λ f. function_reason m h f known kind place) (slice_get m.functions h) f at
       (function_told m f known h (omega (arith, slice_get_within m.functions h f at)) sized (placed (function_in_range m) m.functions h f functions_in_range.0 at)
       (known_formed m info.functions.items known_fit.0 h es.0 es.1) (numbered.functions h f at) kind place of fails)
-    where
-      lacks_in : (place : FunctionPosition) (f : Function) → slice_get m.functions h ≡ Some f → LacksLetterWithin m.types (known_of info.functions.items h) f place →
-          LacksLetterAt m info (item.Function h place)
-      lacks_in (part.Expression e) f at lacks = some_and (λ f. LacksLetterIn m.types (known_of info.functions.items h) f.expressions e) (slice_get m.functions h) f at lacks
-      lacks_in part.Whole f at lacks = absurd lacks
-      lacks_in (part.Local l) f at lacks = absurd lacks
-      lacks_in (part.Statement number) f at lacks = absurd lacks
 
   -- what is told of an entry point's function is told of the entry point
   entry_fails : (p : EntryPoint) (known : List TypeResolution) (place : FunctionPosition) (kind : Fault) → IsOfTypes kind → EntryPositionFails m p known place kind →
@@ -637,10 +645,8 @@ module _ (m : Module) (info : ModuleInfo) (ranges : IsTrue (module_ranges_fit m 
       let es = paired_at entry_point_size_fits m.entry_points.items info.entry_points.items known_sizes.1 h p at in
       let known = known_of info.entry_points.items h in
       let sized : length p.function.expressions ≡ length known = eqb-true (length p.function.expressions) (length es.0) es.2 ∙ sym (known_sized m info.entry_points.items known_fit.1 h es.0 es.1) in
-      ⊎_elim
-      (λ told. inl (some_then (λ p. entry_point_reason m p known kind place) (slice_get m.entry_points.items h) p at (sym (ap is_some (entry_reason p known place kind of)) ∙ told)))
-      (λ lacks. inr (lacks.0, lacks_in place p at lacks.1))
-      (function_told m p.function known (length m.functions) (omega arith) sized (in_range p (list_all_at (entry_point_in_range m) m.entry_points.items h p functions_in_range.1 at))
+      some_then (λ p. entry_point_reason m p known kind place) (slice_get m.entry_points.items h) p at
+      (sym (ap is_some (entry_reason p known place kind of)) ∙ function_told m p.function known (length m.functions) (omega arith) sized (in_range p (list_all_at (entry_point_in_range m) m.entry_points.items h p functions_in_range.1 at))
       (known_formed m info.entry_points.items known_fit.1 h es.0 es.1) (numbered.entry_points h p at) kind place of (entry_fails p known place kind of fails))
     where
       in_range : (p : EntryPoint) → entry_point_in_range m p ≡ true → function_in_range m (length m.functions) p.function ≡ true
@@ -651,14 +657,6 @@ module _ (m : Module) (info : ModuleInfo) (ranges : IsTrue (module_ranges_fit m 
           let group = workgroup_fits_32_bits p.workgroup_size in
           let own = function_in_range m (length m.functions) p.function in
           (and_parts group own (and_parts ray (group && own) (and_parts task (ray && (group && own)) (and_parts mesh (task && (ray && (group && own))) fits).1).1).1).1
-
-      lacks_in : (place : FunctionPosition) (p : EntryPoint) → slice_get m.entry_points.items h ≡ Some p → LacksLetterWithin m.types (known_of info.entry_points.items h) p.function place →
-          LacksLetterAt m info (item.EntryPoint h place)
-      lacks_in (part.Expression e) p at lacks =
-          some_and (λ p. LacksLetterIn m.types (known_of info.entry_points.items h) p.function.expressions e) (slice_get m.entry_points.items h) p at lacks
-      lacks_in part.Whole p at lacks = absurd lacks
-      lacks_in (part.Local l) p at lacks = absurd lacks
-      lacks_in (part.Statement number) p at lacks = absurd lacks
 
   item_told : (at : Item) (kind : Fault) → IsOfTypes kind → ItemFails m info at kind → Told kind at
   item_told item.Module kind of fails = absurd (no_module kind of fails)

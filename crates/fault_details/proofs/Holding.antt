@@ -4,7 +4,7 @@ use Rattle.std.proofs.Common.{Option, Some, None}
 use Rattle.std.proofs.Common.{refl, length, nat_lt, nat_le, not, slice_get, true≢false, sym, eq-eqb}
 use Rattle.std.proofs.Common.{◌∙◌}
 use Rattle.std.proofs.lemmas.Bool.{ltb-false, leb-false}
-use Rattle.std.specs.Prelude.{if◌then◌else◌}
+use Rattle.std.specs.Prelude.{if◌then◌else◌, take}
 use Rattle.std.specs.Option.{IfSome, is_some, option_and_then, option_map, option_map_or, option_or}
 use Rattle.naga_ir.specs.StatementTree.{SimpleStatement, emit, break, continue, return, store}
 use Rattle.naga_ir.specs.StatementTree.{atomic, call, subgroup_ballot}
@@ -26,6 +26,8 @@ use Rattle.naga_ir.specs.declared.types.ArraySize.{ArraySize}
 use Rattle.naga_ir.specs.declared.types.ArraySize.TheVariants as size
 use Rattle.naga_ir.specs.declared.types.TypeInner.{TypeInner}
 use Rattle.naga_ir.specs.declared.types.TypeInner.TheVariants as inner
+use Rattle.naga_ir.specs.declared.expression.SwizzleComponent.{SwizzleComponent}
+use Rattle.module_meaning.specs.TypeIdentity.{vector_number}
 use Rattle.naga_info.specs.declared.info.ModuleInfo.{ModuleInfo}
 use Rattle.naga_info.specs.declared.info.TypeResolution.{TypeResolution}
 use Rattle.naga_info.specs.declared.info.TypeResolution.TheVariants.{Handle, Value}
@@ -49,7 +51,8 @@ use Rattle.module_meaning.specs.acceptance.StatementsFit.{last_falls_through}
 use Rattle.module_meaning.specs.TypeParts.{known_pointee}
 use Rattle.fault_details.specs.Holds.{IsReason, ReasonsHold}
 use Rattle.fault_details.specs.Reasons.{Reason, Absent, Later, OtherClass, OtherNumber, OtherType}
-use Rattle.fault_details.specs.Reasons.{PastParts, Unexpected}
+use Rattle.fault_details.specs.Reasons.{PastParts, LacksLetter, Unexpected}
+use Rattle.fault_details.specs.Reasons.{has_letter, letter_reason, swizzle_reason}
 use Rattle.fault_details.specs.Reasons.{absent, class_reason, declared_reason, emitted_reason}
 use Rattle.fault_details.specs.Reasons.{first_reason, index_reason}
 use Rattle.fault_details.specs.Reasons.{initialiser_reason, item_reason, known_reason}
@@ -245,13 +248,19 @@ module _ (m : Module) where
   index_holds : (index count : ℕ) → Holds (index_reason index count)
   index_holds index count = unless_holds (IsReason m) (nat_lt index count) (PastParts count index) (λ fails. ltb-false index count fails)
 
+  letter_holds : (r : TypeResolution) (letter : SwizzleComponent) → Holds (letter_reason m.types r letter)
+  letter_holds r letter = unless_holds (IsReason m) (option_map_or (has_letter letter) (inner_of r m.types) false) (LacksLetter letter r) (λ fails. fails)
+
   operand_holds : (known : List TypeResolution) (e : Expression) → Holds (operand_reason m.types known e)
   operand_holds known (expression.Access base index) =
       or_holds (IsReason m) (class_reason m.types known class.Composite base) (class_reason m.types known class.Integer index)
       (class_holds known class.Composite base) (class_holds known class.Integer index)
   operand_holds known (expression.AccessIndex base index) = then_holds (IsReason m) (index_reason index) (index_holds index) _
   operand_holds known (expression.Splat count value) = class_holds known class.Components value
-  operand_holds known (expression.Swizzle count vector pattern) = class_holds known class.Vector vector
+  operand_holds known (expression.Swizzle count vector pattern) =
+      or_holds (IsReason m) (class_reason m.types known class.Vector vector) (swizzle_reason m.types known count pattern vector) (class_holds known class.Vector vector)
+      (then_holds (IsReason m) (λ r. first_reason (letter_reason m.types r) (take (vector_number count) pattern))
+      (λ r. first_holds (letter_reason m.types r) (letter_holds r) (take (vector_number count) pattern)) (slice_get known vector))
   operand_holds known (expression.Load pointer) = class_holds known class.Pointer pointer
   operand_holds known (expression.CooperativeLoad columns rows role data_) = class_holds known class.ComponentsPointer data_.pointer
   operand_holds known _ = tt

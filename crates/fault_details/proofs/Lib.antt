@@ -1,3 +1,4 @@
+pub mod Apart
 pub mod Completing
 pub mod Fitting
 pub mod Holding

@@ -1,6 +1,8 @@
 -- What it means that a reason is one: types that are told are not alike, a class has not the type
--- that is told, an item that is told is not there or not before, numbers that are told differ. And
--- that each reason that is told is one.
+-- that is told, or this has not the letter; the number of an item is not below how many there are,
+-- or not below that of the item before which it is to stand; numbers that are told differ. Of a
+-- value that is not there or not wanted, and of what a statement needs, nothing is said. And that
+-- each reason is one.
 --
 -- Throughout, m is a module, info what is known of it, and u a place with a kind of fault.
 use Rattle.std.specs.Prelude.{◌≡◌, ⊤, ◌≢◌, ◌≤◌, false}
@@ -11,8 +13,8 @@ use Rattle.naga_info.specs.Resolution.{inner_of}
 use Rattle.naga_acceptance.specs.declared.faults.Unaccepted.{Unaccepted}
 use Rattle.module_meaning.specs.AlikeTypes.{are_alike}
 use Rattle.fault_details.specs.Reasons.{Reason, OtherType, OtherClass, NoValue, Unexpected, Absent}
-use Rattle.fault_details.specs.Reasons.{Later, OtherNumber, PastParts, Needs, fault_reason}
-use Rattle.fault_details.specs.Reasons.{is_in_class}
+use Rattle.fault_details.specs.Reasons.{Later, OtherNumber, PastParts, LacksLetter, Needs}
+use Rattle.fault_details.specs.Reasons.{fault_reason, has_letter, is_in_class}
 
 abbrev pub IsReason : Module → Reason → Type 0
 IsReason m (OtherType wanted got) = are_alike m.types got wanted ≡ false
@@ -24,6 +26,8 @@ IsReason m (Absent name index count) = count ≤ index
 IsReason m (Later name index before) = before ≤ index
 IsReason m (OtherNumber of wanted got) = wanted ≢ got
 IsReason m (PastParts count got) = count ≤ got
+IsReason m (LacksLetter letter got) =
+    option_map_or (has_letter letter) (inner_of got m.types) false ≡ false
 IsReason m (Needs need) = ⊤
 
 abbrev pub ReasonsHold : Type 0

@@ -8,11 +8,13 @@
 -- item that names others, and count is how many items a list has. Of the functions of a module a
 -- function may call those before it, and an entry point all: those before callees.
 use Rattle.std.specs.Prelude.{ℕ, ◌-◌, Bool, false, ◌==◌, nat_lt, nat_le, not}
-use Rattle.std.specs.Prelude.{List, [], ◌∷◌, length, slice_get}
+use Rattle.std.specs.Prelude.{List, [], ◌∷◌, length, slice_get, take}
 use Rattle.std.specs.Prelude.{Option, Some, None, if◌then◌else◌}
 use Rattle.std.specs.Option.{option_and_then, option_map, option_map_or, option_or}
 use Rattle.std.specs.Option.{is_some}
+use denote.Enum.Declared.{tag_of}
 use Rattle.indexmap.specs.IndexMap.{keys, values}
+use Rattle.naga_ir.specs.contracts.expression.SwizzleComponent.{the_type as letter_type}
 use Rattle.naga_ir.specs.Operands.{expression_operands, own_operands, own_result}
 use Rattle.naga_ir.specs.StatementTree.{SimpleStatement, emit, break, continue, return, store}
 use Rattle.naga_ir.specs.StatementTree.{atomic, call, cooperative_store, subgroup_ballot}
@@ -23,6 +25,7 @@ use Rattle.naga_ir.specs.StatementTree.{no_cases, case}
 use Rattle.naga_ir.specs.Literals.{scalar_of}
 use Rattle.naga_ir.specs.declared.expression.Expression.{Expression}
 use Rattle.naga_ir.specs.declared.expression.Expression.TheVariants as expression
+use Rattle.naga_ir.specs.declared.expression.SwizzleComponent.{SwizzleComponent}
 use Rattle.naga_ir.specs.declared.module.EntryPoint.{EntryPoint}
 use Rattle.naga_ir.specs.declared.module.Function.{Function}
 use Rattle.naga_ir.specs.declared.module.FunctionArgument.{FunctionArgument}
@@ -38,6 +41,7 @@ use Rattle.naga_ir.specs.declared.types.ScalarKind.TheVariants as kind
 use Rattle.naga_ir.specs.declared.types.Type_.{Type_}
 use Rattle.naga_ir.specs.declared.types.TypeInner.{TypeInner}
 use Rattle.naga_ir.specs.declared.types.TypeInner.TheVariants as inner
+use Rattle.naga_ir.specs.declared.types.VectorSize.{VectorSize}
 use Rattle.naga_info.specs.declared.info.ModuleInfo.{ModuleInfo}
 use Rattle.naga_info.specs.declared.info.TypeResolution.{TypeResolution}
 use Rattle.naga_info.specs.declared.info.TypeResolution.TheVariants.{Handle, Value}
@@ -65,6 +69,7 @@ use Rattle.module_meaning.specs.acceptance.StatementsFit.{is_signed, is_uniform_
 use Rattle.module_meaning.specs.acceptance.StatementsFit.{is_unsigned}
 use Rattle.module_meaning.specs.acceptance.StatementsFit.{case_values_differ, last_falls_through}
 use Rattle.module_meaning.specs.acceptance.StatementsFit.{selects}
+use Rattle.module_meaning.specs.TypeIdentity.{vector_number}
 use Rattle.module_meaning.specs.TypeParts.{has_computed_parts, inner_at, known_inner}
 use Rattle.module_meaning.specs.TypeParts.{known_pointee, part_count, points_to_atomic}
 use Rattle.module_meaning.specs.TypeParts.{vector_scalar}
@@ -95,6 +100,8 @@ pub data Reason : Type 0 where
   OtherNumber : Counted → (wanted got : ℕ) → Reason
   -- a part is named of which there are so many
   PastParts : (count got : ℕ) → Reason
+  -- a letter is named for which a type has no component
+  LacksLetter : SwizzleComponent → (got : TypeResolution) → Reason
   -- what else a statement needs
   Needs : Need → Reason
 
@@ -267,6 +274,26 @@ own_type_reason m f known h e =
 abbrev pub index_reason : (index count : ℕ) → Option Reason
 index_reason index count = if nat_lt index count then None else Some (PastParts count index)
 
+-- Does the type have a component for the letter?
+abbrev pub has_letter : SwizzleComponent → TypeInner → Bool
+has_letter letter (inner.Vector n s) = nat_lt (tag_of letter_type letter) (vector_number n)
+has_letter letter it = false
+
+-- a type that has none
+abbrev pub letter_reason : List Type_ → TypeResolution → SwizzleComponent → Option Reason
+letter_reason types r letter =
+    if option_map_or (has_letter letter) (inner_of r types) false then None
+    else Some (LacksLetter letter r)
+
+-- the first letter of a swizzle for which its operand has none
+abbrev pub swizzle_reason :
+    List Type_ → (known : List TypeResolution) → (chosen : VectorSize) → List SwizzleComponent →
+    (vector : ℕ) → Option Reason
+swizzle_reason types known chosen letters vector =
+    option_and_then
+    (λ r. first_reason (letter_reason types r) (take (vector_number chosen) letters))
+    (slice_get known vector)
+
 -- what an expression asks of its operands
 abbrev pub operand_reason :
     List Type_ → (known : List TypeResolution) → Expression → Option Reason
@@ -279,7 +306,8 @@ operand_reason types known (expression.AccessIndex base index) =
 operand_reason types known (expression.Splat count value) =
     class_reason types known class.Components value
 operand_reason types known (expression.Swizzle count vector pattern) =
-    class_reason types known class.Vector vector
+    option_or (class_reason types known class.Vector vector)
+    (swizzle_reason types known count pattern vector)
 operand_reason types known (expression.Load pointer) =
     class_reason types known class.Pointer pointer
 operand_reason types known (expression.CooperativeLoad columns rows role data_) =

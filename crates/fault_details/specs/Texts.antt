@@ -2,6 +2,8 @@
 --
 -- Throughout, h is the number of an item in its list, and n counts several things.
 use Rattle.std.specs.Prelude.{ℕ, List, [], ◌++◌, ◌==◌, codes, decimal, if◌then◌else◌, string_bytes}
+use Rattle.naga_ir.specs.declared.expression.SwizzleComponent.{SwizzleComponent}
+use Rattle.naga_ir.specs.declared.expression.SwizzleComponent.TheVariants as component
 use Rattle.fault_details.specs.declared.expected.Expected.{Expected}
 use Rattle.fault_details.specs.declared.expected.Expected.TheVariants as wanted
 use Rattle.fault_details.specs.declared.words.Counted.{Counted}
@@ -54,6 +56,13 @@ class_text class.Pointer = codes "a pointer"
 class_text class.ComponentsPointer = codes "a pointer to a scalar or a vector"
 class_text class.AtomicPointer = codes "a pointer to an atomic"
 
+-- a letter of a swizzle
+abbrev pub letter_text : SwizzleComponent → List ℕ
+letter_text component.X = codes "x"
+letter_text component.Y = codes "y"
+letter_text component.Z = codes "z"
+letter_text component.W = codes "w"
+
 -- what a statement needs beside types
 abbrev pub need_text : Need → List ℕ
 need_text need.LoopOrSwitch = codes "a loop or a switch to leave"
@@ -84,4 +93,7 @@ wanted_text (wanted.Number of n got) =
     codes "wanted " ++ many_text n of ++ codes ", got " ++ decimal got
 wanted_text (wanted.Part n got) =
     codes "wanted an index below " ++ decimal n ++ codes ", got " ++ decimal got
+wanted_text (wanted.Letter letter got) =
+    codes "names ." ++ (letter_text letter ++ (codes ", which " ++ (string_bytes got ++
+    codes " does not have")))
 wanted_text (wanted.Need it) = codes "wanted " ++ need_text it

@@ -1,9 +1,13 @@
 -- What is told of a reason.
 --
--- Throughout, m is a module, r a type that is wanted or known, and h is a handle.
-use Rattle.std.specs.Prelude.{◌≡◌, ◌≢◌, ⊤, ℕ, ◌⊎◌, List, Option, Some, None, codes, string_bytes}
+-- Throughout, m is a module, r a type that is wanted or known, it a type by itself, and h is a
+-- handle.
+use Rattle.std.specs.Prelude.{◌≡◌, ◌≢◌, ⊤, ℕ, ◌⊎◌, List, ◌++◌, Option, Some, None}
+use Rattle.std.specs.Prelude.{codes, string_bytes}
 use Rattle.std.specs.Str.Iter.{HasSubslice}
 use Rattle.naga_ir.specs.declared.module.Module.{Module}
+use Rattle.naga_ir.specs.declared.types.TypeInner.{TypeInner}
+use Rattle.naga_ir.specs.declared.types.TypeInner.TheVariants as inner
 use Rattle.naga_info.specs.declared.info.TypeResolution.{TypeResolution}
 use Rattle.naga_info.specs.declared.info.TypeResolution.TheVariants.{Handle, Value}
 use Rattle.naga_words.specs.Contexts.{global_context}
@@ -11,7 +15,7 @@ use Rattle.naga_words.specs.Segments.{IsText}
 use Rattle.naga_words.specs.Spelling.{Context, FitsResolution, IsInOrder, resolution_segments}
 use Rattle.naga_listing.specs.OneLine.{on_one_line}
 use Rattle.fault_details.specs.Reasons.{Reason, OtherType, OtherClass, NoValue, Unexpected, Absent}
-use Rattle.fault_details.specs.Reasons.{Later, OtherNumber, PastParts, Needs}
+use Rattle.fault_details.specs.Reasons.{Later, OtherNumber, PastParts, LacksLetter, Needs}
 use Rattle.fault_details.specs.Texts.{item_text}
 use Rattle.fault_details.specs.declared.words.ListName.TheVariants as list
 use Rattle.fault_details.specs.declared.expected.Expected.{Expected}
@@ -53,17 +57,42 @@ IsTold m r text =
     × (text ≡ on_one_line spelled))
     ⊎ ((HasNoOrder m r ⊎ HasBraces m r) × (text ≡ unspelled_text r))
 
--- A type of the module is told by its place, and another one as ever.
+-- the type that a pointer or an array names
+abbrev pub named_type : TypeInner → Option ℕ
+named_type (inner.Pointer base space) = Some base
+named_type (inner.Array base length stride) = Some base
+named_type (inner.BindingArray base length) = Some base
+named_type _ = None
+
+-- a type with the place of the one that it names: `ptr<function, S> of types[5]`
+abbrev pub with_place : (alone : List ℕ) → (named : Option ℕ) → List ℕ
+with_place alone None = alone
+with_place alone (Some h) = alone ++ (codes " of " ++ place_text h)
+
+-- A type of the module is told by its place, and another one as ever, with the place of the type
+-- that it names.
 abbrev pub IsPlaced : Module → TypeResolution → (text : List ℕ) → Type 0
 IsPlaced m (Handle h) text = text ≡ place_text h
-IsPlaced m (Value it) text = IsTold m (Value it) text
+IsPlaced m (Value it) text =
+    (alone : List ℕ) × IsTold m (Value it) alone × (text ≡ with_place alone (named_type it))
+
+-- Two types are told by their places; where these are told alike too, as one type and another.
+abbrev pub PlacesBoth : Module → (wanted got : TypeResolution) → (text other : List ℕ) → Type 0
+PlacesBoth m wanted got text other =
+    (IsPlaced m wanted text × IsPlaced m got other × (text ≢ other))
+    ⊎ (IsPlaced m wanted text × IsPlaced m got text × (other ≡ codes "another " ++ text))
 
 -- Two types are told by texts that differ, or by their places where one text would tell both.
 abbrev pub TellsBoth : Module → (wanted got : TypeResolution) → (text other : List ℕ) → Type 0
 TellsBoth m wanted got text other =
     (IsTold m wanted text × IsTold m got other × (text ≢ other))
-    ⊎ (IsPlaced m wanted text × IsPlaced m got other
+    ⊎ (PlacesBoth m wanted got text other
     × ((both : List ℕ) × IsTold m wanted both × IsTold m got both))
+
+-- No text tells two types.
+abbrev pub TypesAreToldApart : Type 0
+TypesAreToldApart = (m : Module) (wanted got : TypeResolution) (text other : List ℕ) →
+    TellsBoth m wanted got text other → text ≢ other
 
 -- the reason is told, with its types and its numbers
 abbrev pub Tells : Module → Reason → Expected → Type 0
@@ -77,6 +106,8 @@ Tells m (Absent name index count) w = w ≡ told.Item name index count
 Tells m (Later name index before) w = w ≡ told.EarlierItem name index before
 Tells m (OtherNumber of wanted got) w = w ≡ told.Number of wanted got
 Tells m (PastParts count got) w = w ≡ told.Part count got
+Tells m (LacksLetter letter got) (told.Letter told_letter text) =
+    (told_letter ≡ letter) × IsTold m got (string_bytes text)
 Tells m (Needs need) w = w ≡ told.Need need
 Tells m _ w = ⊥
 

@@ -3,13 +3,16 @@
 ghost use Rattle.std.specs.Prelude.{Some};
 ghost use Rattle.fault_details.specs.Texts.{wanted_text};
 
-use crate::words::{Counted, ListName, Many, Need, Numbered, There, TypeClass};
+use crate::words::{Counted, ListName, Many, Need, Numbered, There, TypeClass, letter_str};
+use naga_ir::SwizzleComponent;
 use std::fmt;
 
 /// What was wanted where a module is not accepted, and what stands there. A type is told as WGSL
 /// spells it, structs and overrides by their labels, with line breaks escaped; or, if it is one of
-/// the module, as `types[5]`, by its handle, where it has no such spelling or one with braces, and
-/// where the other one is spelled alike.
+/// the module, as `types[5]`, by its handle, where it has no such spelling or one with braces. Where
+/// two types are spelled alike, one of the module is told by its handle, a pointer or an array by
+/// itself with that of the type that it names, as `ptr<function, S> of types[5]`, and if that
+/// tells them alike too, the second as `another`.
 #[derive(Debug, Drop)]
 pub enum Expected {
     /// A value of one type is wanted, and one of another stands there:
@@ -73,6 +76,14 @@ pub enum Expected {
         /// The number of the one that is named.
         got: usize,
     },
+    /// A letter is named for which a vector has no component:
+    /// `names .w, which vec2<f32> does not have`.
+    Letter {
+        /// The letter that is named.
+        letter: SwizzleComponent,
+        /// The type of the vector.
+        got: String,
+    },
     /// What else a statement needs: `wanted a loop to go on with`.
     Need(Need),
 }
@@ -104,6 +115,9 @@ impl fmt::Display for Expected {
             }
             Expected::Part { count, got } => {
                 write!(f, "wanted an index below {}, got {}", count, got)
+            }
+            Expected::Letter { letter, got } => {
+                write!(f, "names .{}, which {} does not have", letter_str(*letter), got)
             }
             Expected::Need(need) => write!(f, "wanted {}", need),
         }

@@ -1,20 +1,29 @@
 //! What is proved of reasons.
 
 ghost use Rattle.fault_details.specs.Holds.{ReasonsHold};
+ghost use Rattle.fault_details.specs.Told.{TypesAreToldApart};
 ghost use Rattle.fault_details.specs.WithReason.{TypeFaultsHaveReasons};
 
-/// Each reason that [`explain`](crate::explain) tells is one, whatever fault it is asked of: types
-/// that are told are not alike, a class has not the type that is told, an item that is told is not
-/// there or not before what names it, and numbers that are told differ.
+/// Each reason that [`explain`](crate::explain) tells is one, whatever fault it is asked of: of two
+/// types, they are not alike; of a class or a letter, the type has it not; of an item, its number
+/// is not below how many there are, or not below that of the item before which it is to stand; of
+/// numbers, they differ. Of a value that is not there or not wanted, and of what a statement needs,
+/// this says nothing.
 pub fn reasons_hold()
     ensures { ReasonsHold }
 {}
 
-/// Each fault of types has a reason, where all that the module names is there, so that
-/// [`explain`](crate::explain) tells one wherever [`unaccepted`](naga_acceptance::unaccepted) tells
-/// such a fault: an expression has another type than what it stands for, or takes no operands of
-/// these types; an initialiser has another type; a statement does not get what it wants. A swizzle
-/// of a vector that lacks one of its letters has none.
+/// Each fault of types has a reason, where all that the module names is there and no body has more
+/// than 2^64 statements: an expression has another type than what it stands for, or takes no
+/// operands of these types; an initialiser has another type; a statement does not get what it
+/// wants. [`unaccepted`](naga_acceptance::unaccepted) tells such a fault only where all that is
+/// named is there, so that [`explain`](crate::explain) tells a reason of each.
 pub fn type_faults_have_reasons()
     ensures { TypeFaultsHaveReasons }
+{}
+
+/// No text tells two types: where [`explain`](crate::explain) tells one that is wanted and another
+/// that stands there, it tells them by texts that differ.
+pub fn types_are_told_apart()
+    ensures { TypesAreToldApart }
 {}

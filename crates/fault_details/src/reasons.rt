@@ -8,7 +8,7 @@ ghost use Rattle.fault_details.specs.Shown.{shown};
 use crate::words::{Counted, ListName, Need, TypeClass};
 use naga_acceptance::parts::InferredType;
 use naga_info::TypeResolution;
-use naga_ir::Scalar;
+use naga_ir::{Scalar, SwizzleComponent};
 
 /// What was wanted at a place, and what stands there.
 #[derive(Debug, Clone, Copy)]
@@ -58,6 +58,11 @@ pub(crate) enum Reason<'a> {
     PastParts {
         count: usize,
         got: usize,
+    },
+    /// A letter is named for which a type has no component.
+    LacksLetter {
+        letter: SwizzleComponent,
+        got: &'a TypeResolution,
     },
     /// What else a statement needs.
     Needs {

@@ -8,11 +8,12 @@ ghost use Rattle.naga_acceptance.specs.KnownTypes.{inferred};
 ghost use Rattle.naga_words.specs.Contexts.{global_context};
 ghost use Rattle.naga_words.specs.Segments.{IsText};
 ghost use Rattle.naga_words.specs.Spelling.{resolution_segments};
-ghost use Rattle.fault_details.specs.Reasons.{NoValue, OtherClass, OtherType, Unexpected};
-ghost use Rattle.fault_details.specs.Reasons.{fault_reason};
+ghost use Rattle.fault_details.specs.Reasons.{LacksLetter, NoValue, OtherClass, OtherType};
+ghost use Rattle.fault_details.specs.Reasons.{Unexpected, fault_reason};
 ghost use Rattle.fault_details.specs.Shown.{shown};
-ghost use Rattle.fault_details.specs.Told.{HasNoOrder, IsOfModule, IsPlaced, IsTold, Tells};
-ghost use Rattle.fault_details.specs.Told.{TellsOf, unspelled_text};
+ghost use Rattle.fault_details.specs.Told.{HasNoOrder, IsOfModule, IsPlaced, IsTold, PlacesBoth};
+ghost use Rattle.fault_details.specs.Told.{Tells, TellsBoth, TellsOf, named_type, unspelled_text};
+ghost use Rattle.fault_details.specs.Told.{with_place};
 
 use crate::expected::Expected;
 use crate::items::fault_reason;
@@ -22,10 +23,17 @@ use crate::words::{ListName, Numbered, TypeClass};
 use naga_acceptance::Unaccepted;
 use naga_acceptance::parts::InferredType;
 use naga_info::{ModuleInfo, ToCtx, TypeResolution};
-use naga_ir::{Module, Scalar, TypeInner};
+use naga_ir::{Handle, Module, Scalar, SwizzleComponent, Type_, TypeInner};
 use naga_listing::on_one_line;
 use naga_words::{SinkError, TypeContext, TypeTextError};
 use std::alloc::{AllocError, Global};
+
+/// Two types, as they are told.
+#[derive(Drop)]
+pub(crate) struct TwoTypes {
+    wanted: String,
+    got: String,
+}
 
 /// A type of the module by its place.
 fn unspelled(alloc: Global, ty: &TypeResolution) -> Result<String, AllocError>
@@ -91,14 +99,93 @@ fn told(alloc: Global, module: &Module, ty: &TypeResolution) -> Result<String, A
     }
 }
 
-/// A type by its place, if it is one of the module, or else as it is told.
+/// The type that a pointer or an array names.
+fn named_type(inner: &TypeInner) -> Option<Handle<Type_>>
+    ensures { result ≡ named_type inner.now }
+{
+    match inner {
+        TypeInner::Pointer { base, .. } => Some(*base),
+        TypeInner::Array { base, .. } => Some(*base),
+        TypeInner::BindingArray { base, .. } => Some(*base),
+        _ => None,
+    }
+}
+
+/// A type with the place of the one that it names.
+fn with_place(
+    alloc: Global,
+    alone: String,
+    named: Option<Handle<Type_>>,
+) -> Result<String, AllocError>
+    ensures { IfOk result (λ t. string_bytes t ≡ with_place (string_bytes alone) named) }
+{
+    match named {
+        Some(base) => {
+            let place = Numbered(ListName::Types, base.index());
+            format!(in alloc; "{} of {}", alone, place)
+        }
+        None => Ok(alone),
+    }
+}
+
+/// A type by its place, if it is one of the module, or else as it is told, with the place of the
+/// type that it names.
 fn placed(alloc: Global, module: &Module, ty: &TypeResolution) -> Result<String, AllocError>
     ensures { IfOk result (λ t. IsPlaced «module».now ty.now (string_bytes t)) }
 {
     match ty {
         TypeResolution::Handle(_) => unspelled(alloc, ty),
-        TypeResolution::Value(_) => told(alloc, module, ty),
+        TypeResolution::Value(inner) => {
+            let alone = told(alloc, module, ty)?;
+            with_place(alloc, alone, named_type(inner))
+        }
     }
+}
+
+/// Two types by their places, or as one type and another where these are told alike.
+fn placed_types(
+    alloc: Global,
+    module: &Module,
+    wanted: &TypeResolution,
+    got: &TypeResolution,
+) -> Result<TwoTypes, AllocError>
+    ensures { IfOk result (λ t. PlacesBoth «module».now wanted.now got.now (string_bytes t.wanted)
+        (string_bytes t.got)) }
+{
+    let wanted = placed(alloc, module, wanted)?;
+    let placed_got = placed(alloc, module, got)?;
+    if wanted.as_str() == placed_got.as_str() {
+        let another = format!(in alloc; "another {}", wanted)?;
+        return Ok(TwoTypes {
+            wanted,
+            got: another,
+        });
+    }
+    Ok(TwoTypes {
+        wanted,
+        got: placed_got,
+    })
+}
+
+/// Two types, each as it is told, or by their places where both are told alike.
+fn told_types(
+    alloc: Global,
+    module: &Module,
+    wanted: &TypeResolution,
+    got: &TypeResolution,
+) -> Result<TwoTypes, AllocError>
+    ensures { IfOk result (λ t. TellsBoth «module».now wanted.now got.now (string_bytes t.wanted)
+        (string_bytes t.got)) }
+{
+    let told_wanted = told(alloc, module, wanted)?;
+    let told_got = told(alloc, module, got)?;
+    if told_wanted.as_str() == told_got.as_str() {
+        return placed_types(alloc, module, wanted, got);
+    }
+    Ok(TwoTypes {
+        wanted: told_wanted,
+        got: told_got,
+    })
 }
 
 fn resolution_of(ty: InferredType) -> TypeResolution
@@ -134,7 +221,7 @@ fn resolution_of(ty: InferredType) -> TypeResolution
     }
 }
 
-/// Two types, each as it is told, or by its place where both are told alike.
+/// Two types.
 fn other_type(
     alloc: Global,
     module: &Module,
@@ -143,19 +230,9 @@ fn other_type(
 ) -> Result<Expected, AllocError>
     ensures { IfOk result (Tells «module».now (OtherType (inferred wanted) got.now)) }
 {
-    let expected_type = resolution_of(wanted);
-    let wanted = told(alloc, module, &expected_type)?;
-    let told_got = told(alloc, module, got)?;
-    if wanted.as_str() == told_got.as_str() {
-        return Ok(Expected::Type {
-            wanted: placed(alloc, module, &expected_type)?,
-            got: placed(alloc, module, got)?,
-        });
-    }
-    Ok(Expected::Type {
-        wanted,
-        got: told_got,
-    })
+    let wanted = resolution_of(wanted);
+    let TwoTypes { wanted, got } = told_types(alloc, module, &wanted, got)?;
+    Ok(Expected::Type { wanted, got })
 }
 
 /// Two scalars.
@@ -206,6 +283,21 @@ fn other_class(
     })
 }
 
+/// A letter for which a type has no component.
+fn lacking(
+    alloc: Global,
+    module: &Module,
+    letter: SwizzleComponent,
+    got: &TypeResolution,
+) -> Result<Expected, AllocError>
+    ensures { IfOk result (Tells «module».now (LacksLetter letter got.now)) }
+{
+    Ok(Expected::Letter {
+        letter,
+        got: told(alloc, module, got)?,
+    })
+}
+
 /// A reason, as it is told.
 fn told_reason(alloc: Global, module: &Module, reason: &Reason<'_>) -> Result<Expected, AllocError>
     ensures { IfOk result (Tells «module».now (shown reason.now)) }
@@ -239,6 +331,7 @@ fn told_reason(alloc: Global, module: &Module, reason: &Reason<'_>) -> Result<Ex
             count: *count,
             got: *got,
         }),
+        Reason::LacksLetter { letter, got } => lacking(alloc, module, *letter, *got),
         Reason::Needs { need } => Ok(Expected::Need(*need)),
     }
 }
@@ -251,6 +344,7 @@ fn told_reason(alloc: Global, module: &Module, reason: &Reason<'_>) -> Result<Ex
 ///   known.
 /// - Of what is named and is not there: its list, its number, and how many items the list has; of
 ///   what is there, but not before what names it, the place of that.
+/// - Of a swizzle: the first letter for which its vector has no component, and the vector's type.
 /// - Of a number, as of the arguments of a call: the one that is wanted, and the one that is there.
 /// - Of a statement that stands where it may not, or a switch whose labels do not fit: what it
 ///   needs.

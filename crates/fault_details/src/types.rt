@@ -1,13 +1,16 @@
 //! Types that are not those that are wanted.
 
-ghost use Rattle.std.specs.Prelude.{◌≡◌, [], false};
+ghost use Rattle.std.specs.Prelude.{◌≡◌, [], false, take};
 ghost use Rattle.std.specs.Option.{option_and_then, option_copied, option_map, option_map_or};
 ghost use Rattle.std.specs.Option.{option_or};
+ghost use Rattle.module_meaning.specs.TypeIdentity.{vector_number};
 ghost use Rattle.module_meaning.specs.TypeParts.{known_inner, part_count};
 ghost use Rattle.naga_acceptance.specs.KnownTypes.{inferred, known_types, wanted};
 ghost use Rattle.naga_info.specs.Resolution.{inner_of};
-ghost use Rattle.fault_details.specs.Reasons.{class_reason, index_reason, is_in_class};
-ghost use Rattle.fault_details.specs.Reasons.{operand_reason, own_type_reason, type_reason};
+ghost use Rattle.fault_details.specs.Reasons.{class_reason, first_reason, has_letter};
+ghost use Rattle.fault_details.specs.Reasons.{index_reason, is_in_class, letter_reason};
+ghost use Rattle.fault_details.specs.Reasons.{operand_reason, own_type_reason, swizzle_reason};
+ghost use Rattle.fault_details.specs.Reasons.{type_reason};
 ghost use Rattle.fault_details.specs.Reasons.{typeless_reason, unlike, expected_reason};
 ghost use Rattle.fault_details.specs.Shown.{shown};
 
@@ -18,11 +21,15 @@ use naga_acceptance::alike::is_like;
 use naga_acceptance::demands::{is_components, is_integer, is_pointer, points_to_components};
 use naga_acceptance::expression_types::{Expected, expected_type, is_bool};
 use naga_acceptance::parts::{
-    InferredType, Known, has_computed_parts, known_inner, known_type, part_count, vector_scalar,
+    InferredType, Known, has_computed_parts, known_inner, known_type, part_count, vector_number,
+    vector_scalar,
 };
 use naga_acceptance::statements::{points_to_atomic, selects};
 use naga_info::TypeResolution;
-use naga_ir::{Expression, Function, Handle, Module, Type_, TypeInner, UniqueArena};
+use naga_ir::{
+    Expression, Function, Handle, Module, SwizzleComponent, Type_, TypeInner, UniqueArena,
+    VectorSize,
+};
 
 fn is_selector(inner: &TypeInner) -> bool
     ensures { result ≡ is_in_class [] TypeClass.Selector inner.now }
@@ -206,6 +213,94 @@ fn part_number_reason<'a>(
     }
 }
 
+/// Whether a type has a component for a letter.
+fn has_letter(letter: SwizzleComponent, inner: &TypeInner) -> bool
+    ensures { result ≡ has_letter letter inner.now }
+{
+    match inner {
+        TypeInner::Vector { size, .. } => (letter as usize) < vector_number(*size),
+        _ => false,
+    }
+}
+
+fn resolution_has_letter(
+    types: &UniqueArena<Type_>,
+    letter: SwizzleComponent,
+    ty: &TypeResolution,
+) -> bool
+    ensures { result ≡ option_map_or (has_letter letter) (inner_of ty.now types.now) false }
+{
+    match inner_of(types, ty) {
+        Some(inner) => has_letter(letter, inner),
+        None => false,
+    }
+}
+
+/// A type that has no component for a letter.
+fn letter_reason<'a>(
+    types: &UniqueArena<Type_>,
+    got: &'a TypeResolution,
+    letter: SwizzleComponent,
+) -> Option<Reason<'a>>
+    ensures { option_map shown result ≡ letter_reason types.now got.now letter }
+{
+    if resolution_has_letter(types, letter, got) {
+        None
+    } else {
+        Some(Reason::LacksLetter { letter, got })
+    }
+}
+
+/// The first letter for which a type has no component.
+fn letters_reason<'a>(
+    types: &UniqueArena<Type_>,
+    got: &'a TypeResolution,
+    letters: &[SwizzleComponent],
+) -> Option<Reason<'a>>
+    ensures { option_map shown result
+        ≡ first_reason (letter_reason types.now got.now) letters.now }
+{
+    for letter in letters {
+        let found = letter_reason(types, got, *letter);
+        if found.is_some() {
+            return found;
+        }
+    }
+    None
+}
+
+/// The letters of a swizzle, as many as are chosen.
+fn chosen_letters(chosen: VectorSize, letters: &[SwizzleComponent; 4]) -> &[SwizzleComponent]
+    ensures { result.now ≡ take (vector_number chosen) letters.now }
+{
+    match chosen {
+        VectorSize::Bi => &letters[..2],
+        VectorSize::Tri => &letters[..3],
+        VectorSize::Quad => &letters[..4],
+    }
+}
+
+fn swizzle_reason<'a>(
+    types: &'a UniqueArena<Type_>,
+    known: Known<'a>,
+    chosen: VectorSize,
+    letters: &[SwizzleComponent; 4],
+    vector: Handle<Expression>,
+) -> Option<Reason<'a>>
+    ensures { option_map shown result
+        ≡ option_or (class_reason types.now (known_types known.entry) TypeClass.Vector vector)
+        (swizzle_reason types.now (known_types known.entry) chosen letters.now vector) }
+{
+    let found = class_reason(types, known, TypeClass::Vector, vector);
+    if found.is_some() {
+        return found;
+    }
+    match known_type(known, vector) {
+        Some(got) => letters_reason(types, got, chosen_letters(chosen, letters)),
+        None => None,
+    }
+}
+
 fn access_reason<'a>(
     types: &'a UniqueArena<Type_>,
     known: Known<'a>,
@@ -240,9 +335,11 @@ pub(crate) fn operand_reason<'a>(
         Expression::Splat { value, .. } => {
             class_reason(types, known, TypeClass::Components, *value)
         }
-        Expression::Swizzle { vector, .. } => {
-            class_reason(types, known, TypeClass::Vector, *vector)
-        }
+        Expression::Swizzle {
+            size,
+            vector,
+            pattern,
+        } => swizzle_reason(types, known, *size, pattern, *vector),
         Expression::Load { pointer } => class_reason(types, known, TypeClass::Pointer, *pointer),
         Expression::CooperativeLoad { data_, .. } => {
             class_reason(types, known, TypeClass::ComponentsPointer, data_.pointer)

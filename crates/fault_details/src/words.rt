@@ -1,9 +1,10 @@
 //! What is told by a word: lists, classes of types, and what statements need.
 
 ghost use Rattle.std.specs.Prelude.{◌≡◌, Some};
-ghost use Rattle.fault_details.specs.Texts.{class_text, count_text, item_text, list_text};
-ghost use Rattle.fault_details.specs.Texts.{many_text, need_text, singular_text};
+ghost use Rattle.fault_details.specs.Texts.{class_text, count_text, item_text, letter_text};
+ghost use Rattle.fault_details.specs.Texts.{list_text, many_text, need_text, singular_text};
 
+use naga_ir::SwizzleComponent;
 use std::fmt;
 
 /// A list of a module or of a function, of which an item is named by its number. It is shown by its
@@ -183,5 +184,17 @@ impl fmt::Display for Need {
             Need::CalleeResult => "a callee with a result",
             Need::OwnResult => "an expression that is its result",
         })
+    }
+}
+
+/// A letter of a swizzle.
+pub(crate) fn letter_str(letter: SwizzleComponent) -> &'static str
+    ensures { result.now ≡ letter_text letter }
+{
+    match letter {
+        SwizzleComponent::X => "x",
+        SwizzleComponent::Y => "y",
+        SwizzleComponent::Z => "z",
+        SwizzleComponent::W => "w",
     }
 }

@@ -3,6 +3,7 @@ pub mod Agreement
 pub mod Counting
 pub mod EarlierUses
 pub mod Finding
+pub mod FaultOrder
 pub mod FirstFaults
 pub mod Groups
 pub mod Identities

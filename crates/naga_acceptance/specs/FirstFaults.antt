@@ -2,13 +2,16 @@
 -- first whether all that is named is there, then whether all gets what it wants. Operators that
 -- disagree are looked for after that.
 --
+-- A fault of types is one of the second clause, and is told only where the first holds.
+--
 -- Throughout, m is a module, info what is known of it, f a function (fs are several), p an entry
 -- point (ps are several) or an item with what is known of it, t a type, e an expression (es are
 -- several) or its handle, known are the types of expressions by handle, k is what is known of an
 -- expression, ks of a function's expressions and kss of those of several functions, found is what
 -- was found, callees is how many functions may be called, h is a handle or an index, and n the
--- number of a statement.
-use Rattle.std.specs.Prelude.{ℕ, ◌==◌, List, length, map, Option, Some, None}
+-- number of a statement, and u a place with a kind of fault.
+use Rattle.std.specs.Prelude.{◌≡◌, ◌==◌, ⊤, ℕ, List, length, map, Option, Some, None}
+use Rattle.std.specs.Prelude.{IsTrue}
 use Rattle.std.specs.List.{enumerate_from, zip}
 use Rattle.std.specs.Option.{option_map, option_or}
 use Rattle.std.specs.Result.{result_err}
@@ -21,7 +24,7 @@ use Rattle.naga_ir.specs.declared.module.Module.{Module}
 use Rattle.naga_info.specs.declared.info.ExpressionInfo.{ExpressionInfo}
 use Rattle.naga_info.specs.declared.info.ModuleInfo.{ModuleInfo}
 use Rattle.naga_info.specs.declared.info.TypeResolution.{TypeResolution}
-use Rattle.naga_acceptance.specs.Faults.{entry_names_fit}
+use Rattle.naga_acceptance.specs.Faults.{OperatorFails, entry_names_fit}
 use Rattle.naga_acceptance.specs.Searching.{first_faulty, first_unfit, unless}
 use Rattle.naga_acceptance.specs.TextOrder.{is_in_range, is_sound, numbered, text_order}
 use Rattle.naga_acceptance.specs.declared.faults.Fault.{Fault}
@@ -39,12 +42,14 @@ use Rattle.module_meaning.specs.acceptance.Initialisers.{local_is_sound}
 use Rattle.module_meaning.specs.acceptance.Initialisers.{override_is_sound}
 use Rattle.module_meaning.specs.acceptance.OperandDemands.{operands_fit}
 use Rattle.module_meaning.specs.acceptance.Ranges.{all_below, constant_in_range, global_in_range}
-use Rattle.module_meaning.specs.acceptance.Ranges.{initialiser_before, local_in_range, names_fit}
+use Rattle.module_meaning.specs.acceptance.Ranges.{initialiser_before, local_in_range}
+use Rattle.module_meaning.specs.acceptance.Ranges.{module_ranges_fit, names_fit}
 use Rattle.module_meaning.specs.acceptance.Ranges.{names_in_range, numbers_in_range}
 use Rattle.module_meaning.specs.acceptance.Ranges.{override_in_range}
 use Rattle.module_meaning.specs.acceptance.Ranges.{parts_before}
 use Rattle.module_meaning.specs.acceptance.Ranges.{resolution_fits, signature_fits}
 use Rattle.module_meaning.specs.acceptance.Ranges.{special_types_fit}
+use Rattle.module_meaning.specs.acceptance.Soundness.{module_is_sound}
 
 abbrev pub at : Item → Fault → Unaccepted
 at place kind = record { item = place; fault = kind }
@@ -253,3 +258,27 @@ sound_fault m info =
     option_or (declarations_sound_fault m info.const_expression_types.items)
     (option_or (functions_sound_fault m m.functions info.functions.items)
     (entry_points_sound_fault m m.entry_points.items info.entry_points.items))
+
+-- ---- the first of all
+
+-- the place is the first use of an operator that does not agree with all uses before it
+abbrev pub IsDisagreement : Module → ModuleInfo → Unaccepted → Type 0
+IsDisagreement m info u = (u.fault ≡ fault.Disagreement) × OperatorFails m info u.item
+
+-- The fault is the module's first.
+pub data IsFirst (m : Module) (info : ModuleInfo) (u : Unaccepted) : Type 0 where
+  -- of what is named
+  Named : ranges_fault m info ≡ Some u → IsFirst m info u
+  -- of what is wanted, where all that is named is there
+  Wanted : IsTrue (module_ranges_fit m info) → sound_fault m info ≡ Some u → IsFirst m info u
+  -- of an operator, where all gets what it wants too
+  Disagreeing : IsTrue (module_ranges_fit m info) → IsTrue (module_is_sound m info) →
+      IsDisagreement m info u → IsFirst m info u
+
+-- a kind of fault that says that a type is wrong, or what a statement wants
+abbrev pub IsOfTypes : Fault → Type 0
+IsOfTypes fault.OtherType = ⊤
+IsOfTypes fault.OperandTypes = ⊤
+IsOfTypes fault.InitialiserType = ⊤
+IsOfTypes fault.Unsatisfied = ⊤
+IsOfTypes _ = ⊥

@@ -3,8 +3,9 @@
 ghost use Rattle.std.specs.Prelude.{◌≡◌, IsTrue};
 ghost use Rattle.std.specs.Option.{IfSome, is_none};
 ghost use Rattle.naga_acceptance.specs.Faults.{Fails};
+ghost use Rattle.naga_acceptance.specs.FirstFaults.{IsFirst, IsOfTypes};
 ghost use Rattle.module_meaning.specs.acceptance.Accepted.{is_accepted};
-ghost use Rattle.module_meaning.specs.acceptance.Ranges.{parts_stand_before};
+ghost use Rattle.module_meaning.specs.acceptance.Ranges.{module_ranges_fit, parts_stand_before};
 
 use crate::agreeing::operators_fault;
 use crate::faults::Unaccepted;
@@ -27,6 +28,8 @@ use naga_ir::Module;
 ///   and the entry points; in a function its expressions, its locals and its statements.
 /// - Whether operators agree.
 ///
+/// So it tells of types, and of what a statement wants, only where all that is named is there.
+///
 /// It takes no memory, and answers whatever numbers a module holds, in the time that `accepts`
 /// takes.
 ///
@@ -38,6 +41,9 @@ use naga_ir::Module;
 pub fn unaccepted(module: &Module, info: &ModuleInfo) -> Option<Unaccepted>
     ensures accepted { is_none result ≡ is_accepted «module».now info.now }
     ensures fault { IfSome result (Fails «module».now info.now) }
+    ensures first { IfSome result (IsFirst «module».now info.now) }
+    ensures typed { IfSome result
+        (λ u. IsOfTypes u.fault → IsTrue (module_ranges_fit «module».now info.now)) }
 {
     let named = ranges_fault(module, info);
     if named.is_some() {

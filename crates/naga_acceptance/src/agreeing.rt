@@ -12,7 +12,8 @@
 ghost use Rattle.std.specs.Prelude.{◌≡◌, ◌+◌, ◌<◌, ◌≤◌, ◌^◌, suc, length, slice_get, true, Some};
 ghost use Rattle.std.specs.Prelude.{◌%◌, [], IfOk, OnErr};
 ghost use Rattle.std.specs.Option.{IfSome, is_none, option_map, option_map_or, option_to_list};
-ghost use Rattle.naga_acceptance.specs.Faults.{Disagrees, Fails, site_of};
+ghost use Rattle.naga_acceptance.specs.Faults.{Disagrees, site_of};
+ghost use Rattle.naga_acceptance.specs.FirstFaults.{IsDisagreement};
 ghost use Rattle.naga_acceptance.specs.Uses.{AreHashed, DisagreesFirst, IsFirstDisagreement};
 ghost use Rattle.naga_acceptance.specs.Uses.{IsHashed, Probes, Remembers, earlier, earlier_uses};
 ghost use Rattle.naga_acceptance.specs.Uses.{first_answer, first_uses, group_of, group_uses};
@@ -528,7 +529,7 @@ fn use_item(module: &Module, number: u128, index: usize) -> Item
 /// ([`operators_agree`]).
 pub(crate) fn operators_fault(module: &Module, info: &ModuleInfo) -> Option<Unaccepted>
     ensures agree { is_none result ≡ module_operators_agree «module».now info.now }
-    ensures fault { IfSome result (Fails «module».now info.now) }
+    ensures fault { IfSome result (IsDisagreement «module».now info.now) }
 {
     let place = disagreement(module, info)?;
     Some(at(
