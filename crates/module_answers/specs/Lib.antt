@@ -1,4 +1,5 @@
 pub mod Wants
 pub mod Faults
+pub mod Roles
 pub mod Places
 pub mod Within
