@@ -117,7 +117,12 @@ impl fmt::Display for Expected {
                 write!(f, "wanted an index below {}, got {}", count, got)
             }
             Expected::Letter { letter, got } => {
-                write!(f, "names .{}, which {} does not have", letter_str(*letter), got)
+                write!(
+                    f,
+                    "names .{}, which {} does not have",
+                    letter_str(*letter),
+                    got
+                )
             }
             Expected::Need(need) => write!(f, "wanted {}", need),
         }

@@ -1,3 +1,4 @@
 pub mod Bounded
 mod Wants
+mod OperandRoles
 mod PlaceExamples

@@ -1,5 +1,5 @@
 -- Places and refusals as they are told: lines that `docs/USING.md` has.
-use Rattle.std.proofs.Common.{◌≡◌, codes, refl, Some}
+use Rattle.std.proofs.Common.{◌≡◌, codes, refl, None, Some}
 use Rattle.std.specs.Fmt.{digits}
 use Rattle.module_answers.specs.Places.{json_place, json_refusal, json_refusal_place}
 use Rattle.naga_acceptance.specs.declared.faults.FunctionPosition.TheVariants as place
@@ -19,20 +19,30 @@ a_statement : json_place (item.EntryPoint 0 (place.Statement 3)) ≡ codes "modu
 unfolding digits
 a_statement = refl
 
-out_of_scope : json_refusal_place (refused.Function 0 (part.Scope (scope.Operand 12 41)))
-    ≡ codes "module.functions[0].expressions[41], operand of statement 12"
+out_of_scope : json_refusal_place (Some (codes "value", None)) (refused.Function 0 (part.Scope (scope.Operand 12 41)))
+    ≡ codes "module.functions[0].expressions[41], operand value of statement 12"
 unfolding digits
 out_of_scope = refl
 
-a_refusal : json_refusal (record { construct = construct.FloatLiteral; place = refused.Function 0 (part.Expression (line.Statement 1) 3) })
+in_an_emit : json_refusal_place (Some (codes "components", Some 2)) (refused.Function 0 (part.Scope (scope.EmittedOperand 12 42 41)))
+    ≡ codes "module.functions[0].expressions[41], operand components[2] of expressions[42] in statement 12"
+unfolding digits
+in_an_emit = refl
+
+without_a_role : json_refusal_place None (refused.Function 0 (part.Scope (scope.Operand 12 41)))
+    ≡ codes "module.functions[0].expressions[41], operand of statement 12"
+unfolding digits
+without_a_role = refl
+
+a_refusal : json_refusal construct.FloatLiteral None (refused.Function 0 (part.Expression (line.Statement 1) 3))
     ≡ Some (codes "float literal: module.functions[0].expressions[3], in statement 1")
 unfolding digits
 a_refusal = refl
 
-a_declaration : json_refusal (record { construct = construct.Overlap; place = refused.Declaration (declaration.Struct 5) })
+a_declaration : json_refusal construct.Overlap None (refused.Declaration (declaration.Struct 5))
     ≡ Some (codes "members overlap: module.types[5]")
 unfolding digits
 a_declaration = refl
 
-labels_of_items : json_refusal (record { construct = construct.FullNamer; place = refused.Labels }) ≡ Some (codes "namer is full: module")
+labels_of_items : json_refusal construct.FullNamer None refused.Labels ≡ Some (codes "namer is full: module")
 labels_of_items = refl

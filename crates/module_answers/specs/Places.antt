@@ -2,9 +2,11 @@
 -- as the member `module`, as `module.functions[3].expressions[41]`. A statement is told by its
 -- number, after its function: `module.functions[3], statement 12`.
 --
--- Throughout, h is a handle or an index, and n the number of a statement.
-use Rattle.std.specs.Prelude.{ℕ, List, [], ◌++◌, codes, decimal, Option, Some}
+-- Throughout, h is a handle or an index, n the number of a statement, and role what an operand that
+-- is out of scope is where it is used, if that is known.
+use Rattle.std.specs.Prelude.{ℕ, List, [], ◌++◌, codes, decimal, Option, None, Some}
 use Rattle.std.specs.Fmt.{◌++?◌}
+use Rattle.module_answers.specs.Roles.{Role}
 use Rattle.naga_acceptance.specs.declared.faults.FunctionPosition.{FunctionPosition}
 use Rattle.naga_acceptance.specs.declared.faults.FunctionPosition.TheVariants as place
 use Rattle.naga_acceptance.specs.declared.faults.Item.{Item}
@@ -18,9 +20,9 @@ use Rattle.naga_scope.specs.declared.lines.Line.TheVariants as line
 use Rattle.naga_scope.specs.declared.scope_faults.ScopeFault.{ScopeFault}
 use Rattle.naga_scope.specs.declared.scope_faults.ScopeFault.TheVariants as scope
 use Rattle.naga_wgsl_fns.specs.Constructs.{construct_text}
+use Rattle.naga_wgsl_fns.specs.declared.refusals.construct.Construct.{Construct}
 use Rattle.naga_wgsl_fns.specs.declared.plans.FunctionPart.{FunctionPart}
 use Rattle.naga_wgsl_fns.specs.declared.plans.FunctionPart.TheVariants as part
-use Rattle.naga_wgsl_out.specs.declared.unwritable.Refusal.{Refusal}
 use Rattle.naga_wgsl_out.specs.declared.unwritable.RefusalPosition.{RefusalPosition}
 use Rattle.naga_wgsl_out.specs.declared.unwritable.RefusalPosition.TheVariants as refused
 
@@ -73,19 +75,30 @@ json_place at = codes "module" ++ item_in_module at
 
 -- ---- where it is refused
 
+-- a role: `left`, or in a list `components[2]`
+abbrev pub role_text : Role → List ℕ
+role_text (name, None) = name
+role_text (name, Some number) = listed name number
+
+-- an operand by its role: `operand left`
+abbrev pub operand_text : (role : Option Role) → List ℕ
+operand_text None = codes "operand"
+operand_text (Some role) = codes "operand " ++ role_text role
+
 -- what is out of scope, after the function: the expression, and the local or the statement that
 -- uses it, or the statement that gives it
-abbrev pub scope_place : ScopeFault → List ℕ
-scope_place (scope.FirstValue local value) =
+abbrev pub scope_place : (role : Option Role) → ScopeFault → List ℕ
+scope_place role (scope.FirstValue local value) =
     expression_text value ++ (codes ", first value of " ++ listed (codes "local_variables") local)
-scope_place (scope.Operand statement operand) =
-    expression_text operand ++ (codes ", operand of statement " ++ decimal statement)
-scope_place (scope.EmittedOperand statement expression operand) =
-    expression_text operand ++ (codes ", operand of "
-    ++ (listed (codes "expressions") expression ++ (codes " in statement " ++ decimal statement)))
-scope_place (scope.GivenBefore statement expression) =
+scope_place role (scope.Operand statement operand) =
+    expression_text operand
+    ++ (codes ", " ++ (operand_text role ++ (codes " of statement " ++ decimal statement)))
+scope_place role (scope.EmittedOperand statement expression operand) =
+    expression_text operand ++ (codes ", " ++ (operand_text role ++ (codes " of "
+    ++ (listed (codes "expressions") expression ++ (codes " in statement " ++ decimal statement)))))
+scope_place role (scope.GivenBefore statement expression) =
     expression_text expression ++ (codes ", given again by statement " ++ decimal statement)
-scope_place (scope.NeedsNoEmit statement expression) =
+scope_place role (scope.NeedsNoEmit statement expression) =
     expression_text expression
     ++ (codes ", which needs no Emit, in statement " ++ decimal statement)
 
@@ -102,13 +115,13 @@ declared_place declared.Result = codes ".result"
 declared_place (declared.Local h) = listed (codes ".local_variables") h
 
 -- a part of a function, after the function
-abbrev pub refused_part : FunctionPart → List ℕ
-refused_part part.Labels = codes ".named_expressions"
-refused_part (part.Scope fault) = scope_place fault
-refused_part (part.Statement n) = statement_text n
-refused_part (part.Expression at h) = expression_text h ++ line_place at
-refused_part (part.Type_ at ty) = declared_place at
-refused_part (part.Let n h) =
+abbrev pub refused_part : (role : Option Role) → FunctionPart → List ℕ
+refused_part role part.Labels = codes ".named_expressions"
+refused_part role (part.Scope fault) = scope_place role fault
+refused_part role (part.Statement n) = statement_text n
+refused_part role (part.Expression at h) = expression_text h ++ line_place at
+refused_part role (part.Type_ at ty) = declared_place at
+refused_part role (part.Let n h) =
     expression_text h ++ (codes ", the type of its let in statement " ++ decimal n)
 
 -- a declaration, after the module
@@ -121,16 +134,17 @@ declaration_in_module (declaration.Function h) = function_text h
 declaration_in_module (declaration.EntryPoint h) = entry_point_text h
 
 -- what is refused, after the module; nothing where it is the labels of items
-abbrev pub refused_in_module : RefusalPosition → List ℕ
-refused_in_module refused.Labels = []
-refused_in_module (refused.Declaration at) = declaration_in_module at
-refused_in_module (refused.Function h at) = function_text h ++ refused_part at
-refused_in_module (refused.EntryPoint h at) = entry_function_text h ++ refused_part at
+abbrev pub refused_in_module : (role : Option Role) → RefusalPosition → List ℕ
+refused_in_module role refused.Labels = []
+refused_in_module role (refused.Declaration at) = declaration_in_module at
+refused_in_module role (refused.Function h at) = function_text h ++ refused_part role at
+refused_in_module role (refused.EntryPoint h at) = entry_function_text h ++ refused_part role at
 
-abbrev pub json_refusal_place : RefusalPosition → List ℕ
-json_refusal_place at = codes "module" ++ refused_in_module at
+abbrev pub json_refusal_place : (role : Option Role) → RefusalPosition → List ℕ
+json_refusal_place role at = codes "module" ++ refused_in_module role at
 
 -- a refusal, by its construct and its place: `float literal: module.constants[0]`. Nothing is said
 -- of a construct of whose text nothing is known
-abbrev pub json_refusal : Refusal → Option (List ℕ)
-json_refusal r = construct_text r.construct ++? Some (codes ": " ++ json_refusal_place r.place)
+abbrev pub json_refusal : Construct → (role : Option Role) → RefusalPosition → Option (List ℕ)
+json_refusal construct role at =
+    construct_text construct ++? Some (codes ": " ++ json_refusal_place role at)

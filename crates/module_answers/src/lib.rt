@@ -6,6 +6,7 @@ mod faults;
 mod layouts;
 mod listed_positions;
 mod places;
+mod roles;
 mod within;
 mod writing;
 
@@ -13,5 +14,6 @@ pub use faults::{fault_line, fault_text};
 pub use layouts::layout_table;
 pub use listed_positions::{listed_position, refused_position};
 pub use places::{JsonPosition, JsonRefusal, JsonRefusalPosition, label_at};
+pub use roles::{Role, operands_have_roles, role_at};
 pub use within::{Unwritten, look_into, write_told_within, write_within};
 pub use writing::{Written, flags_for, write, write_told};

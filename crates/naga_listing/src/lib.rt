@@ -2,7 +2,8 @@
 //!
 //! [`listing`] chooses the lines, and [`explain`] writes them as a text, with a message under the
 //! line of the place. Whether the module is accepted does not matter: what it names and has not is
-//! told by its number.
+//! told by its number. Items are found by [`item_at`] and [`entry_point_at`], and statements by their
+//! numbers by [`statement_at`].
 #![tactic(auto)]
 
 mod choice;
@@ -21,6 +22,9 @@ mod text;
 mod types;
 
 pub use choice::listing;
+pub use lookup::{entry_point_at, item_at};
+pub use numbers::statement_at;
 pub use one_line::on_one_line;
+pub use operands::MOST_FIELDS;
 pub use positions::{Line, Listed, ListingPosition, Row, Spot, Title};
 pub use text::explain;

@@ -7,7 +7,7 @@ use naga_ir::{Arena, EntryPoint, Handle, Item, ItemIndex, Module, Type_};
 
 /// The item at a handle, if there is one.
 #[tactic(auto, using(std::proofs::lemmas::Option::slice_get_past))]
-pub(crate) fn item_at<T: Item + Drop>(arena: &Arena<T>, handle: Handle<T>) -> Option<&T>
+pub fn item_at<T: Item + Drop>(arena: &Arena<T>, handle: Handle<T>) -> Option<&T>
     ensures { option_copied result ≡ slice_get arena.now handle }
 {
     let index = handle.index();
@@ -31,7 +31,7 @@ pub(crate) fn type_at(module: &Module, handle: Handle<Type_>) -> Option<&Type_>
 }
 
 /// The entry point of a module at an index, if there is one.
-pub(crate) fn entry_point_at(module: &Module, index: usize) -> Option<&EntryPoint>
+pub fn entry_point_at(module: &Module, index: usize) -> Option<&EntryPoint>
     ensures { option_copied result ≡ slice_get «module».now.entry_points.items index }
 {
     module.entry_points.get(index)

@@ -10,7 +10,7 @@ use naga_ir::{Block, Statement, SwitchCase};
 
 /// The statement of a body with this number in the order of the text, those in blocks counted too,
 /// each after the one that holds the block.
-pub(crate) fn statement_at(body: &Block, number: usize) -> Option<&Statement>
+pub fn statement_at(body: &Block, number: usize) -> Option<&Statement>
     ensures { option_map (λ s. tree_of s.now) result ≡ slice_get (trees_in body.now) number }
 {
     match seek_block(body, number) {

@@ -7,7 +7,7 @@ use std::alloc::AllocError;
 const MOST_TOLD: usize = 8;
 
 /// An expression or a statement has at most so many fields.
-pub(crate) const MOST_FIELDS: usize = 6;
+pub const MOST_FIELDS: usize = 6;
 
 /// Appends a field, if it holds an operand: `left: [0]`. Whether it does is returned.
 pub(crate) fn push_field(

@@ -66,7 +66,7 @@ fn of_refusal(alloc: Global, known: &Known, refusal: Refusal) -> Result<Explanat
         &place,
         construct.as_str(),
     )?;
-    let told = JsonRefusal(refusal);
+    let told = JsonRefusal::of(&known.module, refusal);
     not_written(match label_at(&known.module, refusal.place) {
         Some(label) => format!(in alloc; "refused: {told}, in {label:?}\n\n{listing}"),
         None => format!(in alloc; "refused: {told}\n\n{listing}"),

@@ -248,7 +248,8 @@ fn tell_refused(
 ) -> Result<(), AllocError> {
     tell(alloc, "refused", reason, members)?;
     if let Some(refusal) = refusal {
-        tell(alloc, "place", JsonRefusalPosition(refusal.place), members)?;
+        let place = JsonRefusalPosition::of(module, refusal.place);
+        tell(alloc, "place", place, members)?;
         if let Some(label) = label_at(module, refusal.place) {
             tell(alloc, "function", label, members)?;
         }

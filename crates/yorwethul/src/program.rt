@@ -237,10 +237,10 @@ fn print_written<O: Write, E: Write>(
 /// Tells what the module is refused for, where that stands, and the label of the function there.
 fn refuse_at<E: Write>(refusal: Refusal, module: &Module, err: &mut E) -> u8 {
     let label = label_at(module, refusal.place);
-    refuse_in(JsonRefusal(refusal), label, err)
+    refuse_in(&JsonRefusal::of(module, refusal), label, err)
 }
 
-fn refuse_in<E: Write>(told: JsonRefusal, label: Option<&str>, err: &mut E) -> u8 {
+fn refuse_in<E: Write>(told: &JsonRefusal<'_>, label: Option<&str>, err: &mut E) -> u8 {
     match label {
         Some(label) => refuse(format_args!("{told}, in {label:?}"), err),
         None => refuse(told, err),

@@ -15,6 +15,7 @@ use module_answers::{
 };
 use naga_json::{Known, ReadError, read_known};
 use naga_wgsl_out::info::{Unaccepted, unaccepted};
+use naga_wgsl_out::ir::Module;
 use naga_wgsl_out::wgsl::{Error, Limits, Refusal, WriterFlags};
 use std::alloc::{AllocError, Global};
 use std::fmt::Display;
@@ -138,7 +139,7 @@ fn written_as_given(alloc: Global, known: &mut Known, flags: u32) -> Answer
         writer_flags(flags),
         LIMITS,
     ) {
-        Ok(written) => told_written(alloc, written),
+        Ok(written) => told_written(alloc, &known.module, written),
         Err(unwritten) => not_written(alloc, known, unwritten),
     }
 }
@@ -155,7 +156,7 @@ fn written_told(alloc: Global, known: &mut Known, flags: u32) -> Answer
         writer_flags(flags),
         LIMITS,
     ) {
-        Ok(written) => told_written(alloc, written),
+        Ok(written) => told_written(alloc, &known.module, written),
         Err(unwritten) => not_written(alloc, known, unwritten),
     }
 }
@@ -167,7 +168,7 @@ fn writer_flags(flags: u32) -> WriterFlags
     WriterFlags::from_bits_retain(flags % TELL_FLOATS)
 }
 
-fn told_written(alloc: Global, written: Written<String>) -> Answer
+fn told_written(alloc: Global, module: &Module, written: Written<String>) -> Answer
     ensures { SaysOfWritten written.answer (string_bytes written.sink) result.status
         (string_bytes result.text) }
 {
@@ -181,26 +182,32 @@ fn told_written(alloc: Global, written: Written<String>) -> Answer
             status: Status::Done,
             text: sink,
         },
-        Err(error) => told_error(alloc, error, refusal),
+        Err(error) => told_error(alloc, module, error, refusal),
     }
 }
 
-fn told_error(alloc: Global, error: Error, refusal: Option<Refusal>) -> Answer
+fn told_error(alloc: Global, module: &Module, error: Error, refusal: Option<Refusal>) -> Answer
     ensures { SaysOfError error result.status (string_bytes result.text) }
 {
     match status_of(&error) {
         Status::OutOfMemory => out_of_memory(alloc),
-        status => told_refusal(alloc, status, error, refusal),
+        status => told_refusal(alloc, module, status, error, refusal),
     }
 }
 
 /// A status with the construct that is refused and its place, or with the error where no place was
 /// found.
-fn told_refusal(alloc: Global, status: Status, error: Error, refusal: Option<Refusal>) -> Answer
+fn told_refusal(
+    alloc: Global,
+    module: &Module,
+    status: Status,
+    error: Error,
+    refusal: Option<Refusal>,
+) -> Answer
     ensures { Says status result.status (string_bytes result.text) }
 {
     match refusal {
-        Some(refusal) => told(alloc, status, JsonRefusal(refusal)),
+        Some(refusal) => told(alloc, status, JsonRefusal::of(module, refusal)),
         None => told(alloc, status, error),
     }
 }

@@ -121,13 +121,24 @@ def at_statement(name, f, s):
 
 
 # ---- scope
+# By which fields those hold their operands that use what is out of scope, in the order of the operands.
+FIELDS = {
+    "image store": ("image", "coordinate", "value"), "gather": ("argument", "index"), "ballot": ("predicate",),
+    "store": ("pointer", "value"), "if": ("condition",), "loop": ("break_if",), "unary": ("expr",), "derivative": ("expr",)}
+
+
+def operand(f, e, user):
+    """An operand of an expression or a statement, by the first field that holds it."""
+    return f"operand {FIELDS[user.kind][user.operands.index(index_of(f.expressions, e))]}"
+
+
 def at_operand(name, f, e, s):
-    return Planted(name, f, lambda: f"{expression(f, e)}, operand of {statement(f, s)}")
+    return Planted(name, f, lambda: f"{expression(f, e)}, {operand(f, e, s)} of {statement(f, s)}")
 
 
-def at_operand_of_emitted(name, f, operand, e, s):
+def at_operand_of_emitted(name, f, x, e, s):
     def part():
-        return f"{expression(f, operand)}, operand of {expression(f, e)[1:]} in {statement(f, s)}"
+        return f"{expression(f, x)}, {operand(f, x, e)} of {expression(f, e)[1:]} in {statement(f, s)}"
     return Planted(name, f, part)
 
 
