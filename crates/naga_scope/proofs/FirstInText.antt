@@ -43,12 +43,12 @@ use Rattle.shader_runs.specs.Program.{binds}
 use Rattle.shader_runs.specs.ScopeRules.{ScopeHolds}
 
 -- ---- kinds
-kind_at : ℕ → Kind
-kind_at 0 = ScopeRule
-kind_at 1 = StatementForm
-kind_at 2 = ExpressionForm
-kind_at 3 = DeclaredType
-kind_at n = LetType
+abbrev kind_at : ℕ → Kind
+kind_at zero = ScopeRule
+kind_at (suc zero) = StatementForm
+kind_at (suc (suc zero)) = ExpressionForm
+kind_at (suc (suc (suc zero))) = DeclaredType
+kind_at (suc (suc (suc (suc n)))) = LetType
 
 at_rank : (kind : Kind) → kind_at (kind_rank kind) ≡ kind
 at_rank ScopeRule = refl
@@ -193,12 +193,12 @@ module _ (explicit : Bool) (m : Module) (info : ModuleInfo) (f : Function) (es :
       is = refl;
       of_kind = sym is;
       refused = checked_fault m info f es ordered fault (sym is);
-      before = λ line before other found same. let one : fault ≡ other = same_fault fault other (is ∙ found) in
+      before = λ line before other found same. let one = same_fault fault other (checked_scope m info f es) (sym is) found in
           absurd (false≢true (sym (not_before_itself (line_of_fault fault)) ∙ (ap (λ l. is_before l (line_of_fault fault)) (ap line_of_fault one ∙ same) ∙ before)));
     }
       where
-        same_fault : (a b : ScopeFault) → Err {ℕ} a ≡ Err b → a ≡ b
-        same_fault a b is = cc
+        same_fault : (a b : ScopeFault) (r : Result ℕ ScopeFault) → r ≡ Err a → r ≡ Err b → a ≡ b
+        same_fault a b r first second = let both = sym first ∙ second in cc
 
   -- ---- what the searches find
   module _ (sts : List StatementTree) (trees : sts ≡ trees_in f.body) where

@@ -130,9 +130,6 @@ module _ (sts : List StatementTree) (b : BlockTree) (trees : sts ≡ trees_in b)
     pub one_found : unsupported_statement b ≡ Some it
     one_found = ap first_unsupported (sym trees) ∙ first_is sts found.0 found.1 it found.2 found.4 found.5
 
-    pub found_before : FormedBefore (trees_in b) n
-    found_before = subst (λ ts. FormedBefore ts n) trees (subst (FormedBefore sts) (sym found.3) found.4)
-
     pub found_lacks : length sts < 2 ^ 64 → IsUnsupportedAt b n it
     found_lacks small =
         let within = slice_get_within sts found.0 found.1 found.2 in (

@@ -22,7 +22,7 @@ use Rattle.naga_scope.specs.declared.lines.Line.{Line}
 use Rattle.naga_scope.specs.declared.lines.Line.TheVariants.{Signature, Local, Statement}
 
 -- ---- what is in a list
-In : {X : Type 0} → List X → X → Type 0
+abbrev In : {X : Type 0} → List X → X → Type 0
 In [] x = ⊥
 In (y ∷ ys) x = (y ≡ x) ⊎ In ys x
 

@@ -2,8 +2,8 @@
 
 ghost use Rattle.std.specs.Prelude.{◌≡◌};
 ghost use Rattle.std.specs.Option.{option_map};
-ghost use Rattle.naga_scope.specs.Earliest.{earlier, first_lack, line_of, line_of_declared};
-ghost use Rattle.naga_scope.specs.Earliest.{line_of_fault, scope_lack};
+ghost use Rattle.naga_scope.specs.Earliest.{earlier, earlier_of, first_lack, line_of};
+ghost use Rattle.naga_scope.specs.Earliest.{line_of_declared, line_of_fault, scope_lack};
 ghost use Rattle.naga_scope.specs.declared.plan.PlanError.TheVariants as plan_error;
 
 use crate::lines::{Declared, Line, is_before};

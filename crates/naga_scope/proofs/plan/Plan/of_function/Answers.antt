@@ -58,8 +58,8 @@ on_err : {T E P : Type 0} (r : Result T E) → P → OnErr r P
 on_err (Ok x) p = tt
 on_err (Err e) p = p
 
-pub check_function-requires : goal.check_function-requires
-check_function-requires c =
+pub check_function-checked-requires : goal.check_function-checked-requires
+check_function-checked-requires c =
     let k = c.args.known.now in
     let changes = all_changes k _ (ap trees_of c.as_slice-statements.ensures.value ∙ c.in_ok-found.ensures) c.in-Some.changes c.in-Some.ensures in
     let start = c.in_ok-scope.ensures.start (λ number. []) k.shader.now k.module_info.now k.info.now in
@@ -114,7 +114,7 @@ returns-clause-ok c =
     c.in_ok-written.written c.in_ok-written.ensures
     c.declared_without_form.result c.declared_without_form.ensures
     c.annotated_without_form.result c.annotated_without_form.ensures
-    (sym c.first_lack-first.ensures ∙ c.in_default-first_lack-first.is) in
+    (sym c.first_lack-first.ensures ∙ c.in_default-first.is) in
     let kept = c.check_function-checked.ensures.kept in
     let at_first = subst (HasRoom c.in_ok-scope.scope) (all_changes k sts trees c.in-Some.changes c.in-Some.ensures) c.in_ok-scope.ensures.room in
     record {
