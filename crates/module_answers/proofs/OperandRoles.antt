@@ -87,10 +87,10 @@ from_second a b is = some_or a b ∙ or_right (is_some a) (is_some b) is
 listed : (name : List ℕ) (xs : List ℕ) → All (λ h. IsSome (list_role name h xs)) xs
 listed name xs k d lt = let h = get_or xs k d in
     elim (leb_tells (suc (position_or_len (λ x. x == h) xs)) (length xs)) [
-      inl within ↦ rw within.0 refl
-    | inr past ↦
-        let fails = fails_before_first (λ x. x == h) xs k d (omega (arith, past.1)) in
-        absurd (false≢true (sym fails ∙ same h))
+      | inl within ↦ rw within.0 refl
+      | inr past ↦
+          let fails = fails_before_first (λ x. x == h) xs k d (omega (arith, past.1)) in
+          absurd (false≢true (sym fails ∙ same h))
     ]
 
 -- what a field holds
@@ -162,7 +162,7 @@ passes (expression.ImageSample image sampler gather coordinate array_index offse
     let first = both e (image ∷ sampler ∷ coordinate ∷ []) (option_to_list array_index) (simp tables refl) (of_field e 3 _ array_index refl) in
     let second = both e places (option_to_list depth_ref) first (of_field e 5 _ depth_ref refl) in
     let third = both e (places ++ option_to_list depth_ref) (level_operands level) second
-        (of_level image sampler gather coordinate array_index offset level depth_ref clamp) in
+    (of_level image sampler gather coordinate array_index offset level depth_ref clamp) in
     both e ((places ++ option_to_list depth_ref) ++ level_operands level) (option_to_list offset) third (of_field e 4 _ offset refl)
 passes (expression.ImageQuery image (Size (Some level))) = simp tables refl
 passes _ = search (rules, tables)

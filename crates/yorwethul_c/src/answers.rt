@@ -186,12 +186,7 @@ fn told_written(alloc: Global, module: &Module, written: Written<String>) -> Ans
     }
 }
 
-fn told_error(
-    alloc: Global,
-    module: &Module,
-    error: Error,
-    refusal: Option<Refusal>,
-) -> Answer
+fn told_error(alloc: Global, module: &Module, error: Error, refusal: Option<Refusal>) -> Answer
     ensures { SaysOfError error result.status (string_bytes result.text) }
 {
     match status_of(&error) {
