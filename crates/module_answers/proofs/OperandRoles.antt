@@ -76,7 +76,7 @@ some_field : (h : ℕ) (name : List ℕ) (held : ℕ) → is_some (field_role h 
 some_field h name held = let r : Role = (name, None) in
     elim (held == h) as (λ b. is_some (cond b (Some r) None) ≡ b) [ true ↦ refl | false ↦ refl ]
 
--- one that the first role has
+-- where the first of two roles is there, or the second
 from_first : (a b : Option Role) → IsSome a → IsSome (option_or a b)
 from_first a b is = some_or a b ∙ or_left (is_some a) (is_some b) is
 
@@ -94,7 +94,8 @@ listed name xs k d lt = let h = get_or xs k d in
     ]
 
 -- what a field holds
-held : (h : ℕ) (i : ℕ) (fs : List Field) (name : List ℕ) → slice_get fs i ≡ Some (name, Some h) → IsSome (first_role h fs)
+held : (h : ℕ) (i : ℕ) (fs : List Field) (name : List ℕ) → slice_get fs i ≡ Some (name, Some h)
+    → IsSome (first_role h fs)
 held h i [] name is = cc
 held h zero (f ∷ fs) name is =
     from_first (field_role h f) (first_role h fs)
@@ -105,13 +106,16 @@ module _ (e : Expression) where
   abbrev in_it : ℕ → Bool
   in_it h = is_some (expression_role h e)
 
+  -- what a field of it holds, if it holds one
   of_field : (i : ℕ) (name : List ℕ) (o : Option ℕ) → slice_get (expression_fields e) i ≡ Some (name, o)
       → list_all in_it (option_to_list o) ≡ true
   of_field i name None is = refl
   of_field i name (Some h) is = let l = level_role h e in
       let f = first_role h (expression_fields e) in
-      rw (from_second (component_role h e) (option_or f l) (from_first f l (held h i (expression_fields e) name is))) refl
+      let first = from_first f l (held h i (expression_fields e) name is) in
+      rw (from_second (component_role h e) (option_or f l) first) refl
 
+  -- what its level of detail holds
   in_level : (fs : List Field) → ((h : ℕ) → level_role h e ≡ first_role h fs) → (h i : ℕ) (name : List ℕ)
       → slice_get fs i ≡ Some (name, Some h) → in_it h ≡ true
   in_level fs is h i name at =
@@ -122,7 +126,6 @@ module _ (e : Expression) where
   both : (xs ys : List ℕ) → list_all in_it xs ≡ true → list_all in_it ys ≡ true → list_all in_it (xs ++ ys) ≡ true
   both xs ys a b = list_all-append in_it xs ys ∙ rw a b
 
--- what a level of detail holds
 of_level : (image sampler : ℕ) (gather : Option SwizzleComponent) (coordinate : ℕ) (array_index offset : Option ℕ)
     (level : SampleLevel) (depth_ref : Option ℕ) (clamp : Bool)
     → list_all (in_it (expression.ImageSample image sampler gather coordinate array_index offset level depth_ref clamp))
@@ -144,7 +147,8 @@ ruleset tables = (some_or, some_field, same, or-true)
 -- what each operand of an expression passes
 passes : (e : Expression) → list_all (in_it e) (expression_operands e) ≡ true
 passes (expression.Compose ty components) =
-    list_all-from_AllPass _ components.items (λ k d lt. from_first _ _ (listed (codes "components") components.items k d lt))
+    list_all-from_AllPass _ components.items
+    (λ k d lt. from_first _ _ (listed (codes "components") components.items k d lt))
 passes (expression.Math fun arg arg1 arg2 arg3) =
     let e = expression.Math fun arg arg1 arg2 arg3 in
     let first = both e (arg ∷ []) (option_to_list arg1) (of_field e 0 _ (Some arg) refl) (of_field e 1 _ arg1 refl) in
@@ -153,17 +157,20 @@ passes (expression.Math fun arg arg1 arg2 arg3) =
 passes (expression.ImageLoad image coordinate array_index sample level) =
     let e = expression.ImageLoad image coordinate array_index sample level in
     let places = image ∷ coordinate ∷ option_to_list array_index in
-    let first = both e (image ∷ coordinate ∷ []) (option_to_list array_index) (simp tables refl) (of_field e 2 _ array_index refl) in
+    let two = image ∷ coordinate ∷ [] in
+    let first = both e two (option_to_list array_index) (simp tables refl) (of_field e 2 _ array_index refl) in
     let second = both e places (option_to_list sample) first (of_field e 3 _ sample refl) in
     both e (places ++ option_to_list sample) (option_to_list level) second (of_field e 4 _ level refl)
 passes (expression.ImageSample image sampler gather coordinate array_index offset level depth_ref clamp) =
     let e = expression.ImageSample image sampler gather coordinate array_index offset level depth_ref clamp in
     let places = image ∷ sampler ∷ coordinate ∷ option_to_list array_index in
-    let first = both e (image ∷ sampler ∷ coordinate ∷ []) (option_to_list array_index) (simp tables refl) (of_field e 3 _ array_index refl) in
+    let three = image ∷ sampler ∷ coordinate ∷ [] in
+    let first = both e three (option_to_list array_index) (simp tables refl) (of_field e 3 _ array_index refl) in
     let second = both e places (option_to_list depth_ref) first (of_field e 5 _ depth_ref refl) in
     let third = both e (places ++ option_to_list depth_ref) (level_operands level) second
     (of_level image sampler gather coordinate array_index offset level depth_ref clamp) in
-    both e ((places ++ option_to_list depth_ref) ++ level_operands level) (option_to_list offset) third (of_field e 4 _ offset refl)
+    both e ((places ++ option_to_list depth_ref) ++ level_operands level) (option_to_list offset) third
+    (of_field e 4 _ offset refl)
 passes (expression.ImageQuery image (Size (Some level))) = simp tables refl
 passes _ = search (rules, tables)
 

@@ -24,7 +24,9 @@ out_of_scope : json_refusal_place (Some (codes "value", None)) (refused.Function
 unfolding digits
 out_of_scope = refl
 
-in_an_emit : json_refusal_place (Some (codes "components", Some 2)) (refused.Function 0 (part.Scope (scope.EmittedOperand 12 42 41)))
+in_an_emit :
+    json_refusal_place (Some (codes "components", Some 2))
+    (refused.Function 0 (part.Scope (scope.EmittedOperand 12 42 41)))
     ≡ codes "module.functions[0].expressions[41], operand components[2] of expressions[42] in statement 12"
 unfolding digits
 in_an_emit = refl

@@ -1,9 +1,9 @@
 -- The role of an operand: the field by which an expression or a statement holds it, as `left`, or
 -- its number in a list, as `components[2]`.
 --
--- Throughout, h is the handle of an operand, xs are the handles of a list, name is that of a field, f
--- a field and fs further ones, e an expression, s a statement by itself, m a module, and g a function
--- of it.
+-- Throughout, h is the handle of an operand, xs are the handles of a list, name is that of a field,
+-- f a field and fs further ones, e an expression, s a statement by itself, m a module, and g a
+-- function of it.
 use Rattle.std.specs.Prelude.{ℕ, ◌==◌, List, [], ◌∷◌, Option, None, Some, codes}
 use Rattle.std.specs.Prelude.{if◌then◌else◌, All, IsSome, position, slice_get}
 use Rattle.std.specs.Option.{option_and_then, option_map, option_or}

@@ -65,13 +65,12 @@ fn fault_role(function: &Function, fault: ScopeFault) -> Option<Role<'_>>
     ensures { option_map seen result ≡ fault_role function.now fault }
 {
     match fault {
-        ScopeFault::Operand { statement, operand } => match statement_at(
-            &function.body,
-            statement,
-        ) {
-            Some(statement) => statement_role(operand, statement),
-            None => None,
-        },
+        ScopeFault::Operand { statement, operand } => {
+            match statement_at(&function.body, statement) {
+                Some(statement) => statement_role(operand, statement),
+                None => None,
+            }
+        }
         ScopeFault::EmittedOperand {
             expression,
             operand,
@@ -145,8 +144,8 @@ fn nth_of_expression(
     expression: &Expression,
     number: usize,
 ) -> Option<Role<'_>>
-    ensures { option_map seen result
-        ≡ option_and_then (field_role operand) (slice_get (expression_fields expression.now) number) }
+    ensures { option_map seen result ≡ option_and_then (field_role operand)
+        (slice_get (expression_fields expression.now) number) }
 {
     match expression.field(number) {
         Some((name, held)) => field_role(operand, name, held),
@@ -173,8 +172,8 @@ fn nth_of_statement(
     statement: &Statement,
     number: usize,
 ) -> Option<Role<'_>>
-    ensures { option_map seen result
-        ≡ option_and_then (field_role operand) (slice_get (statement_fields (tree_of statement.now)) number) }
+    ensures { option_map seen result ≡ option_and_then (field_role operand)
+        (slice_get (statement_fields (tree_of statement.now)) number) }
 {
     match statement.field(number) {
         Some((name, held)) => field_role(operand, name, held),

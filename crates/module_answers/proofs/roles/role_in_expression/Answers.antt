@@ -16,4 +16,5 @@ loop-number-preserved c =
 pub returns : goal.returns
 returns c =
     let fields = expression_fields c.args.expression.now in
-    found_nowhere c.args.operand _ fields fields (omega (arith, six_of_expression c.args.expression.now)) c.loop-number.invariant
+    found_nowhere c.args.operand _ fields fields (omega (arith, six_of_expression c.args.expression.now))
+    c.loop-number.invariant

@@ -17,4 +17,5 @@ loop-number-preserved c =
 pub returns : goal.returns
 returns c =
     let fields = statement_fields (tree_of c.args.statement.now) in
-    found_nowhere c.args.operand _ fields fields (omega (arith, six_of_statement (tree_of c.args.statement.now))) c.loop-number.invariant
+    found_nowhere c.args.operand _ fields fields (omega (arith, six_of_statement (tree_of c.args.statement.now)))
+    c.loop-number.invariant
