@@ -1,5 +1,5 @@
 -- What is so of the writer's answer is so of want of memory in its place.
-use Rattle.std.proofs.Common.{◌≡◌, ℕ, List, inl, inr, subst, sym}
+use Rattle.std.proofs.Common.{ℕ, List, inl, inr, subst, sym}
 use Rattle.std.specs.Prelude.{Err, IfSome, IsErrAnd, MatchOption, None, Ok, OnOk, Option, Result}
 use Rattle.std.specs.Prelude.{Bool, Some, alloc_error}
 use Rattle.naga_back.specs.Flags.{annotates_types}
@@ -10,17 +10,17 @@ use Rattle.naga_wgsl_fns.specs.Refusals.{TellsOfModule}
 use Rattle.naga_wgsl_fns.specs.declared.refusals.error.Error.{Error}
 use Rattle.naga_wgsl_fns.specs.declared.refusals.error.Error.TheVariants.{Memory}
 use Rattle.naga_words.specs.Sink.{IsAfter}
-use Rattle.core.specs.declared.alloc.AllocError.{AllocError}
+use Rattle.std.specs.declared.alloc.AllocError.{AllocError}
 use Rattle.naga_wgsl_out.proofs.Faithful.{function_tells_of_module, refused}
 use Rattle.naga_wgsl_out.proofs.ModuleScopes.{no_refusal}
 use Rattle.naga_wgsl_out.specs.Headline.{EachReading, FaithfulWriting, MatchesModule}
-use Rattle.naga_wgsl_out.specs.Leaving.{Leaves, LeavesOnError}
+use Rattle.naga_wgsl_out.specs.Leaving.{Leaves}
 use Rattle.naga_wgsl_out.specs.ModuleRefusals.{NothingIsRefused, RefusesOnlyFor}
 use Rattle.naga_wgsl_out.specs.Unwritable.{IsFirst, StandsIn}
 use Rattle.naga_wgsl_out.specs.Writing.{AppendsItsText, written_text}
 use Rattle.naga_wgsl_out.specs.declared.unwritable.Refusal.{Refusal}
 use Rattle.module_answers.specs.Wants.{IsAnswerOrWant}
-use Rattle.module_answers.specs.Written.{AnswersWriting, TellsBeside, TellsRefusal}
+use Rattle.module_answers.specs.Written.{AnswersWriting, TellsBeside}
 
 -- ---- what is told beside an answer
 -- what is found is told beside an error that tells of the module, of which something is the reason
@@ -35,16 +35,6 @@ found_beside explicit m info (Err e) None tells reason nothing first =
     absurd (no_refusal explicit m info nothing reason.0 reason.1 e tells reason.2)
 found_beside explicit m info (Err e) (Some refusal) tells reason stands first =
     record { tells = tells; stands = stands; first = first }
-
--- the writer's answer has its reason, under the same flags
-pub reason_under : (own flags : WriterFlags) (m : Module) (info : ModuleInfo) (answer : Result Unit Error) (content now : List ℕ) (before after : ℕ) →
-    own ≡ flags → FaithfulWriting own m info answer content now before after →
-    (before after : ℕ) × RefusesOnlyFor answer (annotates_types flags) m info before after
-reason_under own flags m info answer content now before after same faithful = (
-  before,
-  after,
-  subst (λ f. RefusesOnlyFor answer (annotates_types f) m info before after) same faithful.refusals,
-)
 
 module _ (flags : WriterFlags) (m : Module) (info : ModuleInfo) (content now : List ℕ) (before after : ℕ) where
   -- ---- want of memory

@@ -1,4 +1,4 @@
-use Rattle.std.proofs.Common.{◌≡◌, ◌∙◌, ◌<◌, ◌≤◌, Err, IfErr, IfNone, IfOk, IfSome, Ok, Some}
+use Rattle.std.proofs.Common.{◌≡◌, ◌∙◌, ◌<◌, ◌≤◌, IfErr, IfNone, IfOk, IfSome}
 use Rattle.std.proofs.Common.{ap, is_ok, length, refl, string_bytes, subst, sym}
 use Rattle.naga_acceptance.specs.Faults.{Fails}
 use Rattle.naga_wgsl_out.specs.Checked.{IsCounted}

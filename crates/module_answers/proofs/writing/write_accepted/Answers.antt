@@ -1,7 +1,7 @@
 use Rattle.std.proofs.Common.{subst, sym}
 use Rattle.naga_back.specs.Flags.{annotates_types}
 use Rattle.module_answers.specs.Written.{AnswersWriting, TellsBeside}
-use Rattle.module_answers.proofs.Wants.{answer_or_want, reason_under}
+use Rattle.module_answers.proofs.Wants.{answer_or_want}
 use Rattle.module_answers.proofs.writing.write_accepted.Goals as goal
 
 -- The writer has these flags and this sink, and ends with its sink.
@@ -29,8 +29,3 @@ returns g c =
     c.with_refusal-answer.ensures.answer wrote.faithful wrote.matches wrote.text wrote.leaves
     (subst (λ flags. TellsBeside (annotates_types flags) m info told.0 told.1)
     (sym c.new-writer.ensures.flags) c.with_refusal-answer.ensures.beside))))
-
-pub with_refusal-requires-clause-reason : goal.with_refusal-requires-clause-reason
-with_refusal-requires-clause-reason g c =
-    reason_under c.new-writer.result.flags c.args.flags c.args.«module».now c.args.info.now c.write-answer.result
-    _ _ _ _ c.new-writer.ensures.flags c.write-answer.ensures.faithful
