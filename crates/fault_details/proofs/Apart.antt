@@ -1,7 +1,7 @@
 -- Two types are told by texts that differ.
 --
 -- Throughout, m is a module.
-use Rattle.std.proofs.Common.{◌≡◌, ◌≢◌, ◌+◌, ◌⊎◌, ◌++◌, ◌∙◌, ℕ, List, length, codes, inl, inr, ap, arith, sym}
+use Rattle.std.proofs.Common.{◌≡◌, ◌≢◌, ◌+◌, ◌++◌, ◌∙◌, ℕ, List, length, codes, inl, inr, ap, arith}
 use Rattle.std.proofs.lemmas.List.{length-append}
 use Rattle.std.specs.Prelude.{Result, Ok, Err, IfOk}
 use Rattle.naga_ir.specs.declared.module.Module.{Module}

@@ -6,7 +6,7 @@ use Rattle.std.proofs.Common.{◌≡◌, ◌∙◌, ◌<◌, ◌≤◌, ◌+◌,
 use Rattle.std.proofs.Common.{Bool, true, false, List, [], ◌∷◌, length, map, Option, Some, None}
 use Rattle.std.proofs.Common.{IsSome}
 use Rattle.std.proofs.Common.{arith, ⊎_elim, ap, is_some, nat_lt, option_and_then}
-use Rattle.std.proofs.Common.{option_map, option_to_list, refl, slice_get, subst, sym, true≢false}
+use Rattle.std.proofs.Common.{option_map, option_to_list, refl, slice_get, sym, true≢false}
 use Rattle.std.proofs.Common.{zip}
 use Rattle.std.specs.Prelude.{if◌then◌else◌, IsTrue, take}
 use Rattle.std.specs.List.{list_all, enumerate_from}

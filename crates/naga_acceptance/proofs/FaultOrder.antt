@@ -1,8 +1,8 @@
 -- A fault that is told is the first, and one of types is told only where all that is named is there.
 --
 -- Throughout, m is a module, info what is known of it, f a function, p an entry point or a pair, e an expression, h a handle, and kind a kind of fault.
-use Rattle.std.proofs.Common.{◌≡◌, ◌==◌, ℕ, Bool, true, false, List, [], ◌∷◌, length, map, refl, sym, subst, zip}
-use Rattle.std.proofs.Common.{Option, Some, None, ap, true≢false}
+use Rattle.std.proofs.Common.{◌≡◌, ◌==◌, ℕ, Bool, true, false, List, [], ◌∷◌, length, sym, subst, zip}
+use Rattle.std.proofs.Common.{Option, Some, None, true≢false}
 use Rattle.std.specs.Prelude.{IsTrue}
 use Rattle.std.specs.List.{enumerate_from}
 use Rattle.std.specs.Option.{IfSome, is_some, option_map, option_or}
@@ -65,14 +65,15 @@ of_any : {F : Type 0} (Q : F → Type 0) (found : Option F) → ((x : F) → Q x
 of_any Q None all = tt
 of_any Q (Some x) all = all x
 
+of_further : {F : Type 0} (Q : F → Type 0) (h : ℕ) (found : Option F) (rest : Option (ℕ × F)) → IfSome found Q → IfSome rest (λ at. Q at.1) →
+    IfSome (or_further found h rest) (λ at. Q at.1)
+of_further Q h None rest here next = next
+of_further Q h (Some x) rest here next = here
+
 of_faulty : {X F : Type 0} (Q : F → Type 0) (faulty : ℕ → X → Option F) (ps : List (ℕ × X)) → ((h : ℕ) (x : X) → IfSome (faulty h x) Q) →
     IfSome (first_faulty faulty ps) (λ found. Q found.1)
 of_faulty Q faulty [] all = tt
-of_faulty Q faulty (p ∷ ps) all = by (faulty p.0 p.1) (all p.0 p.1)
-  where
-    by : (found : Option F) → IfSome found Q → IfSome (or_further found p.0 (first_faulty faulty ps)) (λ at. Q at.1)
-    by None none = of_faulty Q faulty ps all
-    by (Some x) here = here
+of_faulty Q faulty (p ∷ ps) all = of_further Q p.0 (faulty p.0 p.1) (first_faulty faulty ps) (all p.0 p.1) (of_faulty Q faulty ps all)
 
 -- ---- no fault of what is named is one of types
 
