@@ -81,7 +81,7 @@ module _ (explicit : Bool) (m : Module) (info : ModuleInfo) (accepted : IsTrue (
       written None lacks told carries = lacks
       written (Some e) lacks told carries = (lacks, told, carries)
   by_error (plan_error.TypeWithoutForm declared ty) it refused told carries other =
-      (refused.0, declared_is_spelled m f explicit info known declared ty refused.0, refused.1, told, carries)
+      (refused.0, (declared_is_spelled m f explicit info known declared ty refused.0, refused.1, told, carries))
   by_error (plan_error.LetWithoutForm n h) it refused told carries other = (refused.0, let_ (slice_get known h) refused.1 told carries)
     where
       let_ : (o : Option ExpressionInfo) →
