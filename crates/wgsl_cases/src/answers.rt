@@ -143,7 +143,8 @@ fn text_of(
     Ok(text)
 }
 
-/// Tells where what the module is refused for stands, if there is such a thing.
+/// Tells where what the module is refused for stands, if there is such a thing, without the role of
+/// an operand.
 fn push_place(
     alloc: Global,
     known: &Known,
@@ -153,7 +154,10 @@ fn push_place(
     requires { IsTrue (is_accepted known.now.module known.now.info) }
 {
     if let Some(refusal) = unwritable(alloc, &known.module, &known.info, flags)? {
-        let place = JsonRefusalPosition::of(&known.module, refusal.place);
+        let place = JsonRefusalPosition {
+            place: refusal.place,
+            role: None,
+        };
         let told = format!(in alloc; "at: {place}\n")?;
         text.push_str(told.as_str())?;
     }

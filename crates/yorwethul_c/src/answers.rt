@@ -10,8 +10,8 @@ use crate::nesting::nests_past;
 use crate::status::{Status, status_of};
 use bitflags::Flags;
 use module_answers::{
-    JsonRefusal, Unwritten, Written, fault_line, layout_table, look_into, write_told_within,
-    write_within,
+    JsonRefusalPosition, Unwritten, Written, fault_line, layout_table, look_into,
+    write_told_within, write_within,
 };
 use naga_json::{Known, ReadError, read_known};
 use naga_wgsl_out::info::{Unaccepted, unaccepted};
@@ -207,7 +207,10 @@ fn told_refusal(
     ensures { Says status result.status (string_bytes result.text) }
 {
     match refusal {
-        Some(refusal) => told(alloc, status, JsonRefusal::of(module, refusal)),
+        Some(refusal) => {
+            let at = JsonRefusalPosition::of(module, refusal.place);
+            told(alloc, status, format_args!("{}: {}", refusal.construct, at))
+        }
         None => told(alloc, status, error),
     }
 }
