@@ -1,7 +1,8 @@
 -- Types of a module and how they are laid out, worked by hand from WGSL's rules.
 --
 -- Throughout, it is a type by itself, h its handle, and v any vector of members.
-use Rattle.std.proofs.Common.{◌≡◌, ℕ, refl, arith, Bool, true, false, List, [], ◌∷◌, map, Option, Some, None, Global, Vec}
+use Rattle.std.proofs.Common.{◌≡◌, ℕ, refl, arith, Bool, true, false, List, [], ◌∷◌, map, Option}
+use Rattle.std.proofs.Common.{Some, None, Global, Vec}
 use Rattle.std.specs.Prelude.{◌==◌, not, suc}
 use Rattle.naga_ir.specs.declared.binding.Binding.TheVariants.{BuiltIn}
 use Rattle.naga_ir.specs.declared.binding.BuiltIn.TheVariants.{VertexIndex}

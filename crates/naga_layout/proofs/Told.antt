@@ -15,7 +15,9 @@ use Rattle.naga_ir.specs.declared.types.TypeInner.TheVariants as inner
 use Rattle.wgsl_layout.specs.Rules.{array_layout, kept_array, stride_of}
 use Rattle.wgsl_layout.specs.declared.layouts.Layout.{Layout}
 use Rattle.wgsl_layout.specs.declared.layouts.Placed.{Placed}
-use Rattle.naga_layout.specs.Types.{Rule, has_row, inner_layout_by, kept_members, laid_array, layout_at, layout_within, named_layout_by, placed_member, placed_members, told_length, told_rule}
+use Rattle.naga_layout.specs.Types.{Rule, has_row, inner_layout_by, kept_members, laid_array}
+use Rattle.naga_layout.specs.Types.{layout_at, layout_within, named_layout_by, placed_member}
+use Rattle.naga_layout.specs.Types.{placed_members, told_length, told_rule}
 use Rattle.naga_layout.proofs.Levels.{told_is}
 
 -- what there is under a condition is there without it
@@ -66,7 +68,8 @@ module _ (f g : ℕ → Option Layout)
       same_Some x y (sym (free is) ∙ by strict also)
     where
       free : {z : Layout} → kept_array stride n l ≡ Some z → array_layout n l ≡ Some z
-      free {z = z} kept = there (option_map_or (λ s. stride == stride_of l.alignment s) l.size false) (array_layout n l) z kept
+      free {z = z} kept = there (option_map_or (λ s. stride == stride_of l.alignment s) l.size false)
+          (array_layout n l) z kept
 
       by : (strict : Bool) → laid_array strict stride n l ≡ Some y → array_layout n l ≡ Some y
       by true laid = free laid
@@ -108,13 +111,15 @@ module _ (rule : Rule) (types : List Type_) where
   same_within (suc n) h x y is also = by (slice_get types h) (same_within n) is also
     where
       by : (o : Option Type_) →
-          ((h : ℕ) (x y : Layout) → layout_within n told_rule types h ≡ Some x → layout_within n rule types h ≡ Some y → x ≡ y) →
+          ((h : ℕ) (x y : Layout) → layout_within n told_rule types h ≡ Some x → layout_within n rule types h
+              ≡ Some y → x ≡ y) →
           option_and_then (λ t. named_layout_by told_rule (layout_within n told_rule types) h t.inner) o ≡ Some x →
           option_and_then (λ t. named_layout_by rule (layout_within n rule types) h t.inner) o ≡ Some y → x ≡ y
       by None left is also = absurd cc
       by (Some t) left is also =
           same_named (layout_within n told_rule types) (layout_within n rule types) left rule h t.inner x y is also
 
-  pub told_alike : (h : ℕ) (x y : Layout) → layout_at told_rule types h ≡ Some x → layout_at rule types h ≡ Some y → x ≡ y
+  pub told_alike : (h : ℕ) (x y : Layout) → layout_at told_rule types h ≡ Some x → layout_at rule types h
+      ≡ Some y → x ≡ y
   unfolding layout_at
   told_alike h x y is also = same_within (suc h) h x y is also

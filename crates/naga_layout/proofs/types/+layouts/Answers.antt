@@ -24,7 +24,8 @@ kept_new-returns-clause-layout t c =
     ∙ told_is (layout_at told_rule c.args.types.now) c.args.handle c.index.result.now.inner))
 
 pub kept_struct-loop-member-init : goal.kept_struct-loop-member-init
-kept_struct-loop-member-init t c = (None, refl, refl, c.requires.told, struct_left told_rule c.args.types.now c.args.span c.args.members.now)
+kept_struct-loop-member-init t c = (None, refl, refl, c.requires.told,
+    struct_left told_rule c.args.types.now c.args.span c.args.members.now)
 
 pub kept_struct-loop-member-preserved : goal.kept_struct-loop-member-preserved
 kept_struct-loop-member-preserved t c =
@@ -41,5 +42,6 @@ kept_struct-loop-member-preserved t c =
       goes.1,
       subst (IsGreatest goes.0) (sym c.max-alignment.ensures) goes.2,
       c.kept_member.ensures.told,
-      goes.3 ∙ ap (λ a. left_from f c.args.span goes.0 a (drop (c.loop-member.member-index + 1) ms)) (sym c.max-alignment.ensures),
+      goes.3 ∙ ap (λ a. left_from f c.args.span goes.0 a (drop (c.loop-member.member-index + 1) ms))
+          (sym c.max-alignment.ensures),
     )
