@@ -163,7 +163,7 @@ module _ (m : Module) (f : Option Function) (known : List TypeResolution) (argum
     (local_there : (number : ℕ) → nat_lt number locals ≡ true → local_type f number ≡ None → ⊥)
     (h : ℕ) (there : (x : ℕ) → nat_lt x h ≡ true → IsKnown m.types known x)
     (formed : (x : ℕ) (r : TypeResolution) → slice_get known x ≡ Some r → (it : TypeInner)
-        × (inner_of r m.types ≡ Some it)) where
+    × (inner_of r m.types ≡ Some it)) where
   first_there : (x : ℕ) (xs : List ℕ) → all_below h (x ∷ xs) ≡ true → IsKnown m.types known x
   first_there x xs below = there x (and_parts (nat_lt x h) (all_below h xs) below).0
 
@@ -183,21 +183,21 @@ module _ (m : Module) (f : Option Function) (known : List TypeResolution) (argum
   typeless_told own (expression.Access base index) nothing below named =
       class_told m.types known class.Composite base (first_there base (index ∷ []) below)
       (none_is (has_computed_parts m.types) (λ it. part_type m.types it None) (λ it. refl)
-          (known_inner m.types known base) (only_none _ nothing))
+      (known_inner m.types known base) (only_none _ nothing))
   typeless_told own (expression.AccessIndex base index) nothing below named =
       absurd (true≢false (sym (ap is_nothing nothing) ∙ any_given _))
   typeless_told own (expression.Splat n value) nothing below named =
       class_told m.types known class.Components value (first_there value [] below)
       (none_is is_components component_scalar components_same (known_inner m.types known value)
-          (map_none (vector_of n) _ (only_none _ nothing)))
+      (map_none (vector_of n) _ (only_none _ nothing)))
   typeless_told own (expression.Swizzle n vector pattern) nothing below named =
       class_told m.types known class.Vector vector (first_there vector [] below)
       (none_is (λ it. is_some (vector_scalar it)) vector_scalar (λ it. refl) (known_inner m.types known vector)
-          (map_none (vector_of n) _ (only_none _ nothing)))
+      (map_none (vector_of n) _ (only_none _ nothing)))
   typeless_told own (expression.Load pointer) nothing below named =
       class_told m.types known class.Pointer pointer (first_there pointer [] below)
       (none_is (is_in_class m.types class.Pointer) (pointee_type m.types) (λ it. refl)
-          (known_inner m.types known pointer) (only_none _ nothing))
+      (known_inner m.types known pointer) (only_none _ nothing))
   typeless_told own (expression.Binary op left right) nothing below named =
       absurd (true≢false (sym (ap is_nothing nothing) ∙ binary_given op _))
   typeless_told own (expression.CallResult function) nothing below named = refl
@@ -206,11 +206,11 @@ module _ (m : Module) (f : Option Function) (known : List TypeResolution) (argum
   own_type_told : (e : Expression) (k : IsKnown m.types known h) →
       option_map_or (is_expected m.types (expected_type m f known e)) (slice_get known h) false ≡ false →
       all_below h (expression_operands e) ≡ true → names_in_range m arguments locals e ≡ true →
-          IsSome (own_type_reason m f known h e)
+      IsSome (own_type_reason m f known h e)
   own_type_told e k fails below named =
       some_then (λ own. expected_reason m.types known own e (expected_type m f known e)) (slice_get known h) k.0 k.1
       (by (expected_type m f known e) refl
-          (sym (ap (λ o. option_map_or (is_expected m.types (expected_type m f known e)) o false) k.1) ∙ fails))
+      (sym (ap (λ o. option_map_or (is_expected m.types (expected_type m f known e)) o false) k.1) ∙ fails))
     where
       by : (w : ExpectedType) → expected_type m f known e ≡ w → is_expected m.types w k.0 ≡ false →
           IsSome (expected_reason m.types known k.0 e w)
@@ -231,15 +231,15 @@ module _ (m : Module) (f : Option Function) (known : List TypeResolution) (argum
       ⊎_elim
       (λ lacks. some_first (letter_reason m.types r x) (first_reason (letter_reason m.types r) xs)
       (some_unless (option_map_or (has_letter x) (inner_of r m.types) false) (LacksLetter x r)
-          (ap (λ o. option_map_or (has_letter x) o false) is ∙ lacks)))
+      (ap (λ o. option_map_or (has_letter x) o false) is ∙ lacks)))
       (λ further. some_second (letter_reason m.types r x) (first_reason (letter_reason m.types r) xs)
-          (lacking_told r it is xs further))
+      (lacking_told r it is xs further))
       (and_cases (has_letter x it) (list_all (λ letter. has_letter letter it) xs) fails)
 
   letters_told : (n : VectorSize) (pattern : List SwizzleComponent) (r : TypeResolution) (it : TypeInner) →
       inner_of r m.types ≡ Some it →
       is_in_class m.types class.Vector it ≡ true → is_swizzled n pattern it ≡ false →
-          IsSome (first_reason (letter_reason m.types r) (take (vector_number n) pattern))
+      IsSome (first_reason (letter_reason m.types r) (take (vector_number n) pattern))
   letters_told n pattern r (inner.Vector size scalar) is vector fails =
       lacking_told r (inner.Vector size scalar) is (take (vector_number n) pattern) fails
   letters_told n pattern r _ is vector fails = absurd (true≢false (sym vector))
@@ -250,20 +250,20 @@ module _ (m : Module) (f : Option Function) (known : List TypeResolution) (argum
       let parts = and_parts (nat_lt base h) (all_below h (index ∷ [])) below in
       ⊎_elim
       (λ other. some_first (class_reason m.types known class.Composite base)
-          (class_reason m.types known class.Integer index)
-          (class_told m.types known class.Composite base (there base parts.0) other))
+      (class_reason m.types known class.Integer index)
+      (class_told m.types known class.Composite base (there base parts.0) other))
       (λ other. some_second (class_reason m.types known class.Composite base)
-          (class_reason m.types known class.Integer index)
-          (class_told m.types known class.Integer index (first_there index [] parts.1) other))
+      (class_reason m.types known class.Integer index)
+      (class_told m.types known class.Integer index (first_there index [] parts.1) other))
       (and_cases (operand_is m.types known (has_computed_parts m.types) base)
-          (operand_is m.types known is_integer index) fails)
+      (operand_is m.types known is_integer index) fails)
   operands_told (expression.AccessIndex base index) fails below =
       let k = first_there base [] below in
       let it = formed base k.0 k.1 in
       let is : known_inner m.types known base ≡ Some it.0 = ap (option_and_then (λ r. inner_of r m.types)) k.1 ∙ it.1 in
       ap (λ o. is_some (option_and_then (index_reason index) (option_and_then (part_count m.types) o))) is
       ∙ index_told index (part_count m.types it.0)
-          (sym (ap (λ o. option_map_or (λ it. is_part_number m.types it index) o false) is) ∙ fails)
+      (sym (ap (λ o. option_map_or (λ it. is_part_number m.types it index) o false) is) ∙ fails)
   operands_told (expression.Splat n value) fails below = class_told m.types known class.Components value
       (first_there value [] below) fails
   operands_told (expression.Swizzle n vector pattern) fails below =
@@ -276,12 +276,12 @@ module _ (m : Module) (f : Option Function) (known : List TypeResolution) (argum
           let k = first_there vector [] below in
           let it = formed vector k.0 k.1 in
           let here : known_inner m.types known vector ≡ Some it.0 =
-              ap (option_and_then (λ r. inner_of r m.types)) k.1 ∙ it.1 in
+          ap (option_and_then (λ r. inner_of r m.types)) k.1 ∙ it.1 in
           some_second (class_reason m.types known class.Vector vector) (swizzle_reason m.types known n pattern vector)
           (some_then (λ r. first_reason (letter_reason m.types r) (take (vector_number n) pattern))
-              (slice_get known vector) k.0 k.1
+          (slice_get known vector) k.0 k.1
           (letters_told n pattern k.0 it.0 it.1
-              (sym (ap (λ o. option_map_or (is_in_class m.types class.Vector) o false) here) ∙ is)
+          (sym (ap (λ o. option_map_or (is_in_class m.types class.Vector) o false) here) ∙ is)
           (sym (ap (λ o. option_map_or (is_swizzled n pattern) o false) here) ∙ fails)))
       by false is =
           some_first (class_reason m.types known class.Vector vector) (swizzle_reason m.types known n pattern vector)
@@ -290,7 +290,7 @@ module _ (m : Module) (f : Option Function) (known : List TypeResolution) (argum
       (first_there pointer [] below) fails
   operands_told (expression.CooperativeLoad columns rows role place) fails below =
       class_told m.types known class.ComponentsPointer place.pointer
-          (first_there place.pointer (place.stride ∷ []) below) fails
+      (first_there place.pointer (place.stride ∷ []) below) fails
   operands_told _ fails below = absurd (true≢false fails)
 
 -- ---- statements of a function that may call so many
@@ -316,20 +316,20 @@ module _ (m : Module) (f : Function) (known : List TypeResolution) (callees : �
   answer_told callee function (Some outcome) fails =
       ⊎_elim
       (λ none. some_first (need_unless (is_some callee.result) need.CalleeResult)
-          (need_unless (is_result (is_result_of function) f outcome) need.OwnResult) (some_unless _ _ none))
+      (need_unless (is_result (is_result_of function) f outcome) need.OwnResult) (some_unless _ _ none))
       (λ other. some_second (need_unless (is_some callee.result) need.CalleeResult)
-          (need_unless (is_result (is_result_of function) f outcome) need.OwnResult) (some_unless _ _ other))
+      (need_unless (is_result (is_result_of function) f outcome) need.OwnResult) (some_unless _ _ other))
       (and_cases (is_some callee.result) (is_result (is_result_of function) f outcome) fails)
 
   call_at_told : (function : ℕ) (xs : List ℕ) (outcome : Option ℕ) → nat_lt function callees ≡ true →
       all_below (length f.expressions) xs ≡ true →
       is_call m f known function xs outcome ≡ false →
-          IsSome (option_and_then (call_reason m.types known f function xs outcome) (slice_get m.functions function))
+      IsSome (option_and_then (call_reason m.types known f function xs outcome) (slice_get m.functions function))
   call_at_told function xs outcome named below fails =
       let callee = item_before m.functions callees function within named in
       some_then (call_reason m.types known f function xs outcome) (slice_get m.functions function) callee.0 callee.1
       (one callee.0 (sym (ap (λ o. option_map_or (calls m.types known f function xs outcome) o false) callee.1)
-          ∙ fails))
+      ∙ fails))
     where
       one : (callee : Function) → calls m.types known f function xs outcome callee ≡ false →
           IsSome (call_reason m.types known f function xs outcome callee)
@@ -340,7 +340,7 @@ module _ (m : Module) (f : Function) (known : List TypeResolution) (callees : �
           ⊎_elim
           (λ other. call_told m.types known (length f.expressions) there callee.arguments.items xs answer below other)
           (λ unanswered. some_second number (option_or passed answer)
-              (some_second passed answer (answer_told callee function outcome unanswered)))
+          (some_second passed answer (answer_told callee function outcome unanswered)))
           (and_cases (are_passed m.types known callee.arguments.items xs) (is_answered callee function f outcome) fails)
 
   simple_told : (breaks continues : Bool) (s : SimpleStatement) →
@@ -354,17 +354,17 @@ module _ (m : Module) (f : Function) (known : List TypeResolution) (callees : �
       (λ h is. first_known h [] (sym (ap (λ v. all_below (length f.expressions) (option_to_list v)) is) ∙ below)) fails
   simple_told breaks continues (store pointer value) named below fails =
       store_told m.types known pointer value (first_known pointer (value ∷ []) below)
-          (first_known value [] (later_below pointer (value ∷ []) below)) fails
+      (first_known value [] (later_below pointer (value ∷ []) below)) fails
   simple_told breaks continues (atomic pointer fun value outcome) named below fails =
       ⊎_elim
       (λ other. some_first (class_reason m.types known class.AtomicPointer pointer)
-          (option_and_then (result_reason is_atomic_result f) outcome)
+      (option_and_then (result_reason is_atomic_result f) outcome)
       (class_told m.types known class.AtomicPointer pointer (first_known pointer _ below) other))
       (λ other. some_second (class_reason m.types known class.AtomicPointer pointer)
-          (option_and_then (result_reason is_atomic_result f) outcome)
+      (option_and_then (result_reason is_atomic_result f) outcome)
       (result_told is_atomic_result outcome other))
       (and_cases (operand_is m.types known (points_to_atomic m.types) pointer)
-          (is_result_if is_atomic_result f outcome) fails)
+      (is_result_if is_atomic_result f outcome) fails)
   simple_told breaks continues (work_group_uniform_load pointer outcome) named below fails = some_unless _ _ fails
   simple_told breaks continues (call function xs outcome) named below fails =
       call_at_told function xs outcome named below fails
@@ -375,7 +375,7 @@ module _ (m : Module) (f : Function) (known : List TypeResolution) (callees : �
   simple_told breaks continues (cooperative_store target place) named below fails =
       class_told m.types known class.ComponentsPointer place.pointer
       (first_known place.pointer (place.stride ∷ [])
-          (later_below target (place.pointer ∷ place.stride ∷ []) below)) fails
+      (later_below target (place.pointer ∷ place.stride ∷ []) below)) fails
   simple_told breaks continues _ named below fails = absurd (true≢false fails)
 
   condition_told : (condition : Option ℕ) → is_below (length f.expressions) condition ≡ true →
@@ -389,32 +389,32 @@ module _ (m : Module) (f : Function) (known : List TypeResolution) (callees : �
       own_is_sound m f known breaks continues s ≡ false → IsSome (own_reason m f known breaks continues s)
   own_told breaks continues (simple s) range fails =
       let parts = and_parts (named_in_range callees (length f.expressions) s)
-          (all_below (length f.expressions) (simple_operands s) && is_below (length f.expressions)
-          (simple_result s)) range in
+      (all_below (length f.expressions) (simple_operands s) && is_below (length f.expressions)
+      (simple_result s)) range in
       simple_told breaks continues s parts.0
       (and_parts (all_below (length f.expressions) (simple_operands s))
-          (is_below (length f.expressions) (simple_result s)) parts.1).0 fails
+      (is_below (length f.expressions) (simple_result s)) parts.1).0 fails
   own_told breaks continues (branch condition accept reject) range fails =
       class_told m.types known class.Bool condition (there condition range) fails
   own_told breaks continues (switch selector cs) range fails =
       switch_told m.types known selector cs
-          (there selector (and_parts (nat_lt selector (length f.expressions))
-          (case_values_fit_32_bits cs) range).0) fails
+      (there selector (and_parts (nat_lt selector (length f.expressions))
+      (case_values_fit_32_bits cs) range).0) fails
   own_told breaks continues (loop body continuing break_if) range fails = condition_told break_if range fails
   own_told breaks continues _ range fails = absurd (true≢false fails)
 
   statement_told : block_in_range callees (length f.expressions) f.body ≡ true → length (text_order f.body)
       ≤ 2 ^ 64 → (number : ℕ) → UnfitStatement (is_sound m f known) f number →
       IsSome (option_and_then (statement_reason m callees f known fault.Unsatisfied)
-          (slice_get (text_order f.body) number))
+      (slice_get (text_order f.body) number))
   statement_told range few number (k, is, unfit) =
       let s = unfit_item (is_sound m f known) (text_order f.body) k unfit in
       let small : k < length (text_order f.body) = slice_get_within (text_order f.body) k s.0 s.1 in
       let own : k % 2 ^ 64 ≡ k = omega (arith, small, few) in
       let fits = list_all_at (is_in_range callees (length f.expressions)) (text_order f.body) k s.0
-          (sym (block_range callees (length f.expressions) false false f.body) ∙ range) s.1 in
+      (sym (block_range callees (length f.expressions) false false f.body) ∙ range) s.1 in
       some_then (statement_reason m callees f known fault.Unsatisfied) (slice_get (text_order f.body) number)
-          s.0 (ap (slice_get (text_order f.body)) (is ∙ own) ∙ s.1)
+      s.0 (ap (slice_get (text_order f.body)) (is ∙ own) ∙ s.1)
       (own_told s.0.breaks s.0.continues s.0.tree fits s.2)
 
 -- ---- initialisers
@@ -436,7 +436,7 @@ placed test xs h x all at = let is : 0 + h ≡ h = omega arith in sym (ap (λ k.
 module _ (m : Module) (f : Function) (known : List TypeResolution) (callees : ℕ) (within : callees ≤ length m.functions)
     (sized : length f.expressions ≡ length known) (range : function_in_range m callees f ≡ true)
     (formed : (x : ℕ) (r : TypeResolution) → slice_get known x ≡ Some r → (it : TypeInner)
-        × (inner_of r m.types ≡ Some it))
+    × (inner_of r m.types ≡ Some it))
     (few : length (text_order f.body) ≤ 2 ^ 64) where
   there_within : (n x : ℕ) → n ≤ length f.expressions → nat_lt x n ≡ true → IsKnown m.types known x
   there_within n x le below = item_before known n x (omega (arith, le, sized)) below
@@ -447,7 +447,7 @@ module _ (m : Module) (f : Function) (known : List TypeResolution) (callees : �
       let locals = list_all (local_in_range (length m.types) (length f.expressions)) f.local_variables in
       let body = block_in_range callees (length f.expressions) f.body in
       let a = and_parts (signature_fits (length m.types) f)
-          (names_fit f && (locals && (expressions_in_range m f && body))) range in
+      (names_fit f && (locals && (expressions_in_range m f && body))) range in
       let b = and_parts (names_fit f) (locals && (expressions_in_range m f && body)) a.1 in
       let c = and_parts locals (expressions_in_range m f && body) b.1 in
       let d = and_parts (expressions_in_range m f) body c.1 in
@@ -462,12 +462,12 @@ module _ (m : Module) (f : Function) (known : List TypeResolution) (callees : �
 
   expression_ranges : (h : ℕ) (e : Expression) → slice_get f.expressions h ≡ Some e →
       (all_below h (expression_operands e) ≡ true)
-          × (names_in_range m (length f.arguments.items) (length f.local_variables) e ≡ true)
+      × (names_in_range m (length f.arguments.items) (length f.local_variables) e ≡ true)
   expression_ranges h e at =
       let fits = placed (expression_in_range m (length f.arguments.items) (length f.local_variables))
-          f.expressions h e parts_in_range.1 at in
+      f.expressions h e parts_in_range.1 at in
       and_parts (all_below h (expression_operands e))
-          (names_in_range m (length f.arguments.items) (length f.local_variables) e) fits
+      (names_in_range m (length f.arguments.items) (length f.local_variables) e) fits
 
   function_told : (kind : Fault) (place : FunctionPosition) → IsOfTypes kind →
       FunctionPositionFails m callees f known place kind →
@@ -478,7 +478,7 @@ module _ (m : Module) (f : Function) (known : List TypeResolution) (callees : �
       let le = slice_get_within f.expressions h e.0 e.1 in
       some_then (expression_reason m (Some f) known fault.OtherType h) (slice_get f.expressions h) e.0 e.1
       (own_type_told m (Some f) known (length f.arguments.items) (length f.local_variables) argument_there
-          local_there h (λ x below. there_within h x (omega (arith, le)) below) formed e.0
+      local_there h (λ x below. there_within h x (omega (arith, le)) below) formed e.0
       (there_within (length f.expressions) h (omega arith) (lt-ltb h (length f.expressions) le)) e.2 fits.0 fits.1)
   function_told fault.OperandTypes (part.Expression h) of fails =
       let e = unfit_item (operands_fit m.types known) f.expressions h fails in
@@ -486,18 +486,18 @@ module _ (m : Module) (f : Function) (known : List TypeResolution) (callees : �
       let le = slice_get_within f.expressions h e.0 e.1 in
       some_then (expression_reason m (Some f) known fault.OperandTypes h) (slice_get f.expressions h) e.0 e.1
       (operands_told m (Some f) known (length f.arguments.items) (length f.local_variables) argument_there
-          local_there h (λ x below. there_within h x (omega (arith, le)) below) formed e.0 e.2 fits.0)
+      local_there h (λ x below. there_within h x (omega (arith, le)) below) formed e.0 e.2 fits.0)
   function_told fault.InitialiserType (part.Local h) of fails =
       let l = unfit_item (local_is_sound m.types known) f.local_variables h fails in
       let fits = list_all_at (local_in_range (length m.types) (length f.expressions)) f.local_variables h l.0
-          parts_in_range.0 l.1 in
+      parts_in_range.0 l.1 in
       some_then (λ k. declared_reason m.types list.Expressions (length f.expressions) known
-          fault.InitialiserType k.ty k.init) (slice_get f.local_variables h) l.0 l.1
+      fault.InitialiserType k.ty k.init) (slice_get f.local_variables h) l.0 l.1
       (initialiser_told m.types known (length f.expressions) (omega (arith, sized)) l.0.ty l.0.init
       (and_parts (nat_lt l.0.ty (length m.types)) (is_below (length f.expressions) l.0.init) fits).1 l.2)
   function_told fault.Unsatisfied (part.Statement number) of fails =
       statement_told m f known callees within
-          (λ x below. there_within (length f.expressions) x (omega arith) below) parts_in_range.2 few number fails
+      (λ x below. there_within (length f.expressions) x (omega arith) below) parts_in_range.2 few number fails
   function_told fault.OtherType part.Whole of fails = absurd fails
   function_told fault.OtherType (part.Local h) of fails = absurd fails
   function_told fault.OtherType (part.Statement number) of fails = absurd fails
@@ -524,7 +524,7 @@ zipped_at test (x0 ∷ xs) (y0 ∷ ys) same all zero x at =
     (y0, refl, ap (λ x. test x y0) (sym is) ∙ (and_parts (test x0 y0) (list_all (λ p. test p.0 p.1) (zip xs ys)) all).0)
 zipped_at test (x0 ∷ xs) (y0 ∷ ys) same all (suc h) x at =
     zipped_at test xs ys (omega (arith, same))
-        (and_parts (test x0 y0) (list_all (λ p. test p.0 p.1) (zip xs ys)) all).1 h x at
+    (and_parts (test x0 y0) (list_all (λ p. test p.0 p.1) (zip xs ys)) all).1 h x at
 
 paired_at : {X Y : Type 0} (test : X → Y → Bool) (xs : List X) (ys : List Y) → all_paired test xs ys ≡ true →
     (h : ℕ) (x : X) → slice_get xs h ≡ Some x → (y : Y) × (slice_get ys h ≡ Some y) × (test x y ≡ true)
@@ -552,11 +552,11 @@ module _ (m : Module) (ess : List (List ExpressionInfo))
       × (inner_of r m.types ≡ Some it)
   known_formed x r is =
       let k = map_some (λ k. k.ty) (slice_get es x) r
-          (sym (slice_get-map (λ k. k.ty) es x) ∙ (sym (ap (λ ks. slice_get ks x) known_is) ∙ is)) in
+      (sym (slice_get-map (λ k. k.ty) es x) ∙ (sym (ap (λ ks. slice_get ks x) known_is) ∙ is)) in
       let fits = list_all_at (λ k. resolution_fits (length m.overrides) (length m.types) k.ty) es x k.0
       (list_all_at (list_all (λ k. resolution_fits (length m.overrides) (length m.types) k.ty)) ess h es fit at) k.1 in
       fit_formed (length m.overrides) m.types r
-          (sym (ap (resolution_fits (length m.overrides) (length m.types)) k.2) ∙ fits)
+      (sym (ap (resolution_fits (length m.overrides) (length m.types)) k.2) ∙ fits)
 
 -- ---- items
 
@@ -581,13 +581,13 @@ module _ (m : Module) (info : ModuleInfo) (ranges : IsTrue (module_ranges_fit m 
       let globals = list_all (global_in_range (length m.types) (length m.global_expressions)) m.global_variables in
       let expressions = all_placed (global_expression_in_range m) m.global_expressions in
       let a = and_parts (declarations_in_range m)
-          (all_placed (function_in_range m) m.functions
-          && list_all (entry_point_in_range m) m.entry_points.items) sizes.1 in
+      (all_placed (function_in_range m) m.functions
+      && list_all (entry_point_in_range m) m.entry_points.items) sizes.1 in
       let b = and_parts (types_in_range (length m.overrides) m.types)
-          (special_types_fit (length m.types) m.special_types
-          && (constants && (overrides && (globals && expressions)))) a.0 in
+      (special_types_fit (length m.types) m.special_types
+      && (constants && (overrides && (globals && expressions)))) a.0 in
       let c = and_parts (special_types_fit (length m.types) m.special_types)
-          (constants && (overrides && (globals && expressions))) b.1 in
+      (constants && (overrides && (globals && expressions))) b.1 in
       let d = and_parts constants (overrides && (globals && expressions)) c.1 in
       let e = and_parts overrides (globals && expressions) d.1 in
       let g = and_parts globals expressions e.1 in
@@ -597,10 +597,10 @@ module _ (m : Module) (info : ModuleInfo) (ranges : IsTrue (module_ranges_fit m 
       × (list_all (entry_point_in_range m) m.entry_points.items ≡ true)
   functions_in_range =
       let a = and_parts (declarations_in_range m)
-          (all_placed (function_in_range m) m.functions
-          && list_all (entry_point_in_range m) m.entry_points.items) sizes.1 in
+      (all_placed (function_in_range m) m.functions
+      && list_all (entry_point_in_range m) m.entry_points.items) sizes.1 in
       and_parts (all_placed (function_in_range m) m.functions)
-          (list_all (entry_point_in_range m) m.entry_points.items) a.1
+      (list_all (entry_point_in_range m) m.entry_points.items) a.1
 
   known_sizes : (all_paired function_size_fits m.functions info.functions.items ≡ true)
       × (all_paired entry_point_size_fits m.entry_points.items info.entry_points.items ≡ true)
@@ -616,15 +616,15 @@ module _ (m : Module) (info : ModuleInfo) (ranges : IsTrue (module_ranges_fit m 
   known_fit : (list_all (list_all (λ k. resolution_fits (length m.overrides) (length m.types) k.ty))
       info.functions.items ≡ true)
       × (list_all (list_all (λ k. resolution_fits (length m.overrides) (length m.types) k.ty))
-          info.entry_points.items ≡ true)
+      info.entry_points.items ≡ true)
       × (list_all (resolution_fits (length m.overrides) (length m.types)) info.const_expression_types.items ≡ true)
   known_fit =
       let functions = list_all (list_all (λ k. resolution_fits (length m.overrides) (length m.types) k.ty))
-          info.functions.items in
+      info.functions.items in
       let entry_points = list_all (list_all (λ k. resolution_fits (length m.overrides) (length m.types) k.ty))
-          info.entry_points.items in
+      info.entry_points.items in
       let globals =
-          list_all (resolution_fits (length m.overrides) (length m.types)) info.const_expression_types.items in
+      list_all (resolution_fits (length m.overrides) (length m.types)) info.const_expression_types.items in
       let a = and_parts functions (entry_points && globals) sizes.2 in
       let b = and_parts entry_points globals a.1 in
       (a.0, b.0, b.1)
@@ -651,10 +651,10 @@ module _ (m : Module) (info : ModuleInfo) (ranges : IsTrue (module_ranges_fit m 
   constant_told h fault.InitialiserType of fails =
       let k = unfit_item (constant_is_sound m.types info.const_expression_types.items) m.constants h fails in
       let fits = list_all_at (constant_in_range (length m.types) (length m.global_expressions)) m.constants h
-          k.0 declared_in_range.0 k.1 in
+      k.0 declared_in_range.0 k.1 in
       some_then (λ k. global_reason m info fault.InitialiserType k.ty (Some k.init)) (slice_get m.constants h) k.0 k.1
       (initialiser_told m.types info.const_expression_types.items (length m.global_expressions)
-          (omega (arith, known_sizes.2)) k.0.ty (Some k.0.init)
+      (omega (arith, known_sizes.2)) k.0.ty (Some k.0.init)
       (and_parts (nat_lt k.0.ty (length m.types)) (nat_lt k.0.init (length m.global_expressions)) fits).1 k.2)
   constant_told h fault.OtherType of fails = absurd fails
   constant_told h fault.OperandTypes of fails = absurd fails
@@ -665,12 +665,12 @@ module _ (m : Module) (info : ModuleInfo) (ranges : IsTrue (module_ranges_fit m 
   override_told h fault.InitialiserType of fails =
       let k = unfit_item (override_is_sound m.types info.const_expression_types.items) m.overrides h fails in
       let fits = list_all_at (override_in_range (length m.types) (length m.global_expressions)) m.overrides h
-          k.0 declared_in_range.1 k.1 in
+      k.0 declared_in_range.1 k.1 in
       let initialised = is_below (length m.global_expressions) k.0.init in
       let number = option_map_or fits_16_bits k.0.id true in
       some_then (λ k. global_reason m info fault.InitialiserType k.ty k.init) (slice_get m.overrides h) k.0 k.1
       (initialiser_told m.types info.const_expression_types.items (length m.global_expressions)
-          (omega (arith, known_sizes.2)) k.0.ty k.0.init
+      (omega (arith, known_sizes.2)) k.0.ty k.0.init
       (and_parts initialised number (and_parts (nat_lt k.0.ty (length m.types)) (initialised && number) fits).1).0 k.2)
   override_told h fault.OtherType of fails = absurd fails
   override_told h fault.OperandTypes of fails = absurd fails
@@ -681,12 +681,12 @@ module _ (m : Module) (info : ModuleInfo) (ranges : IsTrue (module_ranges_fit m 
   global_told h fault.InitialiserType of fails =
       let k = unfit_item (global_is_sound m.types info.const_expression_types.items) m.global_variables h fails in
       let fits = list_all_at (global_in_range (length m.types) (length m.global_expressions)) m.global_variables
-          h k.0 declared_in_range.2 k.1 in
+      h k.0 declared_in_range.2 k.1 in
       let initialised = is_below (length m.global_expressions) k.0.init in
       let bound = option_map_or resource_fits_32_bits k.0.binding true in
       some_then (λ k. global_reason m info fault.InitialiserType k.ty k.init) (slice_get m.global_variables h) k.0 k.1
       (initialiser_told m.types info.const_expression_types.items (length m.global_expressions)
-          (omega (arith, known_sizes.2)) k.0.ty k.0.init
+      (omega (arith, known_sizes.2)) k.0.ty k.0.init
       (and_parts initialised bound (and_parts (nat_lt k.0.ty (length m.types)) (initialised && bound) fits).1).0 k.2)
   global_told h fault.OtherType of fails = absurd fails
   global_told h fault.OperandTypes of fails = absurd fails
@@ -698,7 +698,7 @@ module _ (m : Module) (info : ModuleInfo) (ranges : IsTrue (module_ranges_fit m 
     global_ranges =
         let fits = placed (global_expression_in_range m) m.global_expressions h e declared_in_range.3 at in
         and_parts (all_below h (expression_operands e)) (names_in_range m 0 0 e)
-            (and_parts (expression_in_range m 0 0 h e) (initialiser_before m h e) fits).0
+        (and_parts (expression_in_range m 0 0 h e) (initialiser_before m h e) fits).0
 
     global_before : (n x : ℕ) → n ≤ length m.global_expressions → nat_lt x n ≡ true →
         IsKnown m.types info.const_expression_types.items x
@@ -709,8 +709,8 @@ module _ (m : Module) (info : ModuleInfo) (ranges : IsTrue (module_ranges_fit m 
       (it : TypeInner) × (inner_of r m.types ≡ Some it)
   global_formed x r is =
       fit_formed (length m.overrides) m.types r
-          (list_all_at (resolution_fits (length m.overrides) (length m.types)) info.const_expression_types.items
-          x r known_fit.2 is)
+      (list_all_at (resolution_fits (length m.overrides) (length m.types)) info.const_expression_types.items
+      x r known_fit.2 is)
 
   no_number : (number : ℕ) → nat_lt number 0 ≡ true → ⊥
   no_number number below = omega (arith, ltb-true number 0 below)
@@ -722,20 +722,20 @@ module _ (m : Module) (info : ModuleInfo) (ranges : IsTrue (module_ranges_fit m 
       let fits = global_ranges h e.0 e.1 in
       let le = slice_get_within m.global_expressions h e.0 e.1 in
       some_then (expression_reason m None info.const_expression_types.items fault.OtherType h)
-          (slice_get m.global_expressions h) e.0 e.1
+      (slice_get m.global_expressions h) e.0 e.1
       (own_type_told m None info.const_expression_types.items 0 0 (λ number below none. no_number number below)
-          (λ number below none. no_number number below) h
+      (λ number below none. no_number number below) h
       (λ x below. global_before h e.0 e.1 h x (omega (arith, le)) below) global_formed e.0
       (global_before h e.0 e.1 (length m.global_expressions) h (omega arith)
-          (lt-ltb h (length m.global_expressions) le)) e.2 fits.0 fits.1)
+      (lt-ltb h (length m.global_expressions) le)) e.2 fits.0 fits.1)
   global_expression_told h fault.OperandTypes of fails =
       let e = unfit_item (operands_fit m.types info.const_expression_types.items) m.global_expressions h fails in
       let fits = global_ranges h e.0 e.1 in
       let le = slice_get_within m.global_expressions h e.0 e.1 in
       some_then (expression_reason m None info.const_expression_types.items fault.OperandTypes h)
-          (slice_get m.global_expressions h) e.0 e.1
+      (slice_get m.global_expressions h) e.0 e.1
       (operands_told m None info.const_expression_types.items 0 0 (λ number below none. no_number number below)
-          (λ number below none. no_number number below) h
+      (λ number below none. no_number number below) h
       (λ x below. global_before h e.0 e.1 h x (omega (arith, le)) below) global_formed e.0 e.2 fits.0)
   global_expression_told h fault.InitialiserType of fails = absurd fails
   global_expression_told h fault.Unsatisfied of fails = absurd fails
@@ -747,10 +747,10 @@ module _ (m : Module) (info : ModuleInfo) (ranges : IsTrue (module_ranges_fit m 
       let es = paired_at function_size_fits m.functions info.functions.items known_sizes.0 h f at in
       let known = known_of info.functions.items h in
       let sized : length f.expressions ≡ length known = eqb-true (length f.expressions) (length es.0) es.2
-          ∙ sym (known_sized m info.functions.items known_fit.0 h es.0 es.1) in
+      ∙ sym (known_sized m info.functions.items known_fit.0 h es.0 es.1) in
       some_then (λ f. function_reason m h f known kind place) (slice_get m.functions h) f at
       (function_told m f known h (omega (arith, slice_get_within m.functions h f at)) sized
-          (placed (function_in_range m) m.functions h f functions_in_range.0 at)
+      (placed (function_in_range m) m.functions h f functions_in_range.0 at)
       (known_formed m info.functions.items known_fit.0 h es.0 es.1) (numbered.functions h f at) kind place of fails)
 
   -- what is told of an entry point's function is told of the entry point
@@ -781,14 +781,14 @@ module _ (m : Module) (info : ModuleInfo) (ranges : IsTrue (module_ranges_fit m 
       let es = paired_at entry_point_size_fits m.entry_points.items info.entry_points.items known_sizes.1 h p at in
       let known = known_of info.entry_points.items h in
       let sized : length p.function.expressions ≡ length known =
-          eqb-true (length p.function.expressions) (length es.0) es.2
-          ∙ sym (known_sized m info.entry_points.items known_fit.1 h es.0 es.1) in
+      eqb-true (length p.function.expressions) (length es.0) es.2
+      ∙ sym (known_sized m info.entry_points.items known_fit.1 h es.0 es.1) in
       some_then (λ p. entry_point_reason m p known kind place) (slice_get m.entry_points.items h) p at
       (sym (ap is_some (entry_reason p known place kind of)) ∙ function_told m p.function known
-          (length m.functions) (omega arith) sized
-          (in_range p (list_all_at (entry_point_in_range m) m.entry_points.items h p functions_in_range.1 at))
+      (length m.functions) (omega arith) sized
+      (in_range p (list_all_at (entry_point_in_range m) m.entry_points.items h p functions_in_range.1 at))
       (known_formed m info.entry_points.items known_fit.1 h es.0 es.1) (numbered.entry_points h p at) kind place
-          of (entry_fails p known place kind of fails))
+      of (entry_fails p known place kind of fails))
     where
       in_range : (p : EntryPoint) → entry_point_in_range m p ≡ true →
           function_in_range m (length m.functions) p.function ≡ true
@@ -799,7 +799,7 @@ module _ (m : Module) (info : ModuleInfo) (ranges : IsTrue (module_ranges_fit m 
           let group = workgroup_fits_32_bits p.workgroup_size in
           let own = function_in_range m (length m.functions) p.function in
           (and_parts group own (and_parts ray (group && own)
-              (and_parts task (ray && (group && own)) (and_parts mesh (task && (ray && (group && own))) fits).1).1).1).1
+          (and_parts task (ray && (group && own)) (and_parts mesh (task && (ray && (group && own))) fits).1).1).1).1
 
   item_told : (at : Item) (kind : Fault) → IsOfTypes kind → ItemFails m info at kind → Told kind at
   item_told item.Module kind of fails = absurd (no_module kind of fails)

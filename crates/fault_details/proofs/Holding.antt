@@ -27,6 +27,7 @@ use Rattle.naga_ir.specs.declared.types.ArraySize.TheVariants as size
 use Rattle.naga_ir.specs.declared.types.TypeInner.{TypeInner}
 use Rattle.naga_ir.specs.declared.types.TypeInner.TheVariants as inner
 use Rattle.naga_ir.specs.declared.expression.SwizzleComponent.{SwizzleComponent}
+use Rattle.module_meaning.specs.acceptance.StatementsFit.{components_pointer}
 use Rattle.module_meaning.specs.TypeIdentity.{vector_number}
 use Rattle.naga_info.specs.declared.info.ModuleInfo.{ModuleInfo}
 use Rattle.naga_info.specs.declared.info.TypeResolution.{TypeResolution}
@@ -71,7 +72,7 @@ use Rattle.fault_details.specs.Reasons.{typeless_reason, unlike, expected_reason
 use Rattle.fault_details.specs.Reasons.{function_reason}
 use Rattle.fault_details.specs.Reasons.{expression_reason, entry_point_reason, order_reason}
 use Rattle.fault_details.specs.Reasons.{variables_reason, module_reason}
-use Rattle.fault_details.specs.Reasons.{made_reason, is_in_class, call_reason, class_wanted}
+use Rattle.fault_details.specs.Reasons.{made_reason, is_in_class, call_reason}
 use Rattle.fault_details.specs.Reasons.{answer_reason}
 use Rattle.fault_details.proofs.ScalarsApart.{signed_apart, unsigned_apart}
 use Rattle.fault_details.specs.declared.words.Counted.{Counted}
@@ -135,13 +136,13 @@ module _ (m : Module) where
       Holds (option_or (need_unless a x) (option_or (need_unless b y) (need_unless c z)))
   three_needs a b c x y z =
       or_holds (IsReason m) (need_unless a x) (option_or (need_unless b y) (need_unless c z)) (need_holds a x)
-          (two_needs b c y z)
+      (two_needs b c y z)
 
   three_numbers : (o p q : Counted) (a b c d e g : ℕ) →
       Holds (option_or (number_reason o a b) (option_or (number_reason p c d) (number_reason q e g)))
   three_numbers o p q a b c d e g =
       or_holds (IsReason m) (number_reason o a b) (option_or (number_reason p c d) (number_reason q e g))
-          (number_holds o a b)
+      (number_holds o a b)
       (or_holds (IsReason m) (number_reason p c d) (number_reason q e g) (number_holds p c d) (number_holds q e g))
 
   -- ---- what is named
@@ -152,7 +153,7 @@ module _ (m : Module) where
   part_holds here count (inner.BindingArray base length) = not_before_holds list.Types here count base
   part_holds here count (inner.Struct members span) =
       first_holds (λ member. not_before list.Types here count member.ty)
-          (λ member. not_before_holds list.Types here count member.ty) members.items
+      (λ member. not_before_holds list.Types here count member.ty) members.items
   part_holds here count _ = tt
 
   size_holds : (overrides : ℕ) (it : ArraySize) → Holds (size_reason overrides it)
@@ -168,7 +169,7 @@ module _ (m : Module) where
   known_holds overrides types (Handle h) = absent_holds list.Types types h
   known_holds overrides types (Value it) =
       or_holds (IsReason m) (part_reason types types it) (length_reason overrides it)
-          (part_holds types types it) (length_holds overrides it)
+      (part_holds types types it) (length_holds overrides it)
 
   name_holds : (arguments locals : ℕ) (e : Expression) → Holds (name_reason m arguments locals e)
   name_holds arguments locals (expression.Constant h) = absent_holds list.Constants (length m.constants) h
@@ -197,7 +198,7 @@ module _ (m : Module) where
   initialiser_holds here (expression.Override h) =
       then_holds (IsReason m) (not_before list.GlobalExpressions here (length m.global_expressions))
       (not_before_holds list.GlobalExpressions here (length m.global_expressions))
-          (option_and_then (λ k. k.init) (slice_get m.overrides h))
+      (option_and_then (λ k. k.init) (slice_get m.overrides h))
   initialiser_holds here _ = tt
 
   emitted_holds : (expressions first end : ℕ) → Holds (emitted_reason expressions first end)
@@ -205,7 +206,7 @@ module _ (m : Module) where
     where
       by : (begins : Bool) → nat_le first expressions ≡ begins → (ends : Bool) → nat_le end expressions ≡ ends →
           Holds (if begins then (if ends then None else Some (Absent list.Expressions (end - 1) expressions))
-              else Some (Absent list.Expressions first expressions))
+          else Some (Absent list.Expressions first expressions))
       by true b true e = tt
       by true b false e = let past : expressions < end = leb-false end expressions e in omega (arith, past)
       by false b ends e = let past : expressions < first = leb-false first expressions b in omega (arith, past)
@@ -227,9 +228,9 @@ module _ (m : Module) where
       or_holds (IsReason m) (first_reason (absent list.Expressions expressions) (own_operands s)) _
       (first_holds (absent list.Expressions expressions) (absent_holds list.Expressions expressions) (own_operands s))
       (or_holds (IsReason m) (option_and_then (absent list.Expressions expressions) (own_result s))
-          (own_name_reason m callees expressions s)
+      (own_name_reason m callees expressions s)
       (then_holds (IsReason m) (absent list.Expressions expressions) (absent_holds list.Expressions expressions)
-          (own_result s))
+      (own_result s))
       (own_name_holds callees expressions s))
 
   -- ---- types
@@ -237,9 +238,9 @@ module _ (m : Module) where
   class_holds : (known : List TypeResolution) (it : TypeClass) (h : ℕ) → Holds (class_reason m.types known it h)
   class_holds known it h =
       then_holds (IsReason m) (λ r. if option_map_or (is_in_class m.types it)
-          (inner_of r m.types) false then None else Some (OtherClass it r))
+      (inner_of r m.types) false then None else Some (OtherClass it r))
       (λ r. unless_holds (IsReason m) (option_map_or (is_in_class m.types it) (inner_of r m.types) false)
-          (OtherClass it r) (λ fails. fails)) (slice_get known h)
+      (OtherClass it r) (λ fails. fails)) (slice_get known h)
 
   unlike_holds : (wanted got : TypeResolution) → Holds (unlike m.types wanted got)
   unlike_holds wanted got = unless_holds (IsReason m) (are_alike m.types got wanted) (OtherType wanted got)
@@ -282,17 +283,17 @@ module _ (m : Module) where
   operand_holds : (known : List TypeResolution) (e : Expression) → Holds (operand_reason m.types known e)
   operand_holds known (expression.Access base index) =
       or_holds (IsReason m) (class_reason m.types known class.Composite base)
-          (class_reason m.types known class.Integer index)
+      (class_reason m.types known class.Integer index)
       (class_holds known class.Composite base) (class_holds known class.Integer index)
   operand_holds known (expression.AccessIndex base index) = then_holds (IsReason m) (index_reason index)
       (index_holds index) _
   operand_holds known (expression.Splat count value) = class_holds known class.Components value
   operand_holds known (expression.Swizzle count vector pattern) =
       or_holds (IsReason m) (class_reason m.types known class.Vector vector)
-          (swizzle_reason m.types known count pattern vector) (class_holds known class.Vector vector)
+      (swizzle_reason m.types known count pattern vector) (class_holds known class.Vector vector)
       (then_holds (IsReason m) (λ r. first_reason (letter_reason m.types r) (take (vector_number count) pattern))
       (λ r. first_holds (letter_reason m.types r) (letter_holds r) (take (vector_number count) pattern))
-          (slice_get known vector))
+      (slice_get known vector))
   operand_holds known (expression.Load pointer) = class_holds known class.Pointer pointer
   operand_holds known (expression.CooperativeLoad columns rows role data_) =
       class_holds known class.ComponentsPointer data_.pointer
@@ -311,13 +312,13 @@ module _ (m : Module) where
   label_types_hold s no_cases = tt
   label_types_hold s (case v b falls cs) =
       or_holds (IsReason m) (label_type_reason s v) (label_types_reason s cs) (label_type_holds s v)
-          (label_types_hold s cs)
+      (label_types_hold s cs)
 
   case_value_holds : (cs : CaseTrees) (it : TypeInner) → Holds (case_value_reason cs it)
   case_value_holds cs (inner.Scalar s) =
       or_holds (IsReason m) (label_types_reason s cs) _ (label_types_hold s cs)
       (three_needs (case_values_differ cs) (has_case_value switch_value.Default cs)
-          (not (last_falls_through false cs)) need.DistinctCaseValues need.Default need.End)
+      (not (last_falls_through false cs)) need.DistinctCaseValues need.Default need.End)
   case_value_holds cs _ = tt
 
   stored_holds : (known : List TypeResolution) (value pointer : ℕ) (wanted : Option TypeResolution) →
@@ -351,8 +352,8 @@ module _ (m : Module) where
       or_holds (IsReason m) _ _ (number_holds _ _ _)
       (or_holds (IsReason m) _ _ (passed_holds known callee.arguments.items arguments)
       (then_holds (IsReason m) (answer_reason callee function f)
-          (λ h. two_needs (is_some callee.result) (is_result (is_result_of function) f h) need.CalleeResult
-          need.OwnResult) outcome))
+      (λ h. two_needs (is_some callee.result) (is_result (is_result_of function) f h) need.CalleeResult
+      need.OwnResult) outcome))
 
   simple_holds : (f : Function) (known : List TypeResolution) (breaks continues : Bool) (s : SimpleStatement) →
       Holds (simple_reason m f known breaks continues s)
@@ -363,18 +364,18 @@ module _ (m : Module) where
       stored_holds known value pointer (known_pointee m.types known pointer)
   simple_holds f known breaks continues (atomic pointer fun value outcome) =
       or_holds (IsReason m) _ _ (class_holds known class.AtomicPointer pointer)
-          (then_holds (IsReason m) _ (λ h. need_holds _ _) outcome)
+      (then_holds (IsReason m) _ (λ h. need_holds _ _) outcome)
   simple_holds f known breaks continues (work_group_uniform_load pointer outcome) = need_holds _ _
   simple_holds f known breaks continues (call function arguments outcome) =
       then_holds (IsReason m) (call_reason m.types known f function arguments outcome)
-          (call_holds f known function arguments outcome) (slice_get m.functions function)
+      (call_holds f known function arguments outcome) (slice_get m.functions function)
   simple_holds f known breaks continues (subgroup_ballot outcome predicate) = need_holds _ _
   simple_holds f known breaks continues (subgroup_gather mode argument outcome) = need_holds _ _
   simple_holds f known breaks continues (subgroup_collective_operation op collective_op argument outcome) =
       need_holds _ _
   simple_holds f known breaks continues s =
-      then_holds (IsReason m) (λ p. class_reason m.types known p.0 p.1) (λ p. class_holds known p.0 p.1)
-          (class_wanted s)
+      then_holds (IsReason m) (class_reason m.types known class.ComponentsPointer)
+      (class_holds known class.ComponentsPointer) (components_pointer s)
 
   own_holds : (f : Function) (known : List TypeResolution) (breaks continues : Bool) (s : StatementTree) →
       Holds (own_reason m f known breaks continues s)
@@ -382,7 +383,7 @@ module _ (m : Module) where
   own_holds f known breaks continues (branch condition accept reject) = class_holds known class.Bool condition
   own_holds f known breaks continues (switch selector cs) =
       or_holds (IsReason m) _ _ (class_holds known class.Selector selector)
-          (then_holds (IsReason m) (case_value_reason cs) (case_value_holds cs) _)
+      (then_holds (IsReason m) (case_value_reason cs) (case_value_holds cs) _)
   own_holds f known breaks continues (loop body continuing break_if) =
       then_holds (IsReason m) (class_reason m.types known class.Bool) (class_holds known class.Bool) break_if
   own_holds f known breaks continues _ = tt
@@ -399,7 +400,7 @@ module _ (m : Module) where
       (init : Option ℕ) → Holds (declared_reason m.types name expressions known kind ty init)
   declared_holds name expressions known fault.Names ty init =
       or_holds (IsReason m) _ _ (absent_holds list.Types (length m.types) ty)
-          (then_holds (IsReason m) (absent name expressions) (absent_holds name expressions) init)
+      (then_holds (IsReason m) (absent name expressions) (absent_holds name expressions) init)
   declared_holds name expressions known fault.InitialiserType ty init =
       then_holds (IsReason m) (type_reason m.types known (Handle ty)) (type_holds known (Handle ty)) init
   declared_holds name expressions known _ ty init = tt
@@ -407,10 +408,10 @@ module _ (m : Module) where
   order_holds : (f : Option Function) (h : ℕ) (e : Expression) → Holds (order_reason m f h e)
   order_holds None h e =
       first_holds (not_before list.GlobalExpressions h (length m.global_expressions))
-          (not_before_holds list.GlobalExpressions h (length m.global_expressions)) (expression_operands e)
+      (not_before_holds list.GlobalExpressions h (length m.global_expressions)) (expression_operands e)
   order_holds (Some f) h e =
       first_holds (not_before list.Expressions h (length f.expressions))
-          (not_before_holds list.Expressions h (length f.expressions)) (expression_operands e)
+      (not_before_holds list.Expressions h (length f.expressions)) (expression_operands e)
 
   expression_holds : (f : Option Function) (known : List TypeResolution) (kind : Fault) (h : ℕ)
       (e : Expression) → Holds (expression_reason m f known kind h e)
@@ -419,7 +420,7 @@ module _ (m : Module) where
   expression_holds f known fault.LaterInitialiser h e = initialiser_holds h e
   expression_holds f known fault.KnownType h e =
       then_holds (IsReason m) (known_reason (length m.overrides) (length m.types))
-          (known_holds (length m.overrides) (length m.types)) (slice_get known h)
+      (known_holds (length m.overrides) (length m.types)) (slice_get known h)
   expression_holds f known fault.OtherType h e = own_type_holds f known h e
   expression_holds f known fault.OperandTypes h e = operand_holds known e
   expression_holds f known _ h e = tt
@@ -428,12 +429,12 @@ module _ (m : Module) where
   whole_holds f known fault.InfoSize = number_holds _ _ _
   whole_holds f known fault.Signature =
       or_holds (IsReason m) _ _ (first_holds (λ a. absent list.Types (length m.types) a.ty)
-          (λ a. absent_holds list.Types (length m.types) a.ty) f.arguments.items)
+      (λ a. absent_holds list.Types (length m.types) a.ty) f.arguments.items)
       (then_holds (IsReason m) (λ answer. absent list.Types (length m.types) answer.ty)
-          (λ answer. absent_holds list.Types (length m.types) answer.ty) f.result)
+      (λ answer. absent_holds list.Types (length m.types) answer.ty) f.result)
   whole_holds f known fault.NamedExpressions =
       first_holds (absent list.Expressions (length f.expressions))
-          (absent_holds list.Expressions (length f.expressions)) _
+      (absent_holds list.Expressions (length f.expressions)) _
   whole_holds f known _ = tt
 
   function_holds : (callees : ℕ) (f : Function) (known : List TypeResolution) (kind : Fault)
@@ -441,22 +442,22 @@ module _ (m : Module) where
   function_holds callees f known kind part.Whole = whole_holds f known kind
   function_holds callees f known kind (part.Local h) =
       then_holds (IsReason m) _ (λ k. declared_holds list.Expressions (length f.expressions) known kind k.ty
-          k.init) (slice_get f.local_variables h)
+      k.init) (slice_get f.local_variables h)
   function_holds callees f known kind (part.Expression h) =
       then_holds (IsReason m) (expression_reason m (Some f) known kind h)
-          (expression_holds (Some f) known kind h) (slice_get f.expressions h)
+      (expression_holds (Some f) known kind h) (slice_get f.expressions h)
   function_holds callees f known kind (part.Statement n) =
       then_holds (IsReason m) (statement_reason m callees f known kind) (statement_holds callees f known kind)
-          (slice_get (text_order f.body) n)
+      (slice_get (text_order f.body) n)
 
   variables_hold : (variables : ℕ) (p : EntryPoint) → Holds (variables_reason variables p)
   variables_hold variables p =
       or_holds (IsReason m) _ _ (then_holds (IsReason m) _
-          (λ k. absent_holds list.GlobalVariables variables k.output_variable) p.mesh_info)
+      (λ k. absent_holds list.GlobalVariables variables k.output_variable) p.mesh_info)
       (or_holds (IsReason m) _ _ (then_holds (IsReason m) (absent list.GlobalVariables variables)
-          (absent_holds list.GlobalVariables variables) p.task_payload)
+      (absent_holds list.GlobalVariables variables) p.task_payload)
       (then_holds (IsReason m) (absent list.GlobalVariables variables)
-          (absent_holds list.GlobalVariables variables) p.incoming_ray_payload))
+      (absent_holds list.GlobalVariables variables) p.incoming_ray_payload))
 
   entry_point_holds : (p : EntryPoint) (known : List TypeResolution) (kind : Fault) (place : FunctionPosition) →
       Holds (entry_point_reason m p known kind place)
@@ -466,16 +467,16 @@ module _ (m : Module) where
   module_holds : (info : ModuleInfo) (kind : Fault) → Holds (module_reason m info kind)
   module_holds info fault.InfoSize =
       three_numbers counted.Functions counted.EntryPoints counted.GlobalExpressions (length m.functions)
-          (length info.functions.items)
+      (length info.functions.items)
       (length m.entry_points.items) (length info.entry_points.items) (length m.global_expressions)
-          (length info.const_expression_types.items)
+      (length info.const_expression_types.items)
   module_holds info fault.SpecialTypes =
       or_holds (IsReason m) _ _ (first_holds (absent list.Types (length m.types))
-          (absent_holds list.Types (length m.types)) _)
+      (absent_holds list.Types (length m.types)) _)
       (or_holds (IsReason m) _ _ (then_holds (IsReason m) (absent list.Types (length m.types))
-          (absent_holds list.Types (length m.types)) m.special_types.external_texture_params)
+      (absent_holds list.Types (length m.types)) m.special_types.external_texture_params)
       (then_holds (IsReason m) (absent list.Types (length m.types)) (absent_holds list.Types (length m.types))
-          m.special_types.external_texture_transfer_function))
+      m.special_types.external_texture_transfer_function))
   module_holds info _ = tt
 
   made_holds : (kind : Fault) (h : ℕ) (it : TypeInner) → Holds (made_reason m kind h it)
@@ -488,22 +489,22 @@ module _ (m : Module) where
   item_holds info kind (item.Type h) = then_holds (IsReason m) (made_reason m kind h) (made_holds kind h) _
   item_holds info kind (item.Constant h) =
       then_holds (IsReason m) _ (λ k. declared_holds list.GlobalExpressions (length m.global_expressions)
-          info.const_expression_types.items kind k.ty (Some k.init)) (slice_get m.constants h)
+      info.const_expression_types.items kind k.ty (Some k.init)) (slice_get m.constants h)
   item_holds info kind (item.Override h) =
       then_holds (IsReason m) _ (λ k. declared_holds list.GlobalExpressions (length m.global_expressions)
-          info.const_expression_types.items kind k.ty k.init) (slice_get m.overrides h)
+      info.const_expression_types.items kind k.ty k.init) (slice_get m.overrides h)
   item_holds info kind (item.GlobalVariable h) =
       then_holds (IsReason m) _ (λ k. declared_holds list.GlobalExpressions (length m.global_expressions)
-          info.const_expression_types.items kind k.ty k.init) (slice_get m.global_variables h)
+      info.const_expression_types.items kind k.ty k.init) (slice_get m.global_variables h)
   item_holds info kind (item.GlobalExpression h) =
       then_holds (IsReason m) (expression_reason m None info.const_expression_types.items kind h)
       (expression_holds None info.const_expression_types.items kind h) (slice_get m.global_expressions h)
   item_holds info kind (item.Function h place) =
       then_holds (IsReason m) _ (λ f. function_holds h f (known_of info.functions.items h) kind place)
-          (slice_get m.functions h)
+      (slice_get m.functions h)
   item_holds info kind (item.EntryPoint h place) =
       then_holds (IsReason m) _ (λ p. entry_point_holds p (known_of info.entry_points.items h) kind place)
-          (slice_get m.entry_points.items h)
+      (slice_get m.entry_points.items h)
 
 pub fault_holds : ReasonsHold
 fault_holds m info u = item_holds m info u.fault u.item

@@ -91,9 +91,9 @@ module _ (types : List Type_) (known : List TypeResolution) where
       ≡ false → IsSome (class_reason types known it h)
   class_told it h k fails =
       some_then (λ r. if option_map_or (is_in_class types it) (inner_of r types) false then None else Some
-          (OtherClass it r)) (slice_get known h) k.0 k.1
+      (OtherClass it r)) (slice_get known h) k.0 k.1
       (some_unless (option_map_or (is_in_class types it) (inner_of k.0 types) false) (OtherClass it k.0)
-          (sym (seen (is_in_class types it) h k) ∙ fails))
+      (sym (seen (is_in_class types it) h k) ∙ fails))
 
   -- a value of another type
   pub type_told : (wanted : TypeResolution) (h : ℕ) → IsKnown h → value_has_type types known h wanted ≡ false →
@@ -101,7 +101,7 @@ module _ (types : List Type_) (known : List TypeResolution) where
   type_told wanted h k fails =
       some_then (unlike types wanted) (slice_get known h) k.0 k.1
       (some_unless (are_alike types k.0 wanted) (OtherType wanted k.0)
-          (sym (ap (λ o. option_map_or (λ r. are_alike types r wanted) o false) k.1) ∙ fails))
+      (sym (ap (λ o. option_map_or (λ r. are_alike types r wanted) o false) k.1) ∙ fails))
 
   -- ---- values that are stored, returned and passed
 
@@ -134,29 +134,29 @@ module _ (types : List Type_) (known : List TypeResolution) where
         let parts = and_parts (nat_lt x n) (all_below n xs) below in
         ⊎_elim
         (λ first. some_first (type_reason types known (Handle a.ty) x) (passed_reason types known arguments xs)
-            (type_told (Handle a.ty) x (there x parts.0) first))
+        (type_told (Handle a.ty) x (there x parts.0) first))
         (λ later. some_second (type_reason types known (Handle a.ty) x) (passed_reason types known arguments xs)
-            (passed_told arguments xs (omega (arith, same)) parts.1 later))
+        (passed_told arguments xs (omega (arith, same)) parts.1 later))
         (and_cases (value_has_type types known x (Handle a.ty)) (are_passed types known arguments xs) fails)
 
     -- another number of values is passed, or one of another type; what else is told comes after it
     pub call_told : (arguments : List FunctionArgument) (xs : List ℕ) (further : Option Reason) → all_below n xs
         ≡ true → are_passed types known arguments xs ≡ false →
         IsSome (option_or (number_reason counted.Arguments (length arguments) (length xs))
-            (option_or (passed_reason types known arguments xs) further))
+        (option_or (passed_reason types known arguments xs) further))
     call_told arguments xs further below fails = by (length arguments == length xs) refl
       where
         by : (same : Bool) → (length arguments == length xs) ≡ same →
             IsSome (option_or (number_reason counted.Arguments (length arguments) (length xs))
-                (option_or (passed_reason types known arguments xs) further))
+            (option_or (passed_reason types known arguments xs) further))
         by true same =
             some_second (number_reason counted.Arguments (length arguments) (length xs))
-                (option_or (passed_reason types known arguments xs) further)
+            (option_or (passed_reason types known arguments xs) further)
             (some_first (passed_reason types known arguments xs) further
-                (passed_told arguments xs (eqb-true (length arguments) (length xs) same) below fails))
+            (passed_told arguments xs (eqb-true (length arguments) (length xs) same) below fails))
         by false other =
             some_first (number_reason counted.Arguments (length arguments) (length xs))
-                (option_or (passed_reason types known arguments xs) further)
+            (option_or (passed_reason types known arguments xs) further)
             (some_unless (length arguments == length xs) _ other)
 
   -- ---- switches
@@ -192,10 +192,10 @@ module _ (types : List Type_) (known : List TypeResolution) where
       (λ d. some_second default end (need_told _ _ d))
       (and_cases (has_case_value switch_value.Default cs) (not (last_falls_through false cs)) last)))
       (and_cases (case_values_differ cs) (has_case_value switch_value.Default cs
-          && not (last_falls_through false cs)) others)))
+      && not (last_falls_through false cs)) others)))
       (and_cases (case_values_are_of s cs)
-          (case_values_differ cs && (has_case_value switch_value.Default cs
-          && not (last_falls_through false cs))) fails)
+      (case_values_differ cs && (has_case_value switch_value.Default cs
+      && not (last_falls_through false cs))) fails)
 
   pub switch_told : (selector : ℕ) (cs : CaseTrees) → IsKnown selector → is_selection types known selector cs
       ≡ false → IsSome (switch_reason types known selector cs)
@@ -206,8 +206,8 @@ module _ (types : List Type_) (known : List TypeResolution) where
           IsSome (switch_reason types known selector cs)
       first o e other =
           some_first (class_reason types known class.Selector selector) _
-              (class_told class.Selector selector k
-              (ap (λ o. option_map_or (is_in_class types class.Selector) o false) e ∙ other))
+          (class_told class.Selector selector k
+          (ap (λ o. option_map_or (is_in_class types class.Selector) o false) e ∙ other))
 
       scalar : (s : Scalar) → known_inner types known selector ≡ Some (inner.Scalar s) →
           (selects s && case_values_fit s cs) ≡ false → IsSome (switch_reason types known selector cs)
@@ -215,8 +215,8 @@ module _ (types : List Type_) (known : List TypeResolution) where
           ⊎_elim
           (λ other. first (Some (inner.Scalar s)) e other)
           (λ labels. some_second (class_reason types known class.Selector selector) _
-              (some_then (case_value_reason cs) (known_inner types known selector) (inner.Scalar s) e
-              (labels_told s cs labels)))
+          (some_then (case_value_reason cs) (known_inner types known selector) (inner.Scalar s) e
+          (labels_told s cs labels)))
           (and_cases (selects s) (case_values_fit s cs) fails)
 
       one : (it : TypeInner) → known_inner types known selector ≡ Some it → selection_fits cs it ≡ false →

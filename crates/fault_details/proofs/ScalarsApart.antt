@@ -17,7 +17,7 @@ use Rattle.module_meaning.specs.TypeIdentity.{kind_number, level}
 -- Numbers of scalars begin with 0 and the kind's, and those of a type without a form with another one.
 apart : (a b w : ℕ) (unspelled : List ℕ) → (a == b) ≡ false → (formed : Bool) →
     bytes_eq (level 0 a 4 0 0 0) (unwrap_or (if formed then Some (level 0 b w 0 0 0) else None)
-        (32 ∷ unspelled)) ≡ false
+    (32 ∷ unspelled)) ≡ false
 apart a b w unspelled differ true = rw differ refl
 apart a b w unspelled differ false = refl
 

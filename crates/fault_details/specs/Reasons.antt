@@ -17,7 +17,7 @@ use Rattle.indexmap.specs.IndexMap.{keys, values}
 use Rattle.naga_ir.specs.contracts.expression.SwizzleComponent.{the_type as letter_type}
 use Rattle.naga_ir.specs.Operands.{expression_operands, own_operands, own_result}
 use Rattle.naga_ir.specs.StatementTree.{SimpleStatement, emit, break, continue, return, store}
-use Rattle.naga_ir.specs.StatementTree.{atomic, call, cooperative_store, subgroup_ballot}
+use Rattle.naga_ir.specs.StatementTree.{atomic, call, subgroup_ballot}
 use Rattle.naga_ir.specs.StatementTree.{subgroup_collective_operation, subgroup_gather}
 use Rattle.naga_ir.specs.StatementTree.{work_group_uniform_load}
 use Rattle.naga_ir.specs.StatementTree.{StatementTree, simple, branch, switch, loop, CaseTrees}
@@ -61,7 +61,8 @@ use Rattle.module_meaning.specs.acceptance.ExpressionTypes.{Nothing}
 use Rattle.module_meaning.specs.acceptance.ExpressionTypes.{is_bool, expected_type}
 use Rattle.module_meaning.specs.acceptance.OperandDemands.{is_components, is_integer, is_pointer}
 use Rattle.module_meaning.specs.acceptance.OperandDemands.{points_to_components}
-use Rattle.module_meaning.specs.acceptance.StatementsFit.{has_case_value, is_atomic_result}
+use Rattle.module_meaning.specs.acceptance.StatementsFit.{components_pointer, has_case_value}
+use Rattle.module_meaning.specs.acceptance.StatementsFit.{is_atomic_result}
 use Rattle.module_meaning.specs.acceptance.StatementsFit.{is_ballot_result}
 use Rattle.module_meaning.specs.acceptance.StatementsFit.{is_result, is_result_of}
 use Rattle.module_meaning.specs.acceptance.StatementsFit.{is_subgroup_result}
@@ -409,11 +410,6 @@ call_reason types known f function arguments outcome callee =
 abbrev pub result_reason : (Expression → Bool) → Function → (outcome : ℕ) → Option Reason
 result_reason test f outcome = need_unless (is_result test f outcome) need.OwnResult
 
--- the type that a statement wants of one of its operands, where it wants nothing else
-abbrev pub class_wanted : SimpleStatement → Option (TypeClass × ℕ)
-class_wanted (cooperative_store target place) = Some (class.ComponentsPointer, place.pointer)
-class_wanted _ = None
-
 abbrev pub simple_reason :
     Module → Function → (known : List TypeResolution) → (breaks continues : Bool) →
     SimpleStatement → Option Reason
@@ -439,7 +435,7 @@ simple_reason m f known breaks continues
     (subgroup_collective_operation op collective_op argument outcome) =
     result_reason is_subgroup_result f outcome
 simple_reason m f known breaks continues s =
-    option_and_then (λ p. class_reason m.types known p.0 p.1) (class_wanted s)
+    option_and_then (class_reason m.types known class.ComponentsPointer) (components_pointer s)
 
 -- a statement by itself, its blocks left out, does not get what it wants
 abbrev pub own_reason :

@@ -23,8 +23,8 @@ use naga_acceptance::Fault;
 use naga_acceptance::expression_types::pointee_at;
 use naga_acceptance::parts::{InferredType, Known, known_inner, known_type};
 use naga_acceptance::statements::{
-    case_values_differ, has_case_value, is_atomic_result, is_ballot_result, is_call_result,
-    is_subgroup_result, is_uniform_load_result, last_falls_through,
+    case_values_differ, components_pointer, has_case_value, is_atomic_result, is_ballot_result,
+    is_call_result, is_subgroup_result, is_uniform_load_result, last_falls_through,
 };
 use naga_ir::{
     Expression, Function, FunctionArgument, FunctionResult, Handle, Module, Scalar, ScalarKind,
@@ -357,10 +357,10 @@ fn own_reason<'a>(
             result: outcome,
             ..
         } => subgroup_reason(function, *outcome),
-        Statement::CooperativeStore { data_, .. } => {
-            class_reason(types, known, TypeClass::ComponentsPointer, data_.pointer)
-        }
-        _ => None,
+        _ => match components_pointer(statement) {
+            Some(pointer) => class_reason(types, known, TypeClass::ComponentsPointer, pointer),
+            None => None,
+        },
     }
 }
 

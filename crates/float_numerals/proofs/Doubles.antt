@@ -70,7 +70,7 @@ scientific_told f negative ds n (negsuc e) value some = at (ltb m (suc e)) refl
     at false is =
         let whole : length (drop 1 ds) ≡ suc e + (m - suc e) = omega (arith, long, ltb-false m (suc e) is) in
         (λ i. round f negative (same i * 10 ^ (m - suc e)) (10 ^ whole i))
-            ∙ across_told f negative n (m - suc e) (suc e)
+        ∙ across_told f negative n (m - suc e) (suc e)
 
 -- without one
 mul_ten : (k : ℕ) → k * 10 + digit_value 48 ≡ k * 10
@@ -82,11 +82,11 @@ pointed_told : (f : Format) (negative : Bool) (ds : List ℕ) (n : ℕ) (e : ℤ
 pointed_told f negative ds n (pos e) is value some =
     let front = ds ++ replicate e 48 in
     let number : digits_value 10 front ≡ n * 10 ^ e = after_append 0 ds (replicate e 48)
-        ∙ ap (λ k. digits_value_after 10 k (replicate e 48)) value ∙ zeros_after n e in
+    ∙ ap (λ k. digits_value_after 10 k (replicate e 48)) value ∙ zeros_after n e in
     let longer : digits_value 10 (front ++ 48 ∷ []) ≡ n * 10 ^ e * 10 = after_append 0 front (48 ∷ [])
-        ∙ ap (λ k. k * 10 + digit_value 48) number ∙ mul_ten (n * 10 ^ e) in
+    ∙ ap (λ k. k * 10 + digit_value 48) number ∙ mul_ten (n * 10 ^ e) in
     round_same f negative (digits_value 10 (front ++ 48 ∷ []) * 10 ^ 0) (10 ^ 1) (n * 10 ^ e) 1 (omega arith)
-        (omega arith) (omega (arith, longer))
+    (omega arith) (omega (arith, longer))
 pointed_told f negative ds n (negsuc e) is value some =
     plain_told f negative n (negsuc e) (whole_of ds (negsuc e)) (fraction_of ds (negsuc e))
     (split ds n (negsuc e) is some value)
@@ -94,7 +94,7 @@ pointed_told f negative ds n (negsuc e) is value some =
 either_told : (f : Format) (negative : Bool) (ds : List ℕ) (n : ℕ) (e : ℤ) (b : Bool) → AllDigits 10 ds →
     digits_value 10 ds ≡ n → 0 < length ds →
     told f negative (cond b (whole_of ds e) (take 1 ds)) (cond b (some_fraction_of ds e) (drop 1 ds))
-        (cond b (pos 0) (leading_power ds e)) ≡ nearest_to_decimal f negative n e
+    (cond b (pos 0) (leading_power ds e)) ≡ nearest_to_decimal f negative n e
 either_told f negative ds n e true is value some = pointed_told f negative ds n e is value some
 either_told f negative ds n e false is value some = scientific_told f negative ds n e value some
 
@@ -133,7 +133,7 @@ pointed_written ds n (negsuc e) is value some =
 either_written : (ds : List ℕ) (n : ℕ) (e : ℤ) (b : Bool) → AllDigits 10 ds → digits_value 10 ds ≡ n →
     0 < length ds → nat_abs e ≤ 2 ^ 63 → length ds ≤ 20 →
     IsWritten (cond b (whole_of ds e) (take 1 ds)) (cond b (some_fraction_of ds e) (drop 1 ds))
-        (cond b (pos 0) (leading_power ds e))
+    (cond b (pos 0) (leading_power ds e))
 either_written ds n e true is value some small few = pointed_written ds n e is value some
 either_written ds n e false is value some small few = record {
   some = omega (arith, some, length-take-le 1 ds some);
@@ -155,5 +155,5 @@ pub double_read : (f : Format) (d : Decimal) → d.digits < 2 ^ 64 → nat_abs d
 double_read f d fits small =
     let w = double_written d fits small in
     text_read f d.negative (double_whole d) (double_fraction d) (double_exponent d) w.small w.whole_digits
-        w.fraction_digits w.some
+    w.fraction_digits w.some
     ∙ ap Some (double_told f d fits)

@@ -25,7 +25,7 @@ small_half num den some small =
     let less : n < den = omega (arith, some, small) in
     let one : dropped n den ≡ 0 = none_dropped n den less in
     let near : closest n (den * 2 ^ 0) ≤ 0 = closest_mono n (den * 2 ^ 0) 1 3 (omega (arith, some))
-        (omega arith) (omega (arith, small)) in
+    (omega arith) (omega (arith, small)) in
     let is : rounded n den 0 ≡ 0 = omega (arith, near) in
     ap (λ k. min 31744 (rounded n den k)) one ∙ ap (λ r. min 31744 r) is
 
@@ -45,7 +45,7 @@ great_half num great =
     let n = num * 2 ^ 24 in
     let same : n / 1 ≡ n = div-one n in
     let short : size (n / 1) ≤ 41 → ⊥ =
-        λ h. (let m = pow_mono h in let s = size-lt (n / 1) in omega (arith, m, s, same, great)) in
+    λ h. (let m = pow_mono h in let s = size-lt (n / 1) in omega (arith, m, s, same, great)) in
     let far : 31744 ≤ rounded n 1 (dropped n 1) = omega (arith, short) in
     min-eq_left far
 
@@ -70,7 +70,7 @@ unit_fits n den (suc k) small fits some is =
     let reached : 2 ^ (k + 11) ≤ n / den = size_reaches (n / den) (k + 11) (omega (arith, is)) in
     let low : 2 ^ (k + 11) * den ≤ n = (le-div_iff_mul-le some).0 reached in
     let fewer : 2 ^ suc k * den ≤ 2 ^ (k + 11) * den =
-        mul-le-mul_right den (pow_mono {i = suc k} {j = k + 11} (omega arith)) in
+    mul-le-mul_right den (pow_mono {i = suc k} {j = k + 11} (omega arith)) in
     let turned : den * 2 ^ suc k ≡ 2 ^ suc k * den = mul_comm den (2 ^ suc k) in
     omega (arith, low, fewer, turned, small)
 
@@ -86,7 +86,7 @@ pub tens_have_room : (digits places power : ℕ) → digits < 2 ^ 64 → places 
 tens_have_room digits places power fits few is =
     let short : 10 ^ places ≤ 10 ^ 5 = ten_mono places 5 few in
     let at : digits * power ≤ 2 ^ 64 * 10 ^ 5 = mul-le-mul {n₁ = digits} {m₁ = power} {n₂ = 2 ^ 64}
-        {m₂ = 10 ^ 5} (omega (arith, fits)) (omega (arith, short, is)) in
+    {m₂ = 10 ^ 5} (omega (arith, fits)) (omega (arith, short, is)) in
     omega (arith, at)
 
 pub few_tens : (places : ℕ) → places ≤ 38 → 10 ^ places < 2 ^ 127

@@ -78,7 +78,7 @@ pub record IsSplit (n : ℕ) (e : ℤ) (whole fraction : List ℕ) : Type 0 wher
 within : (ds : List ℕ) (n e : ℕ) (b : Bool) → nat_lt (suc e) (length ds) ≡ b → AllDigits 10 ds →
     digits_value 10 ds ≡ n →
     IsSplit n (negsuc e) (cond b (take (length ds - suc e) ds) (48 ∷ []))
-        (cond b (drop (length ds - suc e) ds) (replicate (suc e - length ds) 48 ++ ds))
+    (cond b (drop (length ds - suc e) ds) (replicate (suc e - length ds) 48 ++ ds))
 within ds n e true less is value =
     let few : suc e < length ds = ltb-true (suc e) (length ds) less in
     let at = length ds - suc e in
@@ -97,9 +97,9 @@ within ds n e false less is value =
     let zeros = suc e - length ds in
     let leading : digits_value_after 10 0 (replicate zeros 48) ≡ 0 = zeros_after 0 zeros ∙ zero-mul (10 ^ zeros) in
     let same : digits_value 10 ((48 ∷ []) ++ (replicate zeros 48 ++ ds)) ≡ n =
-        after_append 0 (replicate zeros 48) ds ∙ ap (λ k. digits_value_after 10 k ds) leading ∙ value in
+    after_append 0 (replicate zeros 48) ds ∙ ap (λ k. digits_value_after 10 k ds) leading ∙ value in
     let long : length (replicate zeros 48 ++ ds) ≡ suc e = length-append (replicate zeros 48) ds
-        ∙ omega (arith, length-replicate {A = ℕ} zeros 48, many) in
+    ∙ omega (arith, length-replicate {A = ℕ} zeros 48, many) in
     record {
       some = omega arith;
       whole_digits = (omega arith, tt);
@@ -112,8 +112,8 @@ pub split : (ds : List ℕ) (n : ℕ) (e : ℤ) → AllDigits 10 ds → 0 < leng
     IsSplit n e (whole_of ds e) (fraction_of ds e)
 split ds n (pos e) is some value =
     let same : digits_value 10 ((ds ++ replicate e 48) ++ []) ≡ n * 10 ^ e =
-        ap (digits_value 10) (append-nil (ds ++ replicate e 48)) ∙ after_append 0 ds (replicate e 48)
-        ∙ ap (λ k. digits_value_after 10 k (replicate e 48)) value ∙ zeros_after n e in
+    ap (digits_value 10) (append-nil (ds ++ replicate e 48)) ∙ after_append 0 ds (replicate e 48)
+    ∙ ap (λ k. digits_value_after 10 k (replicate e 48)) value ∙ zeros_after n e in
     record {
       some = omega (arith, some, length-append ds (replicate e 48));
       whole_digits = both_digits ds (replicate e 48) is (zeros_digits e);
@@ -176,14 +176,14 @@ told_parts f negative whole fraction down exponent =
 
 parts_read : (f : Format) (negative : Bool) (whole fraction : List ℕ) (down : Bool) (exponent : List ℕ) →
     AllDigits 10 whole → AllDigits 10 fraction → AllDigits 10 exponent → (exponent ≡ [] → down ≡ false) →
-        0 < length whole →
+    0 < length whole →
     parse_float f (sign_text negative ++ (whole ++ (fraction_text fraction ++ power_text down exponent)))
-        ≡ Some (told_parts f negative whole fraction down exponent)
+    ≡ Some (told_parts f negative whole fraction down exponent)
 parts_read f negative whole [] down exponent p q r up some =
     parse_float-text_of f negative (parts whole [] down exponent) (formed whole [] down exponent p q r up) some
 parts_read f negative whole (b ∷ ds) down exponent p q r up some =
     parse_float-text_of f negative (parts whole (b ∷ ds) down exponent)
-        (formed whole (b ∷ ds) down exponent p q r up) some
+    (formed whole (b ∷ ds) down exponent p q r up) some
 
 -- an exponent that is written
 power_is : (down : Bool) (exponent : List ℕ) → 0 < length exponent → power_text down exponent
@@ -195,33 +195,33 @@ written_power : (f : Format) (negative : Bool) (whole fraction : List ℕ) (down
     AllDigits 10 whole → AllDigits 10 fraction → 0 < length whole →
     parse_float f (sign_text negative ++ (whole ++ (fraction_text fraction ++ (101 ∷ (sign_text down ++ decimal n)))))
     ≡ Some (round f negative (digits_value 10 (whole ++ fraction) * 10 ^ cond down 0 n)
-        (10 ^ (length fraction + cond down n 0)))
+    (10 ^ (length fraction + cond down n 0)))
 written_power f negative whole fraction down n fits p q some =
     let own = decimal_is_IsNumeral n fits in
     let longer : decimal n ≡ [] → ⊥ = λ e. (let none : length (decimal n)
-        ≡ 0 = ap length e in omega (arith, none, own.0.0)) in
+    ≡ 0 = ap length e in omega (arith, none, own.0.0)) in
     ap (λ t. parse_float f (sign_text negative ++ (whole ++ (fraction_text fraction ++ t))))
-        (sym (power_is down (decimal n) own.0.0))
+    (sym (power_is down (decimal n) own.0.0))
     ∙ parts_read f negative whole fraction down (decimal n) p q own.0.1 (λ e. absurd (longer e)) some
     ∙ ap (λ k. Some (round f negative (digits_value 10 (whole ++ fraction) * 10 ^ cond down 0 k)
-        (10 ^ (length fraction + cond down k 0)))) own.1
+    (10 ^ (length fraction + cond down k 0)))) own.1
 
 pub text_read : (f : Format) (negative : Bool) (whole fraction : List ℕ) (e : ℤ) → nat_abs e < 2 ^ 64 →
     AllDigits 10 whole → AllDigits 10 fraction → 0 < length whole →
     parse_float f (sign_text negative ++ (whole ++ (fraction_text fraction ++ exponent_text e)))
-        ≡ Some (told f negative whole fraction e)
+    ≡ Some (told f negative whole fraction e)
 text_read f negative whole fraction (pos zero) small p q some =
     parts_read f negative whole fraction false [] p q tt (λ e. refl) some
     ∙ ap (λ k. Some (round f negative (digits_value 10 (whole ++ fraction) * 10 ^ 0) (10 ^ k)))
-        {x = length fraction + 0} {y = length fraction} (omega arith)
+    {x = length fraction + 0} {y = length fraction} (omega arith)
 text_read f negative whole fraction (pos (suc n)) small p q some =
     written_power f negative whole fraction false (suc n) small p q some
     ∙ ap (λ k. Some (round f negative (digits_value 10 (whole ++ fraction) * 10 ^ suc n) (10 ^ k)))
-        {x = length fraction + 0} {y = length fraction} (omega arith)
+    {x = length fraction + 0} {y = length fraction} (omega arith)
 text_read f negative whole fraction (negsuc n) small p q some =
     written_power f negative whole fraction true (suc n) small p q some
     ∙ ap (λ k. Some (round f negative k (10 ^ (length fraction + suc n))))
-        (mul-one (digits_value 10 (whole ++ fraction)))
+    (mul-one (digits_value 10 (whole ++ fraction)))
 
 -- what the digits of a numeral tell
 
@@ -255,7 +255,7 @@ pub numeral_read : (f : Format) (d : Decimal) → d.digits < 2 ^ 64 → parse_fl
 numeral_read f d fits =
     let s = decimal_split d fits in
     ap (λ t. parse_float f (sign_text d.negative ++ (whole_digits d ++ t)))
-        (sym (append-nil (fraction_text (fraction_digits d))))
+    (sym (append-nil (fraction_text (fraction_digits d))))
     ∙ text_read f d.negative (whole_digits d) (fraction_digits d) (pos 0) (omega arith) s.whole_digits
-        s.fraction_digits s.some
+    s.fraction_digits s.some
     ∙ ap Some (told_is f d fits)

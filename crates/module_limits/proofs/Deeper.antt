@@ -24,34 +24,34 @@ same_greatest f g (h ∷ hs) same =
 first_deeper : {X : Type 0} (parts : X → List ℕ) (depths : List ℕ) (x : X) (xs : List X) →
     All (λ part. part < length depths) (parts x)
     → get_or (fold (with_depth parts) depths (x ∷ xs)) (length depths) 0
-        ≡ suc (deepest (fold (with_depth parts) depths (x ∷ xs)) (parts x))
+    ≡ suc (deepest (fold (with_depth parts) depths (x ∷ xs)) (parts x))
 first_deeper parts depths x xs below =
     let own = suc (deepest depths (parts x)) ∷ [] in
     kept parts (depths ++ own) xs (length depths) (omega (arith, length-append depths own))
     ∙ get_or-append_seam depths (suc (deepest depths (parts x))) [] 0
     ∙ ap suc (same_greatest (λ h. get_or depths h 0) (λ h. get_or (fold (with_depth parts) depths (x ∷ xs)) h 0)
-        (parts x) (λ k d within. sym (kept parts depths (x ∷ xs) (get_or (parts x) k d) (below k d within))))
+    (parts x) (λ k d within. sym (kept parts depths (x ∷ xs) (get_or (parts x) k d) (below k d within))))
 
 one_deeper : {X : Type 0} (parts : X → List ℕ) (depths : List ℕ) (xs : List X) (h : ℕ) (x : X) → slice_get xs h
     ≡ Some x → All (λ part. part < length depths + h) (parts x)
     → get_or (fold (with_depth parts) depths xs) (length depths + h) 0
-        ≡ suc (deepest (fold (with_depth parts) depths xs) (parts x))
+    ≡ suc (deepest (fold (with_depth parts) depths xs) (parts x))
 one_deeper parts depths [] h x is below = absurd cc
 one_deeper {X} parts depths (y ∷ ys) zero x is below =
     let P : X → Type 0 = λ z. All (λ part. part < length depths + 0) (parts z) →
-        get_or (fold (with_depth parts) depths (y ∷ ys)) (length depths + 0) 0
-        ≡ suc (deepest (fold (with_depth parts) depths (y ∷ ys)) (parts z)) in
+    get_or (fold (with_depth parts) depths (y ∷ ys)) (length depths + 0) 0
+    ≡ suc (deepest (fold (with_depth parts) depths (y ∷ ys)) (parts z)) in
     subst P (ap (λ o. unwrap_or o y) is)
-        (λ b. rw add-zero (first_deeper parts depths y ys (λ k d within. omega (arith, b k d within)))) below
+    (λ b. rw add-zero (first_deeper parts depths y ys (λ k d within. omega (arith, b k d within)))) below
 one_deeper parts depths (y ∷ ys) (suc h) x is below =
     let own = suc (deepest depths (parts y)) ∷ [] in
     let longer : length (depths ++ own) + h ≡ length depths + suc h = omega (arith, length-append depths own) in
     let P : ℕ → Type 0 = λ n. get_or (fold (with_depth parts) (depths ++ own) ys) n 0
-        ≡ suc (deepest (fold (with_depth parts) (depths ++ own) ys) (parts x)) in
+    ≡ suc (deepest (fold (with_depth parts) (depths ++ own) ys) (parts x)) in
     subst P longer (one_deeper parts (depths ++ own) ys h x is (λ k d within. omega (arith, longer, below k d within)))
 
 pub are_one_deeper : {X : Type 0} (parts : X → List ℕ) (xs : List X) → AreOneDeeper parts xs
 are_one_deeper parts xs h x is below =
     let P : ℕ → Type 0 = λ n. get_or (fold (with_depth parts) [] xs) n 0
-        ≡ suc (deepest (fold (with_depth parts) [] xs) (parts x)) in
+    ≡ suc (deepest (fold (with_depth parts) [] xs) (parts x)) in
     subst P (zero-add h) (one_deeper parts [] xs h x is (λ k d within. omega (arith, zero-add h, below k d within)))

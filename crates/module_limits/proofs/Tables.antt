@@ -14,7 +14,7 @@ pub begins : {X : Type 0} (parts : X → List ℕ) (xs : List X) (items : List �
     → fold (with_depth parts) items (map (λ p. p.1) pairs) ≡ depths_of parts xs
 begins parts xs items pairs none all =
     (λ i. fold (with_depth parts) (none i) (map (λ p. p.1) (all i))) ∙ ap (λ ys. fold (with_depth parts) [] ys)
-        (items_of_pairs 0 xs)
+    (items_of_pairs 0 xs)
 
 pub begins_within : (items : List ℕ) (levels : ℕ) → items ≡ [] → greatest items ≤ levels
 begins_within items levels none =
@@ -24,7 +24,7 @@ pub goes_on : {X : Type 0} (parts : X → List ℕ) (items new : List ℕ) (deep
     (pairs left : List (ℕ × X)) (all : List ℕ) → new ≡ items ++ (deep + 1) ∷ [] →
     deep ≡ deepest items (parts x) → pairs ≡ (h, x) ∷ left
     → fold (with_depth parts) items (map (λ p. p.1) pairs) ≡ all →
-        fold (with_depth parts) new (map (λ p. p.1) left) ≡ all
+    fold (with_depth parts) new (map (λ p. p.1) left) ≡ all
 goes_on parts items new deep h x pairs left all is own steps before =
     let one : deep + 1 ≡ suc (deepest items (parts x)) = omega (arith, own) in
     ap (λ ds. fold (with_depth parts) ds (map (λ p. p.1) left)) (is ∙ ap (λ d. items ++ d ∷ []) one)
@@ -43,7 +43,13 @@ pub stops : {X : Type 0} (parts : X → List ℕ) (items : List ℕ) (deep level
 stops parts items deep levels h x pairs left all own steps before more =
     let longer = items ++ suc (deepest items (parts x)) ∷ [] in
     let whole : fold (with_depth parts) longer (map (λ p. p.1) left) ≡ all =
-        ap (λ ps. fold (with_depth parts) items (map (λ p. p.1) ps)) (sym steps) ∙ before in
+    ap (λ ps. fold (with_depth parts) items (map (λ p. p.1) ps)) (sym steps) ∙ before in
     sym (lt-leb (greatest all) levels
-    (omega (arith, own, more, ap greatest whole, deeper parts longer (map (λ p. p.1) left),
-        greatest_append items (suc (deepest items (parts x)) ∷ []))))
+    (omega (
+      arith,
+      own,
+      more,
+      ap greatest whole,
+      deeper parts longer (map (λ p. p.1) left),
+      greatest_append items (suc (deepest items (parts x)) ∷ []),
+    )))

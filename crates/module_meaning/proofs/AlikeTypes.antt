@@ -45,7 +45,7 @@ image_plain : (dim : ImageDimension) (arrayed : Bool) (c : ImageClass) → begin
 image_plain dim arrayed (class.Sampled kind multi) =
     if_either begins_plain (is_some (scalar_word (record { kind = kind; width = 4 })))
     (Some (level 9 (dimension_number dim) (truth_number arrayed) 0 (kind_number kind) (truth_number multi)))
-        None refl refl
+    None refl refl
 image_plain dim arrayed _ = refl
 
 module _ (f : ℕ → Option (List ℕ)) where

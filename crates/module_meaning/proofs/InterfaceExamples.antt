@@ -119,7 +119,7 @@ module _ (e : ir_entry_point.EntryPoint) where
 
   mesh_stage : Tell
       (worked.worded_attribute attributes.Mesh "out" ∷ WorkgroupSize 8 1 1
-          ∷ worked.worded_attribute attributes.Payload "load" ∷ [])
+      ∷ worked.worded_attribute attributes.Payload "load" ∷ [])
       (of_stage stages.Mesh)
   mesh_stage = refl
 
@@ -159,7 +159,7 @@ module _ (e : ir_entry_point.EntryPoint) where
 
   other_output : Tell
       (worked.worded_attribute attributes.Mesh "load" ∷ WorkgroupSize 8 1 1
-          ∷ worked.worded_attribute attributes.Payload "load" ∷ [])
+      ∷ worked.worded_attribute attributes.Payload "load" ∷ [])
       (of_stage stages.Mesh) → ⊥
   other_output = differ (puts_out (codes "load")) _ _ refl refl
 
@@ -455,8 +455,10 @@ module _ (other : ir_module.Module) (info : ModuleInfo) (label : String Global)
     struct_left_out = differ (λ i. length i.structs == 1) _ _ refl refl
 
     external_struct_declared : another
-        (record text { structs = s two_numbers ∷ output position ∷ worked.struct "Params"
-        (worked.member [] "pos" u32 ∷ []) ∷ [] })
+        (record text {
+          structs = s two_numbers ∷ output position ∷ worked.struct "Params"
+              (worked.member [] "pos" u32 ∷ []) ∷ [];
+        })
     unfolding type_segments layout_at
     external_struct_declared = differ (λ i. length i.structs == 3) _ _ refl refl
 
@@ -469,8 +471,10 @@ module _ (other : ir_module.Module) (info : ModuleInfo) (label : String Global)
     other_value = differ (first_value (λ v. same_integer_as 8 v)) _ _ refl refl
 
     constant_added : another
-        (record text { constants = worked.constant "const_i32" i32 (worked.integer 7) ∷ worked.constant "N" i32
-        (worked.integer 7) ∷ [] })
+        (record text {
+          constants = worked.constant "const_i32" i32 (worked.integer 7) ∷ worked.constant "N" i32
+              (worked.integer 7) ∷ [];
+        })
     unfolding type_segments layout_at
     constant_added = differ (λ i. length i.constants == 2) _ _ refl refl
 
@@ -496,8 +500,10 @@ module _ (other : ir_module.Module) (info : ModuleInfo) (label : String Global)
 
     -- its initialiser counts by its value under the values of overrides
     override_named : another
-        (record text { overrides = worked.override (id 3 ∷ []) "override_type" u32 None
-        ∷ worked.override [] "depth" i32 (Some (worked.name "override_type")) ∷ [] })
+        (record text {
+          overrides = worked.override (id 3 ∷ []) "override_type" u32 None
+              ∷ worked.override [] "depth" i32 (Some (worked.name "override_type")) ∷ [];
+        })
     unfolding type_segments layout_at
     override_named =
         differ (λ i. passes (λ o. option_map_or (λ value. option_map_or (same_integer_as 2) value false)
@@ -551,8 +557,10 @@ module _ (other : ir_module.Module) (info : ModuleInfo) (label : String Global)
 
     -- a function with a local of another type
     other_local : another
-        (record text { functions = worked.function "f" (worked.parameter "x" i32 ∷ []) (worked.gives "i32")
-        (worked.local "a" i32 None ∷ []) (Switch (worked.name "x") (all_cases 2 after) ∷ []) ∷ [] })
+        (record text {
+          functions = worked.function "f" (worked.parameter "x" i32 ∷ []) (worked.gives "i32")
+              (worked.local "a" i32 None ∷ []) (Switch (worked.name "x") (all_cases 2 after) ∷ []) ∷ [];
+        })
     unfolding type_segments layout_at
     other_local = differ (λ i. passes (λ g. passes (bytes_eq (codes "i32")) 0 g.locals) 0 i.functions) _ _ refl refl
 
@@ -571,14 +579,18 @@ module _ (other : ir_module.Module) (info : ModuleInfo) (label : String Global)
     other_case_value = differ (case_values_pass (passes (is_signed (negsuc 2)) 1) 0) _ _ refl refl
 
     other_case_value_type : another
-        (record text { functions = selecting
-        (Case (MoreCaseValues (UnsignedCase 1) (LastCaseValue (SignedCase true 2))) within after) ∷ [] })
+        (record text {
+          functions = selecting
+              (Case (MoreCaseValues (UnsignedCase 1) (LastCaseValue (SignedCase true 2))) within after) ∷ [];
+        })
     unfolding type_segments layout_at
     other_case_value_type e = differ (case_values_pass (passes (is_signed (pos 1)) 0) 0) _ _ refl refl (sym e)
 
     inner_left_out : another
-        (record text { functions = selecting
-        (Case (MoreCaseValues (SignedCase false 1) (LastCaseValue (SignedCase true 2))) NoStatements after) ∷ [] })
+        (record text {
+          functions = selecting
+              (Case (MoreCaseValues (SignedCase false 1) (LastCaseValue (SignedCase true 2))) NoStatements after) ∷ [];
+        })
     unfolding type_segments layout_at
     inner_left_out = differ (λ i. passes (λ g. length g.switches == 1) 0 i.functions) _ _ refl refl
 

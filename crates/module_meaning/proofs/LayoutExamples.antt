@@ -192,7 +192,7 @@ module _ (other : Module) (members : Vec StructMember Global) where
   outer_text =
       worked.struct "O"
       (worked.member [] "v" (Template (codes "array")
-          (TypeArgument (worked.named_type "I") (SizeArgument 2 NoTemplateArguments))) ∷ []) ∷ []
+      (TypeArgument (worked.named_type "I") (SizeArgument 2 NoTemplateArguments))) ∷ []) ∷ []
 
   abbrev joined : (a b : List Struct) → List Struct
   joined [] b = b

@@ -31,11 +31,11 @@ placed_at test n (y ∷ xs) zero x all here =
     let same : x ≡ y = cc
     in let at : n + 0 ≡ n = omega arith
     in (λ i. test (at i) (same i))
-        ∙ (and_parts (test n y) (list_all (λ p. test p.0 p.1) (enumerate_from (n + 1) xs)) all).0
+    ∙ (and_parts (test n y) (list_all (λ p. test p.0 p.1) (enumerate_from (n + 1) xs)) all).0
 placed_at test n (y ∷ xs) (suc h) x all here =
     let at : n + suc h ≡ (n + 1) + h = omega arith
     in ap (λ k. test k x) at ∙ placed_at test (n + 1) xs h x
-        (and_parts (test n y) (list_all (λ p. test p.0 p.1) (enumerate_from (n + 1) xs)) all).1 here
+    (and_parts (test n y) (list_all (λ p. test p.0 p.1) (enumerate_from (n + 1) xs)) all).1 here
 
 -- there is an item
 pub some_word : (o : Option (List ℕ)) → is_some o ≡ true → (w : List ℕ) × (o ≡ Some w)

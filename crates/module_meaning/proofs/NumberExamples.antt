@@ -124,8 +124,11 @@ member-at_33_bits = refl
 
 module _ (variable : GlobalVariable) (o : Override) where
   abbrev resource : (group binding : ℕ) → GlobalVariable
-  resource group binding = record variable { ty = 0; init = None;
-      binding = Some (record { group = group; binding = binding }) }
+  resource group binding = record variable {
+    ty = 0;
+    init = None;
+    binding = Some (record { group = group; binding = binding });
+  }
 
   a_resource : global_in_range 1 0 (resource 0 (2 ^ 32 - 1)) ≡ true
   a_resource = refl

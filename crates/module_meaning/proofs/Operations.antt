@@ -21,7 +21,7 @@ agrees_answer a b agree o os =
     λ i. (bytes_eq-Decides a.operator b.operator).1 o i &&
     (ap (are_same_words a.operands) (sym os) ∙ alike_itself a.operands) i
     in (bytes_eq-Decides a.answer b.answer).0
-        (sym (ap (λ c. if c then bytes_eq a.answer b.answer else true) alike) ∙ agree)
+    (sym (ap (λ c. if c then bytes_eq a.answer b.answer else true) alike) ∙ agree)
 
 -- of operations any two of which agree, two with one word and operands of types alike have types
 -- alike

@@ -146,7 +146,7 @@ module _ (other : ir_module.Module) (info : ModuleInfo) (members : Vec StructMem
     -- a struct has members, by their words alone
     struct : (whole : List ℕ) → pointee_parts m known whole (inner.Pointer 7 space.Function) ≡
         Members ((member_word m 7 0, codes "ptr<function, i32>")
-            ∷ (member_word m 7 1, codes "ptr<function, vec3<f32>>") ∷ [])
+        ∷ (member_word m 7 1, codes "ptr<function, vec3<f32>>") ∷ [])
     unfolding type_segments handle_key
     struct whole = refl
 

@@ -33,8 +33,8 @@ pub paired_at : {X Y : Type 0} (test : X → Y → Bool) (xs : List X) (ys : Lis
     slice_get ys i ≡ Some y → test x y ≡ true
 paired_at test xs ys all i x y here there =
     list_all_at (λ p. test p.0 p.1) (zip xs ys) i (x, y)
-        (and_parts (length xs == length ys) (list_all (λ p. test p.0 p.1) (zip xs ys)) all).1
-        (zip_at xs ys i x y here there)
+    (and_parts (length xs == length ys) (list_all (λ p. test p.0 p.1) (zip xs ys)) all).1
+    (zip_at xs ys i x y here there)
 
 -- a list as long as another has an item where that has one
 pub item_beside : {X Y : Type 0} (xs : List X) (ys : List Y) (h : ℕ) (y : Y) → length xs ≡ length ys →

@@ -140,14 +140,14 @@ module _ (other : ir_module.Module) (known : ModuleInfo) (other_function : ir_fu
   unfolding is_request is_built_in
   text_is_stuck w =
       ap (λ b. cond b (following_entry (codes "frobnicate") MeansNothing (same_bytes (codes "frobnicate") w))
-          (uncalled w stray)) (same_bytes_self w)
+      (uncalled w stray)) (same_bytes_self w)
       ∙ stuck_after (codes "frobnicate") (same_bytes (codes "frobnicate") w)
 
   operating_is_stuck : (w : Bytes) → run_of w operating ≡ Halts Stuck entered
   unfolding is_request is_built_in
   operating_is_stuck w =
       ap (λ b. cond b (following_entry (codes "sampler") Operates (same_bytes (codes "sampler") w))
-          (uncalled w operating)) (same_bytes_self w)
+      (uncalled w operating)) (same_bytes_self w)
       ∙ stuck_operating (codes "sampler") (same_bytes (codes "sampler") w)
 
   -- without the line it goes on as the module does

@@ -97,7 +97,7 @@ role_distinguished _ = refl
 abbrev space_of : (number bits : ℕ) → AddressSpace
 space_of n bits =
     get_or (space.Function ∷ space.Private ∷ space.WorkGroup ∷ space.Uniform ∷ space.Storage
-        (record { 0 = bits }) ∷ space.Handle ∷
+    (record { 0 = bits }) ∷ space.Handle ∷
     space.Immediate ∷ space.TaskPayload ∷ space.RayPayload ∷ space.IncomingRayPayload ∷ []) n space.Function
 
 space_distinguished : (s : AddressSpace) → space_of (space_number s) (space_bits s) ≡ s
@@ -133,15 +133,15 @@ length_distinguished _ = refl
 abbrev pub formats : List StorageFormat
 formats =
     format.R8Unorm ∷ format.R8Snorm ∷ format.R8Uint ∷ format.R8Sint ∷ format.Rg8Unorm ∷ format.Rg8Snorm
-        ∷ format.Rg8Uint ∷ format.Rg8Sint ∷
+    ∷ format.Rg8Uint ∷ format.Rg8Sint ∷
     format.Rgba8Unorm ∷ format.Rgba8Snorm ∷ format.Rgba8Uint ∷ format.Rgba8Sint ∷ format.R16Unorm
-        ∷ format.R16Snorm ∷ format.R16Uint ∷ format.R16Sint ∷
+    ∷ format.R16Snorm ∷ format.R16Uint ∷ format.R16Sint ∷
     format.R16Float ∷ format.Rg16Unorm ∷ format.Rg16Snorm ∷ format.Rg16Uint ∷ format.Rg16Sint ∷ format.Rg16Float
-        ∷ format.Rgba16Unorm ∷ format.Rgba16Snorm ∷
+    ∷ format.Rgba16Unorm ∷ format.Rgba16Snorm ∷
     format.Rgba16Uint ∷ format.Rgba16Sint ∷ format.Rgba16Float ∷ format.R32Uint ∷ format.R32Sint
-        ∷ format.R32Float ∷ format.Rg32Uint ∷ format.Rg32Sint ∷
+    ∷ format.R32Float ∷ format.Rg32Uint ∷ format.Rg32Sint ∷
     format.Rg32Float ∷ format.Rgba32Uint ∷ format.Rgba32Sint ∷ format.Rgba32Float ∷ format.Bgra8Unorm
-        ∷ format.Rgb10a2Uint ∷ format.Rgb10a2Unorm ∷ format.Rg11b10Ufloat ∷
+    ∷ format.Rgb10a2Uint ∷ format.Rgb10a2Unorm ∷ format.Rg11b10Ufloat ∷
     format.R64Uint ∷ []
 
 pub format_distinguished : (f : StorageFormat) →
@@ -239,4 +239,4 @@ pub word_tells : (types : List Type_) (a b : TypeResolution) → word_of_unspell
     ≡ word_of_unspelled_type (identity types b) → identity types a ≡ identity types b
 word_tells types a b e =
     sym (identity_distinguished (identity types a) (identity_plain types a))
-        ∙ (ap (λ w. identity_of (drop 1 w)) e ∙ identity_distinguished (identity types b) (identity_plain types b))
+    ∙ (ap (λ w. identity_of (drop 1 w)) e ∙ identity_distinguished (identity types b) (identity_plain types b))

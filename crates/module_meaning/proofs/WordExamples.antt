@@ -249,5 +249,5 @@ grouped_otherwise : told
     (grouped (worked.call "max"
     (operands (worked.call "min" (worked.names ("a" ∷ [])) ∷ worked.name "b" ∷ worked.integer 1 ∷ []))))
     ≢ told (grouped
-        (worked.call "max" (operands (worked.call "min" (worked.names ("a" ∷ "b" ∷ [])) ∷ worked.integer 1 ∷ []))))
+    (worked.call "max" (operands (worked.call "min" (worked.names ("a" ∷ "b" ∷ [])) ∷ worked.integer 1 ∷ []))))
 grouped_otherwise = differ (stands 5 is_end) _ _ refl refl

@@ -220,10 +220,10 @@ module _ (m : Module) (h : ℕ) (t : Type_) (at : slice_get m.types h ≡ Some t
         ∙ (ap (λ span. size_among span i ks) span_is
         ∙ (ap (option_and_then (λ k. k.given)) (sized_at whole span ks i)
         ∙ (ap (λ o. option_and_then (λ k. k.given)
-            (option_map (λ k. sized k (begins_at span ks (suc i)) (aligned_at whole ks (suc i))) o)) p.2
+        (option_map (λ k. sized k (begins_at span ks (suc i)) (aligned_at whole ks (suc i))) o)) p.2
         ∙ (ap (λ l. gap_size k.offset l.size (begins_at span ks (suc i)) (aligned_at whole ks (suc i))) same
         ∙ ap (λ a. gap_size k.offset own.size (begins_at span ks (suc i)) (aligned_at a ks (suc i)))
-            (sym is.alignment)))))
+        (sym is.alignment)))))
 
     -- where no fault stands, one that isn't laid out isn't concerned
     pub unlaid : DeclarationsHaveForms m → layout_in m h ≡ None → (i : ℕ) → written_size m h i ≡ None

@@ -42,12 +42,12 @@ with_uses_append es (x ∷ xs) ys = with_uses_append (with_use es x) xs ys
 -- a loop over statements: one more
 pub block_step : (es : List ExpressionInfo) (ss : List Statement) (i : ℕ) (d : Statement) → i < length ss
     → with_uses es (block_operands (block_of (drop i ss)))
-        ≡ with_uses (with_uses es (statement_operands (tree_of (slice_index_or ss i d))))
-        (block_operands (block_of (drop (i + 1) ss)))
+    ≡ with_uses (with_uses es (statement_operands (tree_of (slice_index_or ss i d))))
+    (block_operands (block_of (drop (i + 1) ss)))
 block_step es ss i d h =
     ap (λ ts. with_uses es (block_operands (block_of ts))) (drop_more ss i d h)
     ∙ with_uses_append es (statement_operands (tree_of (slice_index_or ss i d)))
-        (block_operands (block_of (drop (i + 1) ss)))
+    (block_operands (block_of (drop (i + 1) ss)))
 
 pub block_size-left : (ss : List Statement) (i : ℕ) (d : Statement) → i < length ss →
     block_size (block_of (drop (i + 1) ss)) ≤ block_size (block_of (drop i ss))
@@ -60,8 +60,8 @@ cases_size-left cs i d h = rw (drop_more cs i d h) (omega arith)
 -- a loop over cases: one more
 pub cases_step : (es : List ExpressionInfo) (cs : List SwitchCase) (i : ℕ) (d : SwitchCase) → i < length cs
     → with_uses es (cases_operands (cases_of (drop i cs)))
-        ≡ with_uses (with_uses es (block_operands (slice_index_or cs i d).body))
-        (cases_operands (cases_of (drop (i + 1) cs)))
+    ≡ with_uses (with_uses es (block_operands (slice_index_or cs i d).body))
+    (cases_operands (cases_of (drop (i + 1) cs)))
 cases_step es cs i d h =
     ap (λ ts. with_uses es (cases_operands (cases_of ts))) (drop_more cs i d h)
     ∙ with_uses_append es (block_operands (slice_index_or cs i d).body) (cases_operands (cases_of (drop (i + 1) cs)))
@@ -71,7 +71,7 @@ with_counts_from-same : (c d : ℕ → ℕ) (handle : ℕ) (es : List Expression
 with_counts_from-same c d handle [] same = refl
 with_counts_from-same c d handle (e ∷ es) same =
     λ i. record e { ref_count = min (same handle (omega arith) i) greatest_count } ∷ with_counts_from-same c d
-        (handle + 1) es (λ k h. same k (omega (arith, h))) i
+    (handle + 1) es (λ k h. same k (omega (arith, h))) i
 
 count_raised : (n handle : ℕ) → min (min n greatest_count + 1) greatest_count
     ≡ min (cond (handle + 0 == handle) 1 0 + n) greatest_count
@@ -90,12 +90,12 @@ with_use-with_counts_from c handle [] i = refl
 with_use-with_counts_from c handle (e ∷ es) zero =
     λ i. record e { ref_count = count_raised (c handle) handle i }
     ∷ with_counts_from-same c (λ k. cond (handle + 0 == k) 1 0 + c k) (handle + 1) es
-        (λ k h. count_kept (c k) (handle + 0) k (omega (arith, h))) i
+    (λ k h. count_kept (c k) (handle + 0) k (omega (arith, h))) i
 with_use-with_counts_from c handle (e ∷ es) (suc n) =
     let same_place : handle + 1 + n ≡ handle + suc n = omega arith
     in λ i. record e { ref_count = min (count_kept (c handle) (handle + suc n) handle (omega arith) i) greatest_count }
     ∷ (with_use-with_counts_from c (handle + 1) es n
-        ∙ ap (λ m. with_counts_from (λ k. cond (m == k) 1 0 + c k) (handle + 1) es) same_place) i
+    ∙ ap (λ m. with_counts_from (λ k. cond (m == k) 1 0 + c k) (handle + 1) es) same_place) i
 
 use_count-cons : (p : ℕ) (ps : List ℕ) (k : ℕ) → use_count (p ∷ ps) k ≡ cond (p == k) 1 0 + use_count ps k
 use_count-cons p ps k = sum_by-cons (λ held. cond (held == k) 1 0) p ps
@@ -111,7 +111,7 @@ with_uses-with_counts_from c es (p ∷ ps) =
     ap (λ fs. with_uses fs ps) (with_use-with_counts_from c 0 es p)
     ∙ with_uses-with_counts_from (λ k. cond (0 + p == k) 1 0 + c k) es ps
     ∙ with_counts_from-same (λ k. use_count ps k + (cond (0 + p == k) 1 0 + c k))
-        (λ k. use_count (p ∷ ps) k + c k) 0 es (λ k h. use_counts-add p ps k (c k))
+    (λ k. use_count (p ∷ ps) k + c k) 0 es (λ k h. use_counts-add p ps k (c k))
 
 -- a count of nothing, one by one from zero
 with_counts_from-zero : (handle : ℕ) (es : List ExpressionInfo) → without_uses es ≡ with_counts_from (λ k. 0) handle es
@@ -126,13 +126,13 @@ operands_of_pairs n (x ∷ xs) = ap (λ ys. expression_operands x ++ ys) (operan
 -- what the loops over a function's expressions and statements make is the count of its places
 pub counted_by_uses : (f : Function) (es : List ExpressionInfo)
     → with_uses (with_uses (without_uses es) (flat_map expression_operands f.expressions))
-        (block_operands f.body) ≡ with_counts f es
+    (block_operands f.body) ≡ with_counts f es
 counted_by_uses f es =
     sym (with_uses_append (without_uses es) (flat_map expression_operands f.expressions) (block_operands f.body))
     ∙ ap (λ fs. with_uses fs (operand_positions f)) (with_counts_from-zero 0 es)
     ∙ with_uses-with_counts_from (λ k. 0) es (operand_positions f)
     ∙ with_counts_from-same (λ k. use_count (operand_positions f) k + 0) (use_count (operand_positions f)) 0 es
-        (λ k h. add-zero (use_count (operand_positions f) k))
+    (λ k h. add-zero (use_count (operand_positions f) k))
 
 pub length-without_uses : (es : List ExpressionInfo) → length (without_uses es) ≡ length es
 length-without_uses [] = refl

@@ -102,13 +102,13 @@ module _ (m : Module) where
       IfSome (expression_range_fault m arguments locals h e) IsOther
   expression_other arguments locals h e =
       of_unless IsOther (all_below h (expression_operands e)) fault.Operands
-          (unless (names_in_range m arguments locals e) (names_fault e) None) (λ typed. typed)
+      (unless (names_in_range m arguments locals e) (names_fault e) None) (λ typed. typed)
       (of_unless IsOther (names_in_range m arguments locals e) (names_fault e) None (names_other e) tt)
 
   global_other : (h : ℕ) (e : Expression) → IfSome (global_expression_range_fault m h e) IsOther
   global_other h e =
       of_or IsOther (expression_range_fault m 0 0 h e)
-          (unless (initialiser_before m h e) fault.LaterInitialiser None) (expression_other 0 0 h e)
+      (unless (initialiser_before m h e) fault.LaterInitialiser None) (expression_other 0 0 h e)
       (of_unless IsOther (initialiser_before m h e) fault.LaterInitialiser None (λ typed. typed) tt)
 
   function_other : (callees : ℕ) (f : Function) → IfSome (function_range_fault m callees f) PartIsOther
@@ -116,45 +116,45 @@ module _ (m : Module) where
       of_unless PartIsOther (signature_fits (length m.types) f) (part.Whole, fault.Signature) _ (λ typed. typed)
       (of_unless PartIsOther (names_fit f) (part.Whole, fault.NamedExpressions) _ (λ typed. typed)
       (of_or PartIsOther _ _ (of_map PartIsOther (λ h. (part.Local h, fault.Names)) _
-          (of_any _ (first_unfit (λ _. local_in_range (length m.types) (length f.expressions))
-          (enumerate_from 0 f.local_variables)) (λ h typed. typed)))
+      (of_any _ (first_unfit (λ _. local_in_range (length m.types) (length f.expressions))
+      (enumerate_from 0 f.local_variables)) (λ h typed. typed)))
       (of_or PartIsOther _ _
       (of_map PartIsOther at_expression _
       (of_faulty IsOther (expression_range_fault m (length f.arguments.items) (length f.local_variables))
-          (enumerate_from 0 f.expressions)
+      (enumerate_from 0 f.expressions)
       (expression_other (length f.arguments.items) (length f.local_variables))))
       (of_map PartIsOther (λ n. (part.Statement n, fault.Names)) _
-          (of_any _ (result_err (numbered (is_in_range callees (length f.expressions)) 0 (text_order f.body)))
-          (λ n typed. typed))))))
+      (of_any _ (result_err (numbered (is_in_range callees (length f.expressions)) 0 (text_order f.body)))
+      (λ n typed. typed))))))
 
   entry_point_other : (p : EntryPoint) → IfSome (entry_point_range_fault m p) PartIsOther
   entry_point_other p =
       of_unless PartIsOther (entry_names_fit m p) (part.Whole, fault.Names) _ (λ typed. typed)
-          (function_other (length m.functions) p.function)
+      (function_other (length m.functions) p.function)
 
   types_other : IfSome (types_range_fault m) ItemIsOther
   types_other =
       of_or ItemIsOther _ _
       (of_map ItemIsOther (λ h. at (item.Type h) fault.TypeParts) _
-          (of_any _ (first_unfit (λ h t. parts_before h t.inner) (enumerate_from 0 m.types)) (λ h typed. typed)))
+      (of_any _ (first_unfit (λ h t. parts_before h t.inner) (enumerate_from 0 m.types)) (λ h typed. typed)))
       (of_map ItemIsOther (λ h. at (item.Type h) fault.TypeLength) _
       (of_any _ (first_unfit (λ _ t. numbers_in_range (length m.overrides) t.inner) (enumerate_from 0 m.types))
-          (λ h typed. typed)))
+      (λ h typed. typed)))
 
   items_other : IfSome (items_range_fault m) ItemIsOther
   items_other =
       of_or ItemIsOther _ _
       (of_map ItemIsOther (λ h. at (item.Constant h) fault.Names) _
       (of_any _ (first_unfit (λ _. constant_in_range (length m.types) (length m.global_expressions))
-          (enumerate_from 0 m.constants)) (λ h typed. typed)))
+      (enumerate_from 0 m.constants)) (λ h typed. typed)))
       (of_or ItemIsOther _ _
       (of_map ItemIsOther (λ h. at (item.Override h) fault.Names) _
       (of_any _ (first_unfit (λ _. override_in_range (length m.types) (length m.global_expressions))
-          (enumerate_from 0 m.overrides)) (λ h typed. typed)))
+      (enumerate_from 0 m.overrides)) (λ h typed. typed)))
       (of_or ItemIsOther _ _
       (of_map ItemIsOther (λ h. at (item.GlobalVariable h) fault.Names) _
       (of_any _ (first_unfit (λ _. global_in_range (length m.types) (length m.global_expressions))
-          (enumerate_from 0 m.global_variables)) (λ h typed. typed)))
+      (enumerate_from 0 m.global_variables)) (λ h typed. typed)))
       (of_map ItemIsOther (λ found. at (item.GlobalExpression found.0) found.1) _
       (of_faulty IsOther (global_expression_range_fault m) (enumerate_from 0 m.global_expressions) global_other))))
 
@@ -163,31 +163,31 @@ module _ (m : Module) where
       of_or ItemIsOther (declarations_range_fault m) _
       (of_or ItemIsOther (types_range_fault m) _ types_other
       (of_unless ItemIsOther (special_types_fit (length m.types) m.special_types)
-          (at item.Module fault.SpecialTypes) (items_range_fault m) (λ typed. typed) items_other))
+      (at item.Module fault.SpecialTypes) (items_range_fault m) (λ typed. typed) items_other))
       (of_or ItemIsOther (functions_range_fault m) (entry_points_range_fault m)
       (of_map ItemIsOther (λ found. at_function found.0 found.1) _
       (of_faulty PartIsOther (function_range_fault m) (enumerate_from 0 m.functions) function_other))
       (of_map ItemIsOther (λ found. at_entry_point found.0 found.1) _
       (of_faulty PartIsOther (λ _. entry_point_range_fault m) (enumerate_from 0 m.entry_points.items)
-          (λ h. entry_point_other))))
+      (λ h. entry_point_other))))
 
 module _ (m : Module) (info : ModuleInfo) where
   sizes_other : IfSome (sizes_fault m info) ItemIsOther
   sizes_other =
       of_or ItemIsOther (function_sizes_fault m.functions info.functions.items) _
       (of_unless ItemIsOther (length m.functions == length info.functions.items) (at item.Module fault.InfoSize)
-          _ (λ typed. typed)
+      _ (λ typed. typed)
       (of_map ItemIsOther (λ h. at (item.Function h part.Whole) fault.InfoSize) _
       (of_any _ (first_unfit (λ _ p. function_size_fits p.0 p.1)
-          (enumerate_from 0 (zip m.functions info.functions.items))) (λ h typed. typed))))
+      (enumerate_from 0 (zip m.functions info.functions.items))) (λ h typed. typed))))
       (of_or ItemIsOther (entry_point_sizes_fault m.entry_points.items info.entry_points.items) _
       (of_unless ItemIsOther (length m.entry_points.items == length info.entry_points.items)
-          (at item.Module fault.InfoSize) _ (λ typed. typed)
+      (at item.Module fault.InfoSize) _ (λ typed. typed)
       (of_map ItemIsOther (λ h. at (item.EntryPoint h part.Whole) fault.InfoSize) _
       (of_any _ (first_unfit (λ _ p. entry_point_size_fits p.0 p.1)
-          (enumerate_from 0 (zip m.entry_points.items info.entry_points.items))) (λ h typed. typed))))
+      (enumerate_from 0 (zip m.entry_points.items info.entry_points.items))) (λ h typed. typed))))
       (of_unless ItemIsOther (length m.global_expressions == length info.const_expression_types.items)
-          (at item.Module fault.InfoSize) None (λ typed. typed) tt))
+      (at item.Module fault.InfoSize) None (λ typed. typed) tt))
 
   known_other : (kss : List (List ExpressionInfo)) →
       IfSome (first_known_fault (length m.overrides) (length m.types) kss) (λ found. PartIsOther found.1)
@@ -199,19 +199,19 @@ module _ (m : Module) (info : ModuleInfo) where
   info_other : IfSome (info_fault m info) ItemIsOther
   info_other =
       of_or ItemIsOther _ _ (of_map ItemIsOther (λ found. at_function found.0 found.1) _
-          (known_other info.functions.items))
+      (known_other info.functions.items))
       (of_or ItemIsOther _ _ (of_map ItemIsOther (λ found. at_entry_point found.0 found.1) _
-          (known_other info.entry_points.items))
+      (known_other info.entry_points.items))
       (of_map ItemIsOther (λ h. at (item.GlobalExpression h) fault.KnownType) _
       (of_any _ (first_unfit (λ _. resolution_fits (length m.overrides) (length m.types))
-          (enumerate_from 0 info.const_expression_types.items)) (λ h typed. typed))))
+      (enumerate_from 0 info.const_expression_types.items)) (λ h typed. typed))))
 
   ranges_other : IfSome (ranges_fault m info) ItemIsOther
   ranges_other =
       of_or ItemIsOther (sizes_fault m info) _ sizes_other
       (of_or ItemIsOther _ _
       (of_map ItemIsOther (λ h. at (item.Type h) fault.TypeForm) _
-          (of_any _ (first_unfit (λ _. type_is_fit) (enumerate_from 0 m.types)) (λ h typed. typed)))
+      (of_any _ (first_unfit (λ _. type_is_fit) (enumerate_from 0 m.types)) (λ h typed. typed)))
       (of_or ItemIsOther (module_range_fault m) (info_fault m info) (module_other m) info_other))
 
   -- ---- what is told
@@ -252,7 +252,7 @@ module _ (m : Module) (info : ModuleInfo) where
   -- one of operators, where there are none of both
   pub first_operator : (named wanted found : Option Unaccepted) → named ≡ ranges_fault m info → is_some named ≡ false →
       wanted ≡ sound_fault m info → is_some wanted ≡ false → IfSome found (IsDisagreement m info) →
-          IfSome found (IsFirst m info)
+      IfSome found (IsFirst m info)
   first_operator named wanted None is none next nothing disagrees = tt
   first_operator named wanted (Some u) is none next nothing disagrees =
       Disagreeing (ranges_pass named is none) (sound_passes wanted next nothing) disagrees

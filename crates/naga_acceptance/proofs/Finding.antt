@@ -89,11 +89,11 @@ module _ {X : Type 0} (xs : List X) where
 
   unfit_from : (test : ℕ → X → Bool) (n : ℕ) (ys : List X) → StandsFrom n ys →
       Finds (first_unfit test (enumerate_from n ys)) (list_all (λ p. test p.0 p.1) (enumerate_from n ys))
-          (λ h. Unfit (test h) xs h)
+      (λ h. Unfit (test h) xs h)
   unfit_from test n [] stands = finds_nothing
   unfit_from test n (y ∷ ys) stands =
       finds_unless (test n y) n (λ fails. unfit_at (test n) xs n y (stands_here n y ys stands) fails)
-          (λ fits. unfit_from test (n + 1) ys (stands_next n y ys stands))
+      (λ fits. unfit_from test (n + 1) ys (stands_next n y ys stands))
 
   module _ {F : Type 0} (P : ℕ → X → F → Type 0) where
     abbrev pub AtItem : ℕ × F → Type 0
@@ -106,19 +106,24 @@ module _ {X : Type 0} (xs : List X) where
     faulty_from test fault finds n [] stands = finds_nothing
     faulty_from test fault finds n (y ∷ ys) stands =
         by (fault n y) (test n y) (finds n y (stands_here n y ys stands))
-            (faulty_from test fault finds (n + 1) ys (stands_next n y ys stands))
+        (faulty_from test fault finds (n + 1) ys (stands_next n y ys stands))
       where
         by : (found : Option F) (fits : Bool) → Finds found fits (P n y) →
             Finds (first_faulty fault (enumerate_from (n + 1) ys))
             (list_all (λ p. test p.0 p.1) (enumerate_from (n + 1) ys)) AtItem →
             Finds (or_further found n (first_faulty fault (enumerate_from (n + 1) ys)))
-                (fits && list_all (λ p. test p.0 p.1) (enumerate_from (n + 1) ys)) AtItem
+            (fits && list_all (λ p. test p.0 p.1) (enumerate_from (n + 1) ys)) AtItem
         by None fits first next =
-            record { fits = next.fits
-            ∙ ap (λ b. b && list_all (λ p. test p.0 p.1) (enumerate_from (n + 1) ys)) first.fits; fails = next.fails }
+            record {
+              fits = next.fits
+                  ∙ ap (λ b. b && list_all (λ p. test p.0 p.1) (enumerate_from (n + 1) ys)) first.fits;
+              fails = next.fails;
+            }
         by (Some found) fits first next =
-            record { fits = ap (λ b. b && list_all (λ p. test p.0 p.1) (enumerate_from (n + 1) ys)) first.fits;
-            fails = (y, stands_here n y ys stands, first.fails) }
+            record {
+              fits = ap (λ b. b && list_all (λ p. test p.0 p.1) (enumerate_from (n + 1) ys)) first.fits;
+              fails = (y, stands_here n y ys stands, first.fails);
+            }
 
 stands_whole : {X : Type 0} (xs : List X) (i : ℕ) → slice_get xs i ≡ slice_get xs (0 + i)
 stands_whole xs i =
@@ -128,7 +133,7 @@ stands_whole xs i =
 -- the first item that fails, by tests that know its place
 pub finds_unfit : {X : Type 0} (test : ℕ → X → Bool) (xs : List X) →
     Finds (first_unfit test (enumerate_from 0 xs)) (list_all (λ p. test p.0 p.1) (enumerate_from 0 xs))
-        (λ h. Unfit (test h) xs h)
+    (λ h. Unfit (test h) xs h)
 finds_unfit test xs = unfit_from xs test 0 xs (stands_whole xs)
 
 -- the same by tests that don't
@@ -170,7 +175,7 @@ finds_numbered {X} test n (x ∷ xs) small =
     by : (fits : Bool) → test x ≡ fits → Finds (result_err (numbered test (wrapping_add n 1) xs))
         (list_all test xs) (Numbered test xs (wrapping_add n 1)) →
         Finds (result_err (if fits then numbered test (wrapping_add n 1) xs else Err n))
-            (fits && list_all test xs) (Numbered test (x ∷ xs) n)
+        (fits && list_all test xs) (Numbered test (x ∷ xs) n)
     by true fits next = finds_weaker (result_err (numbered test (wrapping_add n 1) xs))
         (λ found at. (suc at.0, at.1 ∙ wrapped n at.0, at.2)) next
     by false fails next =

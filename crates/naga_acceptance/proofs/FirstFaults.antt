@@ -95,7 +95,7 @@ swap false b c d = refl
 
 all_both : {X : Type 0} (a : ℕ → X → Bool) (b : X → Bool) (n : ℕ) (xs : List X) →
     list_all (λ p. a p.0 p.1 && b p.1) (enumerate_from n xs) ≡ list_all (λ p. a p.0 p.1) (enumerate_from n xs)
-        && list_all b xs
+    && list_all b xs
 all_both a b n [] = refl
 all_both a b n (x ∷ xs) =
     ap (λ t. (a n x && b x) && t) (all_both a b (n + 1) xs)
@@ -105,7 +105,7 @@ all_both a b n (x ∷ xs) =
 
 expression_range : (m : Module) (arguments locals h : ℕ) (e : Expression) (P : Fault → Type 0) →
     (all_below h (expression_operands e) ≡ false → P fault.Operands) →
-        (names_in_range m arguments locals e ≡ false → P (names_fault e)) →
+    (names_in_range m arguments locals e ≡ false → P (names_fault e)) →
     Finds (expression_range_fault m arguments locals h e) (expression_in_range m arguments locals h e) P
 expression_range m arguments locals h e P operands names =
     finds_unless (all_below h (expression_operands e)) fault.Operands operands
@@ -137,16 +137,16 @@ module _ (m : Module) (callees : ℕ) (f : Function) (known : List TypeResolutio
       (λ found. RangePosition (at_expression found))
   expressions_found =
       finds_weaker (first_faulty (expression_range_fault m (length f.arguments.items)
-          (length f.local_variables)) (enumerate_from 0 f.expressions))
+      (length f.local_variables)) (enumerate_from 0 f.expressions))
       (λ found at. at.2)
       (finds_faulty (λ h x kind. ExpressionFails m f known h kind)
       (expression_in_range m (length f.arguments.items) (length f.local_variables))
       (expression_range_fault m (length f.arguments.items) (length f.local_variables)) f.expressions
       (λ h e here. expression_range m (length f.arguments.items) (length f.local_variables) h e
-          (λ kind. ExpressionFails m f known h kind)
+      (λ kind. ExpressionFails m f known h kind)
       (λ fails. unfit_at (λ x. all_below h (expression_operands x)) f.expressions h e here fails)
       (λ fails. names_fail m (length f.arguments.items) (length f.local_variables) h f.expressions e
-          (λ kind. ExpressionFails m f known h kind) (λ unfit. unfit) (λ unfit. unfit) here fails)))
+      (λ kind. ExpressionFails m f known h kind) (λ unfit. unfit) (λ unfit. unfit) here fails)))
 
   statements_found : Finds (result_err (numbered (is_in_range callees (length f.expressions)) 0 (text_order f.body)))
       (block_in_range callees (length f.expressions) f.body)
@@ -167,7 +167,7 @@ module _ (m : Module) (callees : ℕ) (f : Function) (known : List TypeResolutio
 
   expressions_sound : Finds (expressions_sound_fault m (Some f) known f.expressions)
       (list_all (λ p. has_its_type m (Some f) known p.0 p.1 && operands_fit m.types known p.1)
-          (enumerate_from 0 f.expressions))
+      (enumerate_from 0 f.expressions))
       (λ found. RangePosition (at_expression found))
   expressions_sound =
       finds_weaker (expressions_sound_fault m (Some f) known f.expressions)
@@ -195,7 +195,7 @@ module _ (m : Module) (callees : ℕ) (f : Function) (known : List TypeResolutio
   pub function_sound : Finds (function_sound_fault m f known) (typed_function_is_sound m f known) RangePosition
   function_sound =
       finds_or _ _ (finds_same (all_both (has_its_type m (Some f) known) (operands_fit m.types known) 0
-          f.expressions) (finds_map at_expression _ expressions_sound))
+      f.expressions) (finds_map at_expression _ expressions_sound))
       (λ _. finds_or _ _ (finds_map (λ h. (part.Local h, fault.InitialiserType)) _ locals_sound_found)
       (λ _. finds_map (λ n. (part.Statement n, fault.Unsatisfied)) _ statements_sound_found))
 
@@ -206,19 +206,19 @@ module _ (m : Module) (info : ModuleInfo) where
   constants_found : Finds (first_unfit (λ _. constant_in_range (length m.types) (length m.global_expressions))
       (enumerate_from 0 m.constants))
       (list_all (constant_in_range (length m.types) (length m.global_expressions)) m.constants)
-          (λ h. Fails m info (at (item.Constant h) fault.Names))
+      (λ h. Fails m info (at (item.Constant h) fault.Names))
   constants_found = finds_plain (constant_in_range (length m.types) (length m.global_expressions)) m.constants
 
   overrides_found : Finds (first_unfit (λ _. override_in_range (length m.types) (length m.global_expressions))
       (enumerate_from 0 m.overrides))
       (list_all (override_in_range (length m.types) (length m.global_expressions)) m.overrides)
-          (λ h. Fails m info (at (item.Override h) fault.Names))
+      (λ h. Fails m info (at (item.Override h) fault.Names))
   overrides_found = finds_plain (override_in_range (length m.types) (length m.global_expressions)) m.overrides
 
   globals_found : Finds (first_unfit (λ _. global_in_range (length m.types) (length m.global_expressions))
       (enumerate_from 0 m.global_variables))
       (list_all (global_in_range (length m.types) (length m.global_expressions)) m.global_variables)
-          (λ h. Fails m info (at (item.GlobalVariable h) fault.Names))
+      (λ h. Fails m info (at (item.GlobalVariable h) fault.Names))
   globals_found = finds_plain (global_in_range (length m.types) (length m.global_expressions)) m.global_variables
 
   -- faults of global expressions, each of one of them
@@ -232,7 +232,7 @@ module _ (m : Module) (info : ModuleInfo) where
       (expression_range m 0 0 h e (λ kind. GlobalAt (h, kind))
       (λ fails. unfit_at (λ x. all_below h (expression_operands x)) m.global_expressions h e here fails)
       (λ fails. names_fail m 0 0 h m.global_expressions e (λ kind. GlobalAt (h, kind)) (λ unfit. unfit)
-          (λ unfit. unfit) here fails))
+      (λ unfit. unfit) here fails))
       (λ _. finds_test (initialiser_before m h e) fault.LaterInitialiser
       (λ fails. unfit_at (initialiser_before m h) m.global_expressions h e here fails))
 
@@ -241,9 +241,9 @@ module _ (m : Module) (info : ModuleInfo) where
       (list_all (λ p. global_expression_in_range m p.0 p.1) (enumerate_from 0 m.global_expressions)) GlobalAt
   global_expressions_found =
       finds_weaker (first_faulty (global_expression_range_fault m) (enumerate_from 0 m.global_expressions))
-          (λ found at. at.2)
+      (λ found at. at.2)
       (finds_faulty (λ h x kind. GlobalAt (h, kind)) (global_expression_in_range m)
-          (global_expression_range_fault m) m.global_expressions global_range)
+      (global_expression_range_fault m) m.global_expressions global_range)
 
   items_range : Finds (items_range_fault m)
       (list_all (constant_in_range (length m.types) (length m.global_expressions)) m.constants &&
@@ -258,12 +258,12 @@ module _ (m : Module) (info : ModuleInfo) where
 
   parts_found : Finds (first_unfit (λ h t. parts_before h t.inner) (enumerate_from 0 m.types))
       (list_all (λ p. parts_before p.0 p.1.inner) (enumerate_from 0 m.types))
-          (λ h. Fails m info (at (item.Type h) fault.TypeParts))
+      (λ h. Fails m info (at (item.Type h) fault.TypeParts))
   parts_found = finds_unfit (λ h t. parts_before h t.inner) m.types
 
   lengths_found : Finds (first_unfit (λ _ t. numbers_in_range (length m.overrides) t.inner) (enumerate_from 0 m.types))
       (list_all (λ t. numbers_in_range (length m.overrides) t.inner) m.types)
-          (λ h. Fails m info (at (item.Type h) fault.TypeLength))
+      (λ h. Fails m info (at (item.Type h) fault.TypeLength))
   lengths_found = finds_plain (λ t. numbers_in_range (length m.overrides) t.inner) m.types
 
   types_range : Finds (types_range_fault m) (types_in_range (length m.overrides) m.types) (Fails m info)
@@ -275,7 +275,7 @@ module _ (m : Module) (info : ModuleInfo) where
   declarations_range =
       finds_or _ _ types_range
       (λ _. finds_unless (special_types_fit (length m.types) m.special_types)
-          (at item.Module fault.SpecialTypes) (λ fails. fails)
+      (at item.Module fault.SpecialTypes) (λ fails. fails)
       (λ _. items_range))
 
   part_placed : (h : ℕ) (f : Function) → slice_get m.functions h ≡ Some f → (kind : Fault) (p : FunctionPosition) →
@@ -320,11 +320,11 @@ module _ (m : Module) (info : ModuleInfo) where
 
   entry_range : (p : EntryPoint) (known : List TypeResolution) →
       Finds (entry_point_range_fault m p) (entry_point_in_range m p)
-          (λ found. EntryPositionFails m p known found.0 found.1)
+      (λ found. EntryPositionFails m p known found.0 found.1)
   entry_range p known =
       finds_same (entry_regroup (is_below (length m.global_variables) (option_map (λ k. k.output_variable) p.mesh_info))
       (is_below (length m.global_variables) p.task_payload)
-          (is_below (length m.global_variables) p.incoming_ray_payload)
+      (is_below (length m.global_variables) p.incoming_ray_payload)
       (workgroup_fits_32_bits p.workgroup_size) (function_in_range m (length m.functions) p.function))
       (finds_unless (entry_names_fit m p) (part.Whole, fault.Names) (λ fails. fails)
       (λ _. finds_weaker (function_range_fault m (length m.functions) p.function)
@@ -361,10 +361,10 @@ module _ (m : Module) (info : ModuleInfo) where
       (all_paired function_size_fits m.functions info.functions.items) (Fails m info)
   function_sizes =
       finds_unless (length m.functions == length info.functions.items) (at item.Module fault.InfoSize)
-          (λ fails. and_left _ _ fails)
+      (λ fails. and_left _ _ fails)
       (λ _. finds_map (λ h. at (item.Function h part.Whole) fault.InfoSize) _
       (finds_weaker (first_unfit (λ _ p. function_size_fits p.0 p.1)
-          (enumerate_from 0 (zip m.functions info.functions.items))) placed
+      (enumerate_from 0 (zip m.functions info.functions.items))) placed
       (finds_plain (λ p. function_size_fits p.0 p.1) (zip m.functions info.functions.items))))
     where
       placed : (h : ℕ) → Unfit (λ p. function_size_fits p.0 p.1) (zip m.functions info.functions.items) h →
@@ -381,7 +381,7 @@ module _ (m : Module) (info : ModuleInfo) where
       (λ fails. and_right (length m.functions == length info.functions.items) _ (and_left _ _ fails))
       (λ _. finds_map (λ h. at (item.EntryPoint h part.Whole) fault.InfoSize) _
       (finds_weaker (first_unfit (λ _ p. entry_point_size_fits p.0 p.1)
-          (enumerate_from 0 (zip m.entry_points.items info.entry_points.items))) placed
+      (enumerate_from 0 (zip m.entry_points.items info.entry_points.items))) placed
       (finds_plain (λ p. entry_point_size_fits p.0 p.1) (zip m.entry_points.items info.entry_points.items))))
     where
       placed : (h : ℕ) → Unfit (λ p. entry_point_size_fits p.0 p.1)
@@ -389,7 +389,7 @@ module _ (m : Module) (info : ModuleInfo) where
           Fails m info (at (item.EntryPoint h part.Whole) fault.InfoSize)
       placed h fails =
           let found = unfit_item (λ p. entry_point_size_fits p.0 p.1)
-              (zip m.entry_points.items info.entry_points.items) h fails
+          (zip m.entry_points.items info.entry_points.items) h fails
           in let both = zip_parts m.entry_points.items info.entry_points.items h found.0 found.1
           in (found.0.0, both.0, size_of_known found.0.0.function info.entry_points.items h found.0.1 both.1 found.2)
 
@@ -397,7 +397,7 @@ module _ (m : Module) (info : ModuleInfo) where
   sizes =
       finds_or _ _ function_sizes (λ _. finds_or _ _ entry_point_sizes
       (λ _. finds_test (length m.global_expressions == length info.const_expression_types.items)
-          (at item.Module fault.InfoSize)
+      (at item.Module fault.InfoSize)
       (λ fails. and_right (length m.functions == length info.functions.items) _
       (and_right (length m.entry_points.items == length info.entry_points.items) _ fails))))
 
@@ -414,16 +414,16 @@ module _ (m : Module) (info : ModuleInfo) where
   abbrev UnknownAt : List (List ExpressionInfo) → ℕ × (FunctionPosition × Fault) → Type 0
   UnknownAt kss found = (ks : List ExpressionInfo) × (slice_get kss found.0 ≡ Some ks)
       × ((e : ℕ) × (found.1 ≡ (part.Expression e, fault.KnownType))
-          × Unfit (resolution_fits (length m.overrides) (length m.types)) (known_of kss found.0) e)
+      × Unfit (resolution_fits (length m.overrides) (length m.types)) (known_of kss found.0) e)
 
   known_found : (kss : List (List ExpressionInfo)) →
       Finds (first_known_fault (length m.overrides) (length m.types) kss)
-          (list_all (list_all (λ k. resolution_fits (length m.overrides) (length m.types) k.ty)) kss) (UnknownAt kss)
+      (list_all (list_all (λ k. resolution_fits (length m.overrides) (length m.types) k.ty)) kss) (UnknownAt kss)
   known_found kss =
       finds_plain_faulty (λ h ks found. (e : ℕ) × (found ≡ (part.Expression e, fault.KnownType))
-          × Unfit (resolution_fits (length m.overrides) (length m.types)) (known_of kss h) e)
+      × Unfit (resolution_fits (length m.overrides) (length m.types)) (known_of kss h) e)
       (list_all (λ k. resolution_fits (length m.overrides) (length m.types) k.ty))
-          (known_fault (length m.overrides) (length m.types)) kss
+      (known_fault (length m.overrides) (length m.types)) kss
       (λ h ks here. finds_map (λ e. (part.Expression e, fault.KnownType)) _
       (finds_weaker (first_unknown (length m.overrides) (length m.types) ks)
       (λ e fails. (
@@ -438,7 +438,7 @@ module _ (m : Module) (info : ModuleInfo) where
   globals_known : Finds (first_unfit (λ _. resolution_fits (length m.overrides) (length m.types))
       (enumerate_from 0 info.const_expression_types.items))
       (list_all (resolution_fits (length m.overrides) (length m.types)) info.const_expression_types.items)
-          (λ h. Fails m info (at (item.GlobalExpression h) fault.KnownType))
+      (λ h. Fails m info (at (item.GlobalExpression h) fault.KnownType))
   globals_known = finds_plain (resolution_fits (length m.overrides) (length m.types)) info.const_expression_types.items
 
   info_found : length m.functions ≡ length info.functions.items → length m.entry_points.items
@@ -447,10 +447,10 @@ module _ (m : Module) (info : ModuleInfo) where
   info_found functions entry_points =
       finds_or _ _ (finds_map (λ found. at_function found.0 found.1) _
       (finds_weaker (first_known_fault (length m.overrides) (length m.types) info.functions.items) in_function
-          (known_found info.functions.items)))
+      (known_found info.functions.items)))
       (λ _. finds_or _ _ (finds_map (λ found. at_entry_point found.0 found.1) _
       (finds_weaker (first_known_fault (length m.overrides) (length m.types) info.entry_points.items)
-          in_entry_point (known_found info.entry_points.items)))
+      in_entry_point (known_found info.entry_points.items)))
       (λ _. finds_map (λ h. at (item.GlobalExpression h) fault.KnownType) _ globals_known))
     where
       in_function : (found : ℕ × (FunctionPosition × Fault)) → UnknownAt info.functions.items found →
@@ -485,37 +485,37 @@ module _ (m : Module) (info : ModuleInfo) where
 
   globals_sound : Finds (expressions_sound_fault m None info.const_expression_types.items m.global_expressions)
       (list_all (λ p. has_its_type m None info.const_expression_types.items p.0 p.1
-          && operands_fit m.types info.const_expression_types.items p.1)
-          (enumerate_from 0 m.global_expressions)) GlobalAt
+      && operands_fit m.types info.const_expression_types.items p.1)
+      (enumerate_from 0 m.global_expressions)) GlobalAt
   globals_sound =
       finds_weaker (expressions_sound_fault m None info.const_expression_types.items m.global_expressions)
-          (λ found at. at.2)
+      (λ found at. at.2)
       (finds_faulty (λ h x kind. GlobalAt (h, kind))
       (λ h e. has_its_type m None info.const_expression_types.items h e
-          && operands_fit m.types info.const_expression_types.items e)
+      && operands_fit m.types info.const_expression_types.items e)
       (expression_sound_fault m None info.const_expression_types.items) m.global_expressions
       (λ h e here. finds_unless (has_its_type m None info.const_expression_types.items h e) fault.OtherType
       (λ fails. unfit_at (has_its_type m None info.const_expression_types.items h) m.global_expressions h e here fails)
       (λ _. finds_test (operands_fit m.types info.const_expression_types.items e) fault.OperandTypes
       (λ fails. unfit_at (operands_fit m.types info.const_expression_types.items) m.global_expressions h e here
-          fails))))
+      fails))))
 
   constants_sound : Finds (first_unfit (λ _. constant_is_sound m.types info.const_expression_types.items)
       (enumerate_from 0 m.constants))
       (list_all (constant_is_sound m.types info.const_expression_types.items) m.constants)
-          (λ h. Fails m info (at (item.Constant h) fault.InitialiserType))
+      (λ h. Fails m info (at (item.Constant h) fault.InitialiserType))
   constants_sound = finds_plain (constant_is_sound m.types info.const_expression_types.items) m.constants
 
   overrides_sound : Finds (first_unfit (λ _. override_is_sound m.types info.const_expression_types.items)
       (enumerate_from 0 m.overrides))
       (list_all (override_is_sound m.types info.const_expression_types.items) m.overrides)
-          (λ h. Fails m info (at (item.Override h) fault.InitialiserType))
+      (λ h. Fails m info (at (item.Override h) fault.InitialiserType))
   overrides_sound = finds_plain (override_is_sound m.types info.const_expression_types.items) m.overrides
 
   variables_sound : Finds (first_unfit (λ _. global_is_sound m.types info.const_expression_types.items)
       (enumerate_from 0 m.global_variables))
       (list_all (global_is_sound m.types info.const_expression_types.items) m.global_variables)
-          (λ h. Fails m info (at (item.GlobalVariable h) fault.InitialiserType))
+      (λ h. Fails m info (at (item.GlobalVariable h) fault.InitialiserType))
   variables_sound = finds_plain (global_is_sound m.types info.const_expression_types.items) m.global_variables
 
   initialisers_found : Finds (initialisers_fault m info.const_expression_types.items)
@@ -529,7 +529,7 @@ module _ (m : Module) (info : ModuleInfo) where
       (declarations_are_sound m info.const_expression_types.items) (Fails m info)
   declarations_sound =
       finds_or _ _ (finds_same (all_both (has_its_type m None info.const_expression_types.items)
-          (operands_fit m.types info.const_expression_types.items) 0 m.global_expressions)
+      (operands_fit m.types info.const_expression_types.items) 0 m.global_expressions)
       (finds_map (λ found. at (item.GlobalExpression found.0) found.1) _ globals_sound))
       (λ _. initialisers_found)
 
@@ -537,14 +537,14 @@ module _ (m : Module) (info : ModuleInfo) where
       (all_paired (function_is_sound m) m.functions info.functions.items) (Fails m info)
   functions_sound =
       finds_unless (length m.functions == length info.functions.items) (at item.Module fault.InfoSize)
-          (λ fails. and_left _ _ fails)
+      (λ fails. and_left _ _ fails)
       (λ _. finds_map (λ found. at_function found.0 found.1) _
       (finds_weaker (first_faulty (λ _ p. function_sound_fault m p.0 (map (λ k. k.ty) p.1))
-          (enumerate_from 0 (zip m.functions info.functions.items))) placed
+      (enumerate_from 0 (zip m.functions info.functions.items))) placed
       (finds_plain_faulty
       (λ h p found. FunctionPositionFails m h p.0 (map (λ k. k.ty) p.1) found.0 found.1)
       (λ p. function_is_sound m p.0 p.1) (λ _ p. function_sound_fault m p.0 (map (λ k. k.ty) p.1))
-          (zip m.functions info.functions.items)
+      (zip m.functions info.functions.items)
       (λ h p here. function_sound m h p.0 (map (λ k. k.ty) p.1)))))
     where
       placed : (found : ℕ × (FunctionPosition × Fault)) → AtItem (zip m.functions info.functions.items)
@@ -554,7 +554,7 @@ module _ (m : Module) (info : ModuleInfo) where
           let both = zip_parts m.functions info.functions.items found.0 at.0 at.1
           in part_placed found.0 at.0.0 both.0 found.1.1 found.1.0
           (subst (λ known. FunctionPositionFails m found.0 at.0.0 known found.1.0 found.1.1)
-              (sym (known_is info.functions.items found.0 at.0.1 both.1)) at.2)
+          (sym (known_is info.functions.items found.0 at.0.1 both.1)) at.2)
 
   entry_points_sound : Finds (entry_points_sound_fault m m.entry_points.items info.entry_points.items)
       (all_paired (entry_point_is_sound m) m.entry_points.items info.entry_points.items) (Fails m info)
@@ -563,11 +563,11 @@ module _ (m : Module) (info : ModuleInfo) where
       (λ fails. and_right (length m.functions == length info.functions.items) _ (and_left _ _ fails))
       (λ _. finds_map (λ found. at_entry_point found.0 found.1) _
       (finds_weaker (first_faulty (λ _ p. function_sound_fault m p.0.function (map (λ k. k.ty) p.1))
-          (enumerate_from 0 (zip m.entry_points.items info.entry_points.items))) placed
+      (enumerate_from 0 (zip m.entry_points.items info.entry_points.items))) placed
       (finds_plain_faulty (λ h p found. FunctionPositionFails m (length m.functions) p.0.function
-          (map (λ k. k.ty) p.1) found.0 found.1)
+      (map (λ k. k.ty) p.1) found.0 found.1)
       (λ p. entry_point_is_sound m p.0 p.1) (λ _ p. function_sound_fault m p.0.function (map (λ k. k.ty) p.1))
-          (zip m.entry_points.items info.entry_points.items)
+      (zip m.entry_points.items info.entry_points.items)
       (λ h p here. function_sound m (length m.functions) p.0.function (map (λ k. k.ty) p.1)))))
     where
       placed : (found : ℕ × (FunctionPosition × Fault)) →
@@ -580,7 +580,7 @@ module _ (m : Module) (info : ModuleInfo) where
           in entry_placed found.0 at.0.0 both.0 found.1.1 found.1.0
           (entry_part at.0.0 (known_of info.entry_points.items found.0) found.1.0 found.1.1
           (subst (λ known. FunctionPositionFails m (length m.functions) at.0.0.function known found.1.0
-              found.1.1) (sym (known_is info.entry_points.items found.0 at.0.1 both.1)) at.2))
+          found.1.1) (sym (known_is info.entry_points.items found.0 at.0.1 both.1)) at.2))
 
   pub sound_found : Finds (sound_fault m info) (module_is_sound m info) (Fails m info)
   unfolding module_is_sound
@@ -612,7 +612,7 @@ module _ (m : Module) (info : ModuleInfo) where
       module_ranges_fit m info ≡ true
   fits_named named is none =
       passes named (module_ranges_fit m info)
-          (subst (λ found. Finds found (module_ranges_fit m info) (Fails m info)) (sym is) ranges_found) none
+      (subst (λ found. Finds found (module_ranges_fit m info) (Fails m info)) (sym is) ranges_found) none
 
   pub accepted_wanted : (named wanted : Option Unaccepted) → named ≡ ranges_fault m info → is_some named ≡ false →
       wanted ≡ sound_fault m info → is_some wanted ≡ true → is_none wanted ≡ is_accepted m info
@@ -628,7 +628,7 @@ module _ (m : Module) (info : ModuleInfo) where
   pub accepted_operators : (named wanted found : Option Unaccepted) → named ≡ ranges_fault m info →
       is_some named ≡ false →
       wanted ≡ sound_fault m info → is_some wanted ≡ false → is_none found ≡ module_operators_agree m info →
-          is_none found ≡ is_accepted m info
+      is_none found ≡ is_accepted m info
   unfolding is_accepted
   accepted_operators named wanted found is none next nothing agree =
       agree

@@ -20,7 +20,7 @@ level_then h l (Some xs) some = refl
 pub over_then : (types : List Type_) (h : ℕ) (o : Over) (x : Top) → suc (rank x.over) ≤ rank o →
     next_key o (top_key types (Some x)) ≡ over_key types o → is_some (over_key types x.over) ≡ true →
     all_mixed h (unwrap_or (over_key types o) []) ≡ all_mixed (all_mixed h (numbers x.level))
-        (unwrap_or (over_key types x.over) [])
+    (unwrap_or (over_key types x.over) [])
 over_then types h o x less e some =
     ap (λ w. all_mixed h (unwrap_or w [])) (over_is types o x less e)
-        ∙ level_then h x.level (over_key types x.over) some
+    ∙ level_then h x.level (over_key types x.over) some

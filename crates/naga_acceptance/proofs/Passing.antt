@@ -14,4 +14,4 @@ are_passed-unequal types known [] (x ∷ xs) other = refl
 are_passed-unequal types known (a ∷ wanted) [] other = refl
 are_passed-unequal types known (a ∷ wanted) (x ∷ xs) other =
     and_right (value_has_type types known x (Handle a.ty)) (are_passed types known wanted xs)
-        (are_passed-unequal types known wanted xs (λ same. other (ap suc same)))
+    (are_passed-unequal types known wanted xs (λ same. other (ap suc same)))

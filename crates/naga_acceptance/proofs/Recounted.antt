@@ -71,13 +71,13 @@ same_groups fs (g ∷ gs) [] = refl
 same_groups [] (g ∷ gs) (es ∷ ess) = refl
 same_groups (f ∷ fs) (g ∷ gs) (es ∷ ess) =
     λ i. record { expressions = f.expressions; known = same_types (use_count (operand_positions g)) 0 es i }
-        ∷ same_groups fs gs ess i
+    ∷ same_groups fs gs ess i
 
 module _ (m : Module) (old new : ModuleInfo)
     (functions : new.functions.items ≡ all_with_counts m.functions old.functions.items)
     (entries : new.entry_points.items
-        ≡ all_with_counts (functions_of m.entry_points.items) old.entry_points.items)
-        (types : new.const_expression_types ≡ old.const_expression_types) where
+    ≡ all_with_counts (functions_of m.entry_points.items) old.entry_points.items)
+    (types : new.const_expression_types ≡ old.const_expression_types) where
   abbrev points : List Function
   points = functions_of m.entry_points.items
 

@@ -40,7 +40,7 @@ levels_then : (l m : Level) (xs ys : List ℕ) → bytes_eq (numbers l ++ xs) (n
     ≡ bytes_eq (numbers l) (numbers m) && bytes_eq xs ys
 levels_then l m xs ys =
     six (nat_eq l.tag m.tag) (nat_eq l.first m.first) (nat_eq l.second m.second) (nat_eq l.third m.third)
-        (nat_eq l.fourth m.fourth) (nat_eq l.fifth m.fifth) (bytes_eq xs ys)
+    (nat_eq l.fourth m.fourth) (nat_eq l.fifth m.fifth) (bytes_eq xs ys)
 
 -- the numbers after a level, where there are some
 abbrev pub following : Level → Option (List ℕ) → Option (List ℕ)
@@ -48,7 +48,7 @@ following l o = option_map (λ rest. numbers l ++ rest) o
 
 rests : (l m : Level) (p q : Option (List ℕ)) → is_some p ≡ true → is_some q ≡ true →
     bytes_eq (unwrap_or (following l p) []) (unwrap_or (following m q) []) ≡ bytes_eq (numbers l) (numbers m)
-        && bytes_eq (unwrap_or p []) (unwrap_or q [])
+    && bytes_eq (unwrap_or p []) (unwrap_or q [])
 rests l m None q x y = absurd (true≢false (sym x))
 rests l m (Some xs) None x y = absurd (true≢false (sym y))
 rests l m (Some xs) (Some ys) x y = levels_then l m xs ys
@@ -84,13 +84,13 @@ module _ (types : List Type_) where
       is_some (over_key types o) ≡ true → is_some (over_key types p) ≡ true →
       bytes_eq (unwrap_or (over_key types o) []) (unwrap_or (over_key types p) [])
       ≡ bytes_eq (numbers x.level) (numbers y.level) && bytes_eq (unwrap_or (over_key types x.over) [])
-          (unwrap_or (over_key types y.over) [])
+      (unwrap_or (over_key types y.over) [])
   both_go_on o p x y lx ex ly ey so sp =
       ap (λ w. bytes_eq (unwrap_or w []) (unwrap_or (over_key types p) [])) (over_is o x lx ex)
       ∙ (ap (λ w. bytes_eq (unwrap_or (following x.level (over_key types x.over)) []) (unwrap_or w []))
-          (over_is p y ly ey)
+      (over_is p y ly ey)
       ∙ rests x.level y.level (over_key types x.over) (over_key types y.over) (over_goes_on o x lx ex so)
-          (over_goes_on p y ly ey sp))
+      (over_goes_on p y ly ey sp))
 
   -- one that goes on is not the same as one that ends
   goes_on_apart : (l : Level) (o : Option (List ℕ)) → is_some o ≡ true →
@@ -109,7 +109,7 @@ module _ (types : List Type_) where
   first_ends o p y eo ly ey so sp =
       ap (λ w. bytes_eq (unwrap_or w []) (unwrap_or (over_key types p) [])) (over_ends o eo so)
       ∙ (ap (λ w. bytes_eq [] (unwrap_or w [])) (over_is p y ly ey) ∙ ends_apart y.level (over_key types y.over)
-          (over_goes_on p y ly ey sp))
+      (over_goes_on p y ly ey sp))
 
   pub second_ends : (o p : Over) (x : Top) → suc (rank x.over) ≤ rank o → next_key o (top_key types (Some x))
       ≡ over_key types o →
@@ -119,14 +119,14 @@ module _ (types : List Type_) where
   second_ends o p x lx ex ep so sp =
       ap (λ w. bytes_eq (unwrap_or (over_key types o) []) (unwrap_or w [])) (over_ends p ep sp)
       ∙ (ap (λ w. bytes_eq (unwrap_or w []) []) (over_is o x lx ex)
-          ∙ goes_on_apart x.level (over_key types x.over) (over_goes_on o x lx ex so))
+      ∙ goes_on_apart x.level (over_key types x.over) (over_goes_on o x lx ex so))
 
   pub both_end : (o p : Over) → next_key o None ≡ over_key types o → next_key p None ≡ over_key types p →
       is_some (over_key types o) ≡ true → is_some (over_key types p) ≡ true →
       bytes_eq (unwrap_or (over_key types o) []) (unwrap_or (over_key types p) []) ≡ true
   both_end o p eo ep so sp =
       ap (λ w. bytes_eq (unwrap_or w []) (unwrap_or (over_key types p) [])) (over_ends o eo so)
-          ∙ ap (λ w. bytes_eq [] (unwrap_or w [])) (over_ends p ep sp)
+      ∙ ap (λ w. bytes_eq [] (unwrap_or w [])) (over_ends p ep sp)
 
   -- ---- whole types
 

@@ -44,7 +44,7 @@ module _ {X : Type 0} (test : X → Bool) where
       by : (fits : Bool) → numbered test (wrapping_add n 1) (xs ++ ys)
           ≡ onward test (numbered test (wrapping_add n 1) xs) ys
           → (if fits then numbered test (wrapping_add n 1) (xs ++ ys) else Err n)
-              ≡ onward test (if fits then numbered test (wrapping_add n 1) xs else Err n) ys
+          ≡ onward test (if fits then numbered test (wrapping_add n 1) xs else Err n) ys
       by true same = same
       by false same = refl
 
@@ -54,7 +54,7 @@ module _ {X : Type 0} (test : X → Bool) where
     where
       by : (fits : Bool) → is_none (result_err (numbered test (wrapping_add n 1) xs)) ≡ list_all test xs
           → is_none (result_err (if fits then numbered test (wrapping_add n 1) xs else Err n))
-              ≡ fits && list_all test xs
+          ≡ fits && list_all test xs
       by true same = same
       by false same = refl
 
@@ -64,15 +64,15 @@ module _ (test : PlacedStatement → Bool) (breaks continues : Bool) where
   pub block_next : (n : ℕ) (ss : List Statement) (i : ℕ) (d : Statement) → i < length ss
       → numbered test n (statements_in breaks continues (block_of (drop i ss)))
       ≡ onward test
-          (numbered test n
-          (record { breaks = breaks; continues = continues; tree = tree_of (slice_index_or ss i d) }
-          ∷ statements_inside breaks continues (tree_of (slice_index_or ss i d))))
+      (numbered test n
+      (record { breaks = breaks; continues = continues; tree = tree_of (slice_index_or ss i d) }
+      ∷ statements_inside breaks continues (tree_of (slice_index_or ss i d))))
       (statements_in breaks continues (block_of (drop (i + 1) ss)))
   block_next n ss i d h =
       ap (λ ts. numbered test n (statements_in breaks continues (block_of ts))) (drop_more ss i d h)
       ∙ numbered_append test n
-          (record { breaks = breaks; continues = continues; tree = tree_of (slice_index_or ss i d) }
-          ∷ statements_inside breaks continues (tree_of (slice_index_or ss i d)))
+      (record { breaks = breaks; continues = continues; tree = tree_of (slice_index_or ss i d) }
+      ∷ statements_inside breaks continues (tree_of (slice_index_or ss i d)))
       (statements_in breaks continues (block_of (drop (i + 1) ss)))
 
   pub cases_next : (n : ℕ) (cs : List SwitchCase) (i : ℕ) (d : SwitchCase) → i < length cs
@@ -129,12 +129,12 @@ module _ (callees expressions : ℕ) where
     statement_range breaks continues (switch selector cs) =
         both refl (cases_range true continues cs)
         ∙ sym (regroup (nat_lt selector expressions) (case_values_fit_32_bits cs)
-            (list_all (is_in_range callees expressions) (case_statements true continues cs)))
+        (list_all (is_in_range callees expressions) (case_statements true continues cs)))
     statement_range breaks continues (loop body continuing break_if) =
         last_first (block_in_range callees expressions body) (block_in_range callees expressions continuing)
-            (is_below expressions break_if)
+        (is_below expressions break_if)
         ∙ both refl (joined (is_in_range callees expressions) (statements_in true true body)
-            (statements_in false false continuing) (block_range true true body) (block_range false false continuing))
+        (statements_in false false continuing) (block_range true true body) (block_range false false continuing))
 
     pub block_range : (breaks continues : Bool) (b : BlockTree) → block_in_range callees expressions b
         ≡ list_all (is_in_range callees expressions) (statements_in breaks continues b)
@@ -145,7 +145,7 @@ module _ (callees expressions : ℕ) where
         (list_all (is_in_range callees expressions) (statements_inside breaks continues s))
         (list_all (is_in_range callees expressions) (statements_in breaks continues b))
         ∙ both refl (sym (list_all-append (is_in_range callees expressions)
-            (statements_inside breaks continues s) (statements_in breaks continues b))))
+        (statements_inside breaks continues s) (statements_in breaks continues b))))
 
     -- the values of all cases, and then the statements of all
     cases_range : (breaks continues : Bool) (cs : CaseTrees) →
@@ -159,7 +159,7 @@ module _ (callees expressions : ℕ) where
         (case_values_fit_32_bits cs)
         (list_all (is_in_range callees expressions) (case_statements breaks continues cs))
         ∙ both refl (sym (list_all-append (is_in_range callees expressions) (statements_in breaks continues b)
-            (case_statements breaks continues cs))))
+        (case_statements breaks continues cs))))
 
 module _ (m : Module) (f : Function) (known : List TypeResolution) where
   mutual
@@ -179,9 +179,9 @@ module _ (m : Module) (f : Function) (known : List TypeResolution) where
     statement_sound breaks continues (switch selector cs) = both refl (cases_sound true continues cs)
     statement_sound breaks continues (loop body continuing break_if) =
         last_first (block_is_sound m f known true true body) (block_is_sound m f known false false continuing)
-            (option_map_or (is_condition m.types known) break_if true)
+        (option_map_or (is_condition m.types known) break_if true)
         ∙ both refl (joined (is_sound m f known) (statements_in true true body)
-            (statements_in false false continuing) (block_sound true true body) (block_sound false false continuing))
+        (statements_in false false continuing) (block_sound true true body) (block_sound false false continuing))
 
     pub block_sound : (breaks continues : Bool) (b : BlockTree) → block_is_sound m f known breaks continues b
         ≡ list_all (is_sound m f known) (statements_in breaks continues b)
@@ -189,17 +189,17 @@ module _ (m : Module) (f : Function) (known : List TypeResolution) where
     block_sound breaks continues (statement s b) =
         both (statement_sound breaks continues s) (block_sound breaks continues b)
         ∙ (regroup (own_is_sound m f known breaks continues s)
-            (list_all (is_sound m f known) (statements_inside breaks continues s))
-            (list_all (is_sound m f known) (statements_in breaks continues b))
+        (list_all (is_sound m f known) (statements_inside breaks continues s))
+        (list_all (is_sound m f known) (statements_in breaks continues b))
         ∙ both refl (sym (list_all-append (is_sound m f known) (statements_inside breaks continues s)
-            (statements_in breaks continues b))))
+        (statements_in breaks continues b))))
 
     cases_sound : (breaks continues : Bool) (cs : CaseTrees) → cases_are_sound m f known breaks continues cs
         ≡ list_all (is_sound m f known) (case_statements breaks continues cs)
     cases_sound breaks continues no_cases = refl
     cases_sound breaks continues (case v b falls cs) =
         joined (is_sound m f known) (statements_in breaks continues b) (case_statements breaks continues cs)
-            (block_sound breaks continues b) (cases_sound breaks continues cs)
+        (block_sound breaks continues b) (cases_sound breaks continues cs)
 
 -- no statement is found where the body fits
 pub range_fits : (callees expressions : ℕ) (b : BlockTree) →
@@ -207,7 +207,7 @@ pub range_fits : (callees expressions : ℕ) (b : BlockTree) →
     ≡ block_in_range callees expressions b
 range_fits callees expressions b =
     numbered_fits (is_in_range callees expressions) 0 (text_order b)
-        ∙ sym (block_range callees expressions false false b)
+    ∙ sym (block_range callees expressions false false b)
 
 pub sound_fits : (m : Module) (f : Function) (known : List TypeResolution) →
     is_none (result_err (numbered (is_sound m f known) 0 (text_order f.body))) ≡ body_is_sound m f known

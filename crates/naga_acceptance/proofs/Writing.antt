@@ -59,7 +59,7 @@ IsWritten-kept target initial xs i d h w is =
     in record {
       done = take_more xs i d in_xs ∙ ap (λ ys. ys ++ slice_index_or xs i d ∷ []) w.done
           ∙ ap (λ z. take i target ++ z ∷ []) (IsWritten-read target initial xs i d w ∙ is)
-              ∙ sym (take_more target i d in_target);
+          ∙ sym (take_more target i d in_target);
       left = same_left i initial xs d h in_xs w.left;
       same_length = w.same_length;
       kept_length = w.kept_length;

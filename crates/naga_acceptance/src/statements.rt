@@ -6,7 +6,8 @@ ghost use Rattle.std.specs.Result.{result_err};
 ghost use Rattle.naga_acceptance.specs.KnownTypes.{inferred, known_types};
 ghost use Rattle.naga_ir.specs.StatementViews.{cases_of, tree_of};
 ghost use Rattle.module_meaning.specs.acceptance.OperandDemands.{operand_is, points_to_components};
-ghost use Rattle.naga_acceptance.specs.TextOrder.{is_sound, numbered, own_is_sound, text_order};
+ghost use Rattle.naga_acceptance.specs.TextOrder.{is_sound, numbered, own_components_pointer};
+ghost use Rattle.naga_acceptance.specs.TextOrder.{own_is_sound, text_order};
 ghost use Rattle.module_meaning.specs.acceptance.StatementsFit.{are_passed, body_is_sound};
 ghost use Rattle.module_meaning.specs.acceptance.StatementsFit.{has_case_value, is_answered};
 ghost use Rattle.module_meaning.specs.acceptance.StatementsFit.{is_atomic_result};
@@ -474,6 +475,16 @@ pub(crate) fn is_call(
 
 // ---- statements
 
+/// The pointer to a scalar or a vector that a statement by itself wants, if it wants that alone.
+pub fn components_pointer(statement: &Statement) -> Option<Handle<Expression>>
+    ensures { result ≡ own_components_pointer (tree_of statement.now) }
+{
+    match statement {
+        Statement::CooperativeStore { data_, .. } => Some(data_.pointer),
+        _ => None,
+    }
+}
+
 /// Whether a statement by itself, its blocks left out, gets what it wants. It may leave the nearest
 /// loop or switch where it `breaks`, and go on with the nearest loop's `continuing` where it
 /// `continues`.
@@ -526,12 +537,10 @@ pub(crate) fn own_is_sound(
             result: outcome,
             ..
         } => is_subgroup_result(function, *outcome),
-        Statement::CooperativeStore { data_, .. } => is_components_pointer(
-            types,
-            known,
-            data_.pointer,
-        ),
-        _ => true,
+        _ => match components_pointer(statement) {
+            Some(pointer) => is_components_pointer(types, known, pointer),
+            None => true,
+        },
     }
 }
 

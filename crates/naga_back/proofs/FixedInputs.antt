@@ -46,7 +46,7 @@ first-append (x ∷ way) b found =
 
 append-later : (o : Option (List (Option Binding))) (b : Option Binding) (found : Option BuiltIn) →
     option_and_then (named_by found) (option_map (λ way. way ++ b ∷ []) o)
-        ≡ option_and_then (named_by (option_or (builtin_of b) found)) o
+    ≡ option_and_then (named_by (option_or (builtin_of b) found)) o
 append-later None b found = refl
 append-later (Some way) b found = first-append way b found
 
@@ -54,11 +54,11 @@ append-later (Some way) b found = first-append way b found
 pub walk_begins : (arguments : List Argument) (member : ℕ → ℕ → Option (Option Binding)) (es : List Expression)
     (steps handle : ℕ) →
     option_and_then first_builtin (way_of arguments member es steps handle) ≡ rest_of_walk arguments member es
-        (steps - 0) handle None
+    (steps - 0) handle None
 unfolding rest_of_walk
 walk_begins arguments member es steps handle =
     begins (way_of arguments member es steps handle)
-        ∙ ap (λ n. option_and_then (named_by None) (way_of arguments member es n handle)) (sym (sub_none steps))
+    ∙ ap (λ n. option_and_then (named_by None) (way_of arguments member es n handle)) (sym (sub_none steps))
 
 -- with no step left nothing is answered
 pub walk_ends : (arguments : List Argument) (member : ℕ → ℕ → Option (Option Binding)) (es : List Expression)
@@ -72,25 +72,25 @@ at_expression : (arguments : List Argument) (member : ℕ → ℕ → Option (Op
     (n k handle : ℕ) (found : Option BuiltIn) (e : Expression) →
     k < n → slice_get es handle ≡ Some e →
     rest_of_walk arguments member es (n - k) handle found ≡ option_and_then (named_by found)
-        (way_by arguments member (way_of arguments member es (n - (k + 1))) e)
+    (way_by arguments member (way_of arguments member es (n - (k + 1))) e)
 unfolding rest_of_walk
 at_expression arguments member es n k handle found e below is_there =
     ap (λ s. option_and_then (named_by found) (way_of arguments member es s handle)) (step_taken n k below) ∙
     ap (λ o. option_and_then (named_by found)
-        (option_and_then (way_by arguments member (way_of arguments member es (n - (k + 1)))) o)) is_there
+    (option_and_then (way_by arguments member (way_of arguments member es (n - (k + 1)))) o)) is_there
 
 -- a member goes on at the struct that it is taken of
 pub walk_at_member : (arguments : List Argument) (member : ℕ → ℕ → Option (Option Binding))
     (es : List Expression) (n k handle : ℕ) (found : Option BuiltIn) (base index : ℕ) (b : Option Binding) →
     k < n → slice_get es handle ≡ Some (AccessIndex base index) → member base index ≡ Some b →
     rest_of_walk arguments member es (n - k) handle found ≡ rest_of_walk arguments member es (n - (k + 1)) base
-        (option_or (builtin_of b) found)
+    (option_or (builtin_of b) found)
 unfolding rest_of_walk
 walk_at_member arguments member es n k handle found base index b below is_there is_member =
     at_expression arguments member es n k handle found (AccessIndex base index) below is_there ∙
     ap (λ o. option_and_then (named_by found)
-        (option_and_then (λ binding. option_map (λ way. way ++ binding ∷ [])
-        (way_of arguments member es (n - (k + 1)) base)) o)) is_member ∙
+    (option_and_then (λ binding. option_map (λ way. way ++ binding ∷ [])
+    (way_of arguments member es (n - (k + 1)) base)) o)) is_member ∙
     append-later (way_of arguments member es (n - (k + 1)) base) b found
 
 -- no member, no way
@@ -101,8 +101,8 @@ pub walk_without_member : (arguments : List Argument) (member : ℕ → ℕ → 
 walk_without_member arguments member es n k handle found base index below is_there is_member =
     at_expression arguments member es n k handle found (AccessIndex base index) below is_there ∙
     ap (λ o. option_and_then (named_by found)
-        (option_and_then (λ binding. option_map (λ way. way ++ binding ∷ [])
-        (way_of arguments member es (n - (k + 1)) base)) o)) is_member
+    (option_and_then (λ binding. option_map (λ way. way ++ binding ∷ [])
+    (way_of arguments member es (n - (k + 1)) base)) o)) is_member
 
 -- at an argument the walk ends
 pub walk_at_argument : (arguments : List Argument) (member : ℕ → ℕ → Option (Option Binding))
@@ -131,8 +131,8 @@ unfolding rest_of_walk
 walk_past_the_end arguments member es zero handle found past = refl
 walk_past_the_end arguments member es (suc steps) handle found past =
     ap (λ o. option_and_then (named_by found)
-        (option_and_then (way_by arguments member (way_of arguments member es steps)) o))
-        (slice_get_past es handle past)
+    (option_and_then (way_by arguments member (way_of arguments member es steps)) o))
+    (slice_get_past es handle past)
 
 -- any other expression has no way
 pub walk_at_another : (arguments : List Argument) (member : ℕ → ℕ → Option (Option Binding))
@@ -141,12 +141,12 @@ pub walk_at_another : (arguments : List Argument) (member : ℕ → ℕ → Opti
     rest_of_walk arguments member es (n - k) handle found ≡ None
 walk_at_another arguments member es n k handle found e below is_there is_no_way =
     at_expression arguments member es n k handle found e below is_there
-        ∙ ap (λ o. option_and_then (named_by found) o) is_no_way
+    ∙ ap (λ o. option_and_then (named_by found) o) is_no_way
 
 pub no_way_of_others : (arguments : List Argument) (member : ℕ → ℕ → Option (Option Binding))
     (before : ℕ → Option (List (Option Binding))) (e : Expression) →
     ((base index : ℕ) → e ≡ AccessIndex base index → ⊥) → ((number : ℕ) → e ≡ FunctionArgument number → ⊥) →
-        way_by arguments member before e ≡ None
+    way_by arguments member before e ≡ None
 no_way_of_others arguments member before (AccessIndex base index) not_member not_argument =
     absurd (not_member base index refl)
 no_way_of_others arguments member before (FunctionArgument number) not_member not_argument =

@@ -124,7 +124,7 @@ module _ (m : Module) (info : ModuleInfo) (g : ℕ) (f : ir_function.Function)
       let next : (l + 1) + length vs ≡ length f.local_variables = omega (arith, size) in
       let here = element f.local_variables l lt in
       let both = and_parts (local_in_range (length m.types) (length f.expressions) v)
-          (list_all (local_in_range (length m.types) (length f.expressions)) vs) fit in
+      (list_all (local_in_range (length m.types) (length f.expressions)) vs) fit in
       let parts = and_parts (nat_lt v.ty (length m.types)) (is_below (length f.expressions) v.init) both.0 in (
         record {
           name = item_is_identifier m (local_item m g l here.0) (local_there m g f l here.0 found here.1);
@@ -161,7 +161,7 @@ module _ (m : Module) (info : ModuleInfo) (g : ℕ) (f : ir_function.Function)
   parameters_are n (a ∷ args) size at =
       let next : (n + 1) + length args ≡ length f.arguments.items = omega (arith, size) in
       let here : slice_get f.arguments.items n ≡ Some a = ap (slice_get f.arguments.items) (sym (zero-add n))
-          ∙ sym (at 0) in (
+      ∙ sym (at 0) in (
         record {
           attributes = passing_is a.binding
               (list_all_at (λ a. option_map_or binding_fits_32_bits a.binding true) f.arguments.items n a
@@ -215,7 +215,7 @@ module _ (m : Module) (info : ModuleInfo) (g : ℕ) (f : ir_function.Function)
             (λ k. ap (slice_get f.local_variables) (sym (add-zero k))) (locals_are_in_range m callees f ranges);
         body = lines_are flags m info g f es named identifiers few W formed unnamed_formed
             (annotated_type (annotates_types flags) m (type_names m) es)
-                (distinguished_is m types (annotates_types flags) es fits) 0
+            (distinguished_is m types (annotates_types flags) es fits) 0
             f.body statements (at_start own.function) starts all_labels closed.body;
       }
 
@@ -233,8 +233,8 @@ module _ (flags : WriterFlags) (m : Module) (info : ModuleInfo) (accepted : IsTr
       let sound = soundness_is m f es is.sound in
       let known = map (λ e. e.ty) es in
       let demands =
-          (and_parts (have_their_types m (Some f) known f.expressions)
-          (are_operands_fit m.types known f.expressions) sound.0).1 in
+      (and_parts (have_their_types m (Some f) known f.expressions)
+      (are_operands_fit m.types known f.expressions) sound.0).1 in
       function_is m info g f found es is.callees is.there is.ranges sound.1 (IsWrittenIn m info f es)
       (written_are_closed m info f es) have.expressions (types_are_fit m info accepted)
       (known_fits m info accepted g es here) demands flags have.types few named named_are

@@ -55,9 +55,9 @@ module _ (f : ℕ → Option Layout) (span : ℕ) where
           ((p : Placed) → left_from f span (Some p) (max a p.layout.alignment) more ≡
           option_and_then (laid span (Some p) (max a p.layout.alignment)) (placed_members f more)) →
           option_and_then (λ p. if is_aligned p && stands_after before p then left_from f span (Some p)
-              (max a p.layout.alignment) more else None) o ≡
+          (max a p.layout.alignment) more else None) o ≡
           option_and_then (laid span before a)
-              (option_and_then (λ p. option_map (λ ps. p ∷ ps) (placed_members f more)) o)
+          (option_and_then (λ p. option_map (λ ps. p ∷ ps) (placed_members f more)) o)
       by None each = refl
       by (Some p) each =
           ap (λ o. if is_aligned p && stands_after before p then o else None) (each p)
@@ -65,7 +65,7 @@ module _ (f : ℕ → Option Layout) (span : ℕ) where
         where
           after : (ms : Option (List Placed)) →
               (if is_aligned p && stands_after before p then option_and_then
-                  (laid span (Some p) (max a p.layout.alignment)) ms else None) ≡
+              (laid span (Some p) (max a p.layout.alignment)) ms else None) ≡
               option_and_then (laid span before a) (option_map (λ ps. p ∷ ps) ms)
           after None = by_test (is_aligned p && stands_after before p)
             where
@@ -92,7 +92,7 @@ module _ (f : ℕ → Option Layout) (aligns : AlignsAll f) where
     where
       by : (b : Bool) (o : Option Layout) → IsAlignedIf o →
           IfSome {T = Placed} (if b then option_map (λ l. record { layout = l; offset = k.offset }) o else None)
-              (λ p. IsAlignment p.layout.alignment)
+          (λ p. IsAlignment p.layout.alignment)
       by false o is = tt
       by true None is = tt
       by true (Some l) is = is
@@ -149,8 +149,10 @@ module _ (f : ℕ → Option Layout) (aligns : AlignsAll f) where
     where
       at : (size : Option ℕ) →
           IsAlignedIf (option_map
-              (λ s. record { alignment = l.alignment;
-              size = option_map (λ n. n * stride_of l.alignment s) length }) size)
+          (λ s. record {
+            alignment = l.alignment;
+            size = option_map (λ n. n * stride_of l.alignment s) length;
+          }) size)
       at None = tt
       at (Some s) = is
 
@@ -261,9 +263,9 @@ one_more f span ms i k b a q before whole left held greatest is placed aligned s
           ∙ (ap (option_and_then (λ p. if is_aligned p && stands_after b p
           then left_from f span (Some p) (max a p.layout.alignment) (drop (i + 1) ms) else None)) found.1
           ∙ (ap (λ t. if t then left_from f span (Some p) (max a p.layout.alignment)
-              (drop (i + 1) ms) else None) (sym (stands b p held found.2))
+          (drop (i + 1) ms) else None) (sym (stands b p held found.2))
           ∙ ap (λ w. left_from f span (Some p) (max a w) (drop (i + 1) ms))
-              (sym (ap (λ q. q.layout.alignment) found.2))))),
+          (sym (ap (λ q. q.layout.alignment) found.2))))),
     )
 
 -- ---- tables
@@ -283,20 +285,20 @@ faults_from f before found ks = option_and_then (first_fault before found) (plac
 
 fault_more : (b : Option Placed) (found : Option Misplaced) (p : Placed) (ps : List Placed) →
     first_fault b found (p ∷ ps) ≡ (if goes_on b p then first_fault (Some p) (option_or found (own_fault b p))
-        ps else None)
+    ps else None)
 fault_more None found p ps = refl
 fault_more (Some b) found p ps = refl
 
 pub one_fault_more : (f : ℕ → Option Layout) (ms : List StructMember) (i : ℕ) (k : StructMember)
     (b : Option Placed) (found : Option Misplaced) (q : Placed) (before : Option Placed)
-        (own whole : Option Misplaced) →
+    (own whole : Option Misplaced) →
     drop i ms ≡ k ∷ drop (i + 1) ms →
     before ≡ option_map capped_member b → whole ≡ faults_from f b found (drop i ms) →
     Some q ≡ option_map capped_member (placed_member f k) →
     ((b : Option Placed) (p : Placed) → before ≡ option_map capped_member b → q ≡ capped_member p →
-        true ≡ goes_on b p) →
+    true ≡ goes_on b p) →
     ((b : Option Placed) (p : Placed) → before ≡ option_map capped_member b → q ≡ capped_member p →
-        own ≡ own_fault b p) →
+    own ≡ own_fault b p) →
     (x : Option Placed) × (Some q ≡ option_map capped_member x) ×
     (whole ≡ faults_from f x (option_or found own) (drop (i + 1) ms))
 one_fault_more f ms i k b found q before own whole left held is placed goes owns =
@@ -306,7 +308,7 @@ one_fault_more f ms i k b found q before own whole left held is placed goes owns
       ap (λ q. Some q) some.2,
       is ∙ (ap (faults_from f b found) left
           ∙ (ap (λ o. option_and_then (first_fault b found)
-              (option_and_then (λ p. option_map (λ ps. p ∷ ps) (placed_members f (drop (i + 1) ms))) o)) some.1
+          (option_and_then (λ p. option_map (λ ps. p ∷ ps) (placed_members f (drop (i + 1) ms))) o)) some.1
           ∙ (by p (placed_members f (drop (i + 1) ms)) (sym (goes b p held some.2))
           ∙ ap (λ w. faults_from f (Some p) (option_or found w) (drop (i + 1) ms)) (sym (owns b p held some.2))))),
     )
@@ -326,14 +328,14 @@ pub no_fault_more : (f : ℕ → Option Layout) (ms : List StructMember) (i : �
     before ≡ option_map capped_member b → whole ≡ faults_from f b found (drop i ms) →
     Some q ≡ option_map capped_member (placed_member f k) →
     ((b : Option Placed) (p : Placed) → before ≡ option_map capped_member b → q ≡ capped_member p →
-        false ≡ goes_on b p) →
+    false ≡ goes_on b p) →
     whole ≡ None
 no_fault_more f ms i k b found q before whole left held is placed goes =
     let some = found_member (placed_member f k) q placed in
     let p = some.0 in
     is ∙ (ap (faults_from f b found) left
     ∙ (ap (λ o. option_and_then (first_fault b found)
-        (option_and_then (λ p. option_map (λ ps. p ∷ ps) (placed_members f (drop (i + 1) ms))) o)) some.1
+    (option_and_then (λ p. option_map (λ ps. p ∷ ps) (placed_members f (drop (i + 1) ms))) o)) some.1
     ∙ by p (placed_members f (drop (i + 1) ms)) (sym (goes b p held some.2))))
   where
     by : (p : Placed) (ms : Option (List Placed)) → goes_on b p ≡ false →
@@ -354,5 +356,5 @@ pub no_row_more : (f : ℕ → Option Layout) (ms : List StructMember) (i : ℕ)
 no_row_more f ms i k b found whole left is placed =
     is ∙ (ap (faults_from f b found) left
     ∙ ap (λ o. option_and_then (first_fault b found)
-        (option_and_then (λ p. option_map (λ ps. p ∷ ps) (placed_members f (drop (i + 1) ms))) o))
-        (no_member (placed_member f k) placed))
+    (option_and_then (λ p. option_map (λ ps. p ∷ ps) (placed_members f (drop (i + 1) ms))) o))
+    (no_member (placed_member f k) placed))

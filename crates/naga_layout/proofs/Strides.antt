@@ -31,13 +31,13 @@ module _ (rule : Rule) (types : List Type_) (order : StandInOrder types) where
   found : (n m h : ℕ) (o : Option Type_) → slice_get types h ≡ o →
       ((k : ℕ) → k < h → arrays_are_kept_within n rule types k ≡ arrays_are_kept_within m rule types k) →
       option_map_or (λ t. arrays_are_kept_by (layout_at rule types) (arrays_are_kept_within n rule types)
-          t.inner) o true ≡
+      t.inner) o true ≡
       option_map_or (λ t. arrays_are_kept_by (layout_at rule types) (arrays_are_kept_within m rule types)
-          t.inner) o true
+      t.inner) o true
   found n m h None is same = refl
   found n m h (Some t) is same =
       same_arrays (layout_at rule types) (arrays_are_kept_within n rule types)
-          (arrays_are_kept_within m rule types) h same t.inner (order h t is)
+      (arrays_are_kept_within m rule types) h same t.inner (order h t is)
 
   -- enough levels give the same
   stable : (n m h : ℕ) → h < n → h < m → arrays_are_kept_within n rule types h ≡ arrays_are_kept_within m rule types h
@@ -51,9 +51,9 @@ module _ (rule : Rule) (types : List Type_) (order : StandInOrder types) where
   unfolding arrays_are_kept
   kept_is h t is =
       ap (λ o. option_map_or (λ t. arrays_are_kept_by (layout_at rule types)
-          (arrays_are_kept_within h rule types) t.inner) o true) is
+      (arrays_are_kept_within h rule types) t.inner) o true) is
       ∙ same_arrays (layout_at rule types) (arrays_are_kept_within h rule types)
-          (λ k. arrays_are_kept_within (suc k) rule types k) h
+      (λ k. arrays_are_kept_within (suc k) rule types k) h
       (λ k lt. stable h (suc k) k lt (omega arith)) t.inner (order h t is)
 
 -- nothing is wrong with what is not there
@@ -61,7 +61,7 @@ no_array_past : (rule : Rule) (types : List Type_) (h : ℕ) → length types �
 unfolding arrays_are_kept
 no_array_past rule types h le =
     ap (λ o. option_map_or (λ t. arrays_are_kept_by (layout_at rule types) (arrays_are_kept_within h rule types)
-        t.inner) o true)
+    t.inner) o true)
     (slice_get_past types h le)
 
 -- ---- a table of them

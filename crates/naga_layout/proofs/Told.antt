@@ -112,7 +112,7 @@ module _ (rule : Rule) (types : List Type_) where
     where
       by : (o : Option Type_) →
           ((h : ℕ) (x y : Layout) → layout_within n told_rule types h ≡ Some x → layout_within n rule types h
-              ≡ Some y → x ≡ y) →
+          ≡ Some y → x ≡ y) →
           option_and_then (λ t. named_layout_by told_rule (layout_within n told_rule types) h t.inner) o ≡ Some x →
           option_and_then (λ t. named_layout_by rule (layout_within n rule types) h t.inner) o ≡ Some y → x ≡ y
       by None left is also = absurd cc

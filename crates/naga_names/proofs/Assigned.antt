@@ -34,8 +34,13 @@ module _ (names : Names) (base : List ℕ) where
 
   here : (label : List ℕ) (labels : List (List ℕ)) → bytes_eq (label_base names label) base ≡ true →
       Counted names (label ∷ labels) base 0
-  here label labels is = record { place = 0; label = label; there = refl;
-      own = (bytes_decides (label_base names label) base).0 is; before = refl }
+  here label labels is = record {
+    place = 0;
+    label = label;
+    there = refl;
+    own = (bytes_decides (label_base names label) base).0 is;
+    before = refl;
+  }
 
   following : (x : List ℕ) (labels : List (List ℕ)) (k number : ℕ) (b : Bool) →
       bytes_eq (label_base names x) base ≡ b → cond b 1 0 + k ≡ number →
@@ -47,7 +52,7 @@ module _ (names : Names) (base : List ℕ) where
     own = inner.own;
     before =
         counted_first x (take inner.place labels)
-            ∙ ap (λ t. cond t 1 0 + labels_with_base names (take inner.place labels) base) is
+        ∙ ap (λ t. cond t 1 0 + labels_with_base names (take inner.place labels) base) is
         ∙ ap (λ n. cond b 1 0 + n) inner.before ∙ total;
   }
 
@@ -64,12 +69,12 @@ module _ (names : Names) (base : List ℕ) where
       either inner zero true is lt = here x labels is
       either inner (suc n) true is lt =
           let less : suc n < 1 + labels_with_base names labels base =
-              subst (λ t. suc n < cond t 1 0 + labels_with_base names labels base) is lt in
+          subst (λ t. suc n < cond t 1 0 + labels_with_base names labels base) is lt in
           let one_more : 1 + n ≡ suc n = omega arith in
           following x labels n (suc n) true is one_more (inner n (omega (arith, less)))
       either inner number false is lt =
           let less : number < 0 + labels_with_base names labels base =
-              subst (λ t. number < cond t 1 0 + labels_with_base names labels base) is lt in
+          subst (λ t. number < cond t 1 0 + labels_with_base names labels base) is lt in
           let same : 0 + number ≡ number = omega arith in
           following x labels number number false is same (inner number (omega (arith, less)))
 
@@ -79,17 +84,21 @@ module _ (names : Names) (labels : List (List ℕ)) (has : HasNamed names labels
       let base : List ℕ = label_base names assigned.label in
       let parts = split_at labels assigned.place assigned.label assigned.there in
       let more : labels_with_base names labels base ≡ labels_with_base names (take assigned.place labels) base
-          + (1 + labels_with_base names parts.0 base) =
+      + (1 + labels_with_base names parts.0 base) =
       ap (λ all. labels_with_base names all base) parts.1
-          ∙ counted_more names (take assigned.place labels) assigned.label parts.0 base refl in
+      ∙ counted_more names (take assigned.place labels) assigned.label parts.0 base refl in
       let used : uses_of names.uses base ≡ labels_with_base names labels base = has.uses_are base in
-      record { base = base; number = labels_with_base names (take assigned.place labels) base;
-          used = omega (arith, more, used); is = assigned.is }
+      record {
+        base = base;
+        number = labels_with_base names (take assigned.place labels) base;
+        used = omega (arith, more, used);
+        is = assigned.is;
+      }
 
   pub follow_assigned : (word : List ℕ) → FollowsFromUses names word → WasAssigned names labels word
   follow_assigned word follows =
       let used : uses_of names.uses follows.base ≡ labels_with_base names labels follows.base =
-          has.uses_are follows.base in
+      has.uses_are follows.base in
       let less : follows.number < uses_of names.uses follows.base = follows.used in
       let one = counted names follows.base labels follows.number (omega (arith, used, less)) in
       record {
@@ -105,7 +114,7 @@ module _ (names : Names) (labels : List (List ℕ)) (has : HasNamed names labels
   next_is_new label follows =
       let base : List ℕ = label_base names label in
       let used : uses_of names.uses follows.base ≡ labels_with_base names labels follows.base =
-          has.uses_are follows.base in
+      has.uses_are follows.base in
       let own_used : uses_of names.uses base ≡ labels_with_base names labels base = has.uses_are base in
       let less : follows.number < uses_of names.uses follows.base = follows.used in
       let one = counted names follows.base labels follows.number (omega (arith, used, less)) in

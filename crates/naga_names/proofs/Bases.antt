@@ -248,9 +248,9 @@ pub base_ends : (prefixes : List (List ℕ)) (characters : List ℕ) → ends_se
 unfolding base_of
 base_ends prefixes characters =
     kept_end prefixes (or_unnamed (without_last_separators (spelling (after_numerics characters))))
-        (before_prefix characters)
+    (before_prefix characters)
     (unnamed_end (without_last_separators (spelling (after_numerics characters)))
-        (without-end (spelling (after_numerics characters))))
+    (without-end (spelling (after_numerics characters))))
 
 -- ---- the first two characters
 -- the text begins with `__`

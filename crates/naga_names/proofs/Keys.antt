@@ -167,9 +167,10 @@ module _ (f : NameKey → ℕ) (same : (a b : NameKey) → same_key a b ≡ true
   pub apart_append : (m : ℕ) (xs ys : List LabelledItem) → AllByRecursion (λ x. f x.0 < m) xs →
       AllByRecursion (λ y. m ≤ f y.0) ys → AreApart xs → AreApart ys → AreApart (xs ++ ys)
   apart_append m [] ys low high x y = y
-  apart_append m (a ∷ xs) ys low high x y =
-      (all_append (λ y. same_key a.0 y.0 ≡ false) xs ys x.0 (below a.0 m low.0 ys high),
-      apart_append m xs ys low.1 high x.1 y)
+  apart_append m (a ∷ xs) ys low high x y = (
+    all_append (λ y. same_key a.0 y.0 ≡ false) xs ys x.0 (below a.0 m low.0 ys high),
+    apart_append m xs ys low.1 high x.1 y,
+  )
 
   module _ {X : Type 0} (section : ℕ → X → List LabelledItem)
       (own : (n : ℕ) (x : X) → AllByRecursion (λ item. f item.0 ≡ n) (section n x))
@@ -243,13 +244,21 @@ module _ (external : Bool) (make : ExternalTextureNameKey → NameKey) (item : L
 
       either : (b : Bool) → AreApart (item ∷ cond b (labelled_parts make item.1) [])
       either true = (
-        (first (Plane 0) (λ e. omega (arith, e)),
-            (first (Plane 1) (λ e. omega (arith, e)),
-            (first (Plane 2) (λ e. omega (arith, e)), (first Params (λ e. omega (arith, e)), tt)))),
         (
-          (apart (Plane 0) (Plane 1) (λ e. omega (arith, e)),
-              (apart (Plane 0) (Plane 2) (λ e. omega (arith, e)),
-              (apart (Plane 0) Params (λ e. omega (arith, e)), tt))),
+          first (Plane 0) (λ e. omega (arith, e)),
+          (
+            first (Plane 1) (λ e. omega (arith, e)),
+            (first (Plane 2) (λ e. omega (arith, e)), (first Params (λ e. omega (arith, e)), tt)),
+          ),
+        ),
+        (
+          (
+            apart (Plane 0) (Plane 1) (λ e. omega (arith, e)),
+            (
+              apart (Plane 0) (Plane 2) (λ e. omega (arith, e)),
+              (apart (Plane 0) Params (λ e. omega (arith, e)), tt),
+            ),
+          ),
           (
             (apart (Plane 1) (Plane 2) (λ e. omega (arith, e)), (apart (Plane 1) Params (λ e. omega (arith, e)), tt)),
             ((apart (Plane 2) Params (λ e. omega (arith, e)), tt), (tt, tt)),
@@ -277,7 +286,7 @@ module _ (types : List AType) (h : ℕ) where
       (FunctionArgument h n, label_or a.name (codes "param")) (λ item. digit_of 3 item.0 ≡ n)
       refl (λ part label. refl))
       (λ n a. with_parts_apart (is_external types a.ty) (ExternalTextureFunctionArgument h n)
-          (FunctionArgument h n, label_or a.name (codes "param")) refl (λ part. refl)) 0 arguments
+      (FunctionArgument h n, label_or a.name (codes "param")) refl (λ part. refl)) 0 arguments
 
   function_all : (P : LabelledItem → Type 0) → ((label : List ℕ) → P (Function h, label)) →
       ((n : ℕ) (label : List ℕ) → P (FunctionArgument h n, label)) →
@@ -290,7 +299,7 @@ module _ (types : List AType) (h : ℕ) where
     all_append P (labelled_arguments types h function.arguments.items)
         (labelled_locals h function.local_variables) (arguments_all P arguments parts function.arguments.items)
         (entries_all (λ l (v : ALocal). (FunctionLocal h l, label_or v.name (codes "local"))) P
-            (λ l v. locals l _) 0 function.local_variables),
+        (λ l v. locals l _) 0 function.local_variables),
   )
 
   function_apart : (function : AFunction) → AreApart (labelled_function types h function)
@@ -299,7 +308,7 @@ module _ (types : List AType) (h : ℕ) where
       let locals = labelled_locals h function.local_variables in
       let locals_kind = entries_all (λ l (v : ALocal). (FunctionLocal h l, label_or v.name (codes "local"))) in
       apart_append (digit_of 2) (same_digit 2) 1 ((Function h, label_or function.name (codes "function")) ∷ [])
-          (arguments ++ locals) (omega arith, tt)
+      (arguments ++ locals) (omega arith, tt)
       (all_append (λ y. 1 ≤ digit_of 2 y.0) arguments locals
       (arguments_all (λ y. 1 ≤ digit_of 2 y.0) (λ n label. omega arith)
       (λ n part label. omega arith) function.arguments.items)
@@ -307,11 +316,11 @@ module _ (types : List AType) (h : ℕ) where
       (tt, tt)
       (apart_append (digit_of 2) (same_digit 2) 2 arguments locals
       (arguments_all (λ y. digit_of 2 y.0 < 2) (λ n label. omega arith) (λ n part label. omega arith)
-          function.arguments.items)
+      function.arguments.items)
       (locals_kind (λ y. 2 ≤ digit_of 2 y.0) (λ l v. omega arith) 0 function.local_variables)
       (arguments_apart function.arguments.items)
       (entries_apart (λ l (v : ALocal). (FunctionLocal h l, label_or v.name (codes "local"))) 3
-          (λ l v. refl) function.local_variables))
+      (λ l v. refl) function.local_variables))
 
 functions_all : (types : List AType) (P : LabelledItem → Type 0) →
     ((h : ℕ) (label : List ℕ) → P (Function h, label)) →
@@ -328,7 +337,7 @@ functions_apart : (types : List AType) (functions : List AFunction) → AreApart
 functions_apart types functions =
     sections_apart (digit_of 1) (same_digit 1) (labelled_function types)
     (λ h f. function_all types h (λ item. digit_of 1 item.0 ≡ h) (λ label. refl) (λ n label. refl)
-        (λ n part label. refl) (λ l label. refl) f) (function_apart types) 0 functions
+    (λ n part label. refl) (λ l label. refl) f) (function_apart types) 0 functions
 
 -- ---- entry points
 module _ (e : ℕ) where
@@ -341,9 +350,9 @@ module _ (e : ℕ) where
     all_append P (labelled_entry_arguments e entry_point.function.arguments.items)
         (labelled_entry_locals e entry_point.function.local_variables)
         (entries_all (λ n (a : AnArgument). (EntryPointArgument e n, label_or a.name (codes "param"))) P
-            (λ n a. arguments n _) 0 entry_point.function.arguments.items)
+        (λ n a. arguments n _) 0 entry_point.function.arguments.items)
         (entries_all (λ l (v : ALocal). (EntryPointLocal e l, label_or v.name (codes "local"))) P
-            (λ l v. locals l _) 0 entry_point.function.local_variables),
+        (λ l v. locals l _) 0 entry_point.function.local_variables),
   )
 
   entry_point_apart : (entry_point : AnEntryPoint) → AreApart (labelled_entry_point e entry_point)
@@ -351,10 +360,10 @@ module _ (e : ℕ) where
       let arguments = labelled_entry_arguments e entry_point.function.arguments.items in
       let locals = labelled_entry_locals e entry_point.function.local_variables in
       let arguments_kind =
-          entries_all (λ n (a : AnArgument). (EntryPointArgument e n, label_or a.name (codes "param"))) in
+      entries_all (λ n (a : AnArgument). (EntryPointArgument e n, label_or a.name (codes "param"))) in
       let locals_kind = entries_all (λ l (v : ALocal). (EntryPointLocal e l, label_or v.name (codes "local"))) in
       apart_append (digit_of 2) (same_digit 2) 1 ((EntryPoint e, string_bytes entry_point.name) ∷ [])
-          (arguments ++ locals) (omega arith, tt)
+      (arguments ++ locals) (omega arith, tt)
       (all_append (λ y. 1 ≤ digit_of 2 y.0) arguments locals
       (arguments_kind (λ y. 1 ≤ digit_of 2 y.0) (λ n a. omega arith) 0
       entry_point.function.arguments.items)
@@ -365,9 +374,9 @@ module _ (e : ℕ) where
       (arguments_kind (λ y. digit_of 2 y.0 < 2) (λ n a. omega arith) 0 entry_point.function.arguments.items)
       (locals_kind (λ y. 2 ≤ digit_of 2 y.0) (λ l v. omega arith) 0 entry_point.function.local_variables)
       (entries_apart (λ n (a : AnArgument). (EntryPointArgument e n, label_or a.name (codes "param"))) 3
-          (λ n a. refl) entry_point.function.arguments.items)
+      (λ n a. refl) entry_point.function.arguments.items)
       (entries_apart (λ l (v : ALocal). (EntryPointLocal e l, label_or v.name (codes "local"))) 3
-          (λ l v. refl) entry_point.function.local_variables))
+      (λ l v. refl) entry_point.function.local_variables))
 
 entry_points_all : (P : LabelledItem → Type 0) →
     ((e : ℕ) (label : List ℕ) → P (EntryPoint e, label)) →
@@ -381,7 +390,7 @@ entry_points_apart : (entry_points : List AnEntryPoint) → AreApart (labelled_e
 entry_points_apart entry_points =
     sections_apart (digit_of 1) (same_digit 1) labelled_entry_point
     (λ e p. entry_point_all e (λ item. digit_of 1 item.0 ≡ e) (λ label. refl) (λ n label. refl)
-        (λ l label. refl) p) entry_point_apart 0 entry_points
+    (λ l label. refl) p) entry_point_apart 0 entry_points
 
 -- ---- globals and types
 globals_all : (types : List AType) (P : LabelledItem → Type 0) →
@@ -398,25 +407,28 @@ globals_apart : (types : List AType) (globals : List AGlobal) → AreApart (labe
 globals_apart types globals =
     sections_apart (digit_of 1) (same_digit 1) (labelled_global types)
     (λ g v. with_parts_all (is_external types v.ty) (ExternalTextureGlobalVariable g)
-        (GlobalVariable g, label_or v.name (codes "global")) (λ item. digit_of 1 item.0 ≡ g) refl (λ part label. refl))
+    (GlobalVariable g, label_or v.name (codes "global")) (λ item. digit_of 1 item.0 ≡ g) refl (λ part label. refl))
     (λ g v. with_parts_apart (is_external types v.ty) (ExternalTextureGlobalVariable g)
-        (GlobalVariable g, label_or v.name (codes "global")) refl (λ part. refl)) 0 globals
+    (GlobalVariable g, label_or v.name (codes "global")) refl (λ part. refl)) 0 globals
 
 -- a type and its members
 module _ (entry_points : List AnEntryPoint) (t : ℕ) where
   type_all : (P : LabelledItem → Type 0) → ((label : List ℕ) → P (Type_ t, label)) →
       ((n : ℕ) (label : List ℕ) → P (StructMember t n, label)) →
       (ty : AType) → AllByRecursion P (labelled_type entry_points t ty)
-  type_all P own each ty = (own _, entries_all (λ n (m : AMember). (StructMember t n, member_label m)) P
-      (λ n m. each n _) 0 (members_of ty.inner))
+  type_all P own each ty = (
+    own _,
+    entries_all (λ n (m : AMember). (StructMember t n, member_label m)) P
+        (λ n m. each n _) 0 (members_of ty.inner),
+  )
 
   type_apart : (ty : AType) → AreApart (labelled_type entry_points t ty)
   type_apart ty =
       let members = members_of ty.inner in
       apart_append (digit_of 2) (same_digit 2) 1 ((Type_ t, type_label entry_points t ty) ∷ [])
-          (labelled_members t members) (omega arith, tt)
+      (labelled_members t members) (omega arith, tt)
       (entries_all (λ n (m : AMember). (StructMember t n, member_label m)) (λ y. 1 ≤ digit_of 2 y.0)
-          (λ n m. omega arith) 0 members) (tt, tt)
+      (λ n m. omega arith) 0 members) (tt, tt)
       (entries_apart (λ n (m : AMember). (StructMember t n, member_label m)) 3 (λ n m. refl) members)
 
 pub types_all : (entry_points : List AnEntryPoint) (P : LabelledItem → Type 0) →
@@ -430,7 +442,7 @@ pub types_apart : (entry_points : List AnEntryPoint) (types : List AType) → Ar
 types_apart entry_points types =
     sections_apart (digit_of 1) (same_digit 1) (labelled_type entry_points)
     (λ t ty. type_all entry_points t (λ item. digit_of 1 item.0 ≡ t) (λ label. refl) (λ n label. refl) ty)
-        (type_apart entry_points) 0 types
+    (type_apart entry_points) 0 types
 
 -- what a module declares
 module _ («module» : Module) where
@@ -450,30 +462,30 @@ module _ («module» : Module) where
   declarations_apart =
       let m = «module» in
       let low = types_all m.entry_points.items (λ x. digit_of 0 x.0 < 1) (λ t label. omega arith)
-          (λ t n label. omega arith) m.types in
+      (λ t n label. omega arith) m.types in
       let entry_low = entry_points_all (λ x. digit_of 0 x.0 < 2) (λ e label. omega arith)
-          (λ e n label. omega arith) (λ e l label. omega arith) m.entry_points.items in
+      (λ e n label. omega arith) (λ e l label. omega arith) m.entry_points.items in
       let entry_high = entry_points_all (λ x. 1 ≤ digit_of 0 x.0) (λ e label. omega arith)
-          (λ e n label. omega arith) (λ e l label. omega arith) m.entry_points.items in
+      (λ e n label. omega arith) (λ e l label. omega arith) m.entry_points.items in
       let functions_low = functions_all m.types (λ x. digit_of 0 x.0 < 3) (λ h label. omega arith)
-          (λ h n label. omega arith) (λ h n part label. omega arith) (λ h l label. omega arith) m.functions in
+      (λ h n label. omega arith) (λ h n part label. omega arith) (λ h l label. omega arith) m.functions in
       let functions_high = functions_all m.types (λ x. 2 ≤ digit_of 0 x.0) (λ h label. omega arith)
-          (λ h n label. omega arith) (λ h n part label. omega arith) (λ h l label. omega arith) m.functions in
+      (λ h n label. omega arith) (λ h n part label. omega arith) (λ h l label. omega arith) m.functions in
       let globals_high = globals_all m.types (λ x. 3 ≤ digit_of 0 x.0) (λ g label. omega arith)
-          (λ g part label. omega arith) m.global_variables in
+      (λ g part label. omega arith) m.global_variables in
       let less = λ (k l : ℕ) (le : l ≤ k). all_weaken {P = λ x. k ≤ digit_of 0 x.0}
-          {Q = λ x. l ≤ digit_of 0 x.0} (λ x e. omega (arith, e, le)) in
+      {Q = λ x. l ≤ digit_of 0 x.0} (λ x e. omega (arith, e, le)) in
       apart_append (digit_of 0) (same_digit 0) 1 the_types (the_entry_points ++ (the_functions ++ the_globals)) low
       (all_append (λ x. 1 ≤ digit_of 0 x.0) the_entry_points (the_functions ++ the_globals) entry_high
       (all_append (λ x. 1 ≤ digit_of 0 x.0) the_functions the_globals
-          (less 2 1 (omega arith) the_functions functions_high) (less 3 1 (omega arith) the_globals globals_high)))
+      (less 2 1 (omega arith) the_functions functions_high) (less 3 1 (omega arith) the_globals globals_high)))
       (types_apart m.entry_points.items m.types)
       (apart_append (digit_of 0) (same_digit 0) 2 the_entry_points (the_functions ++ the_globals) entry_low
       (all_append (λ x. 2 ≤ digit_of 0 x.0) the_functions the_globals functions_high
-          (less 3 2 (omega arith) the_globals globals_high))
+      (less 3 2 (omega arith) the_globals globals_high))
       (entry_points_apart m.entry_points.items)
       (apart_append (digit_of 0) (same_digit 0) 3 the_functions the_globals functions_low globals_high
-          (functions_apart m.types m.functions) (globals_apart m.types m.global_variables)))
+      (functions_apart m.types m.functions) (globals_apart m.types m.global_variables)))
 
   declarations_low : AllByRecursion (λ x. digit_of 0 x.0 < 4) (labelled_declarations «module»)
   declarations_low =
@@ -490,31 +502,31 @@ module _ («module» : Module) where
       (λ h n label. omega arith) (λ h n part label. omega arith) (λ h l label. omega arith)
       m.functions)
       (globals_all m.types (λ x. digit_of 0 x.0 < 4) (λ g label. omega arith) (λ g part label. omega arith)
-          m.global_variables)))
+      m.global_variables)))
 
   values_apart : (names : ℕ → List ℕ) → AreApart (labelled_values names «module»)
   values_apart names =
       let constant : ℕ → AConstant → LabelledItem =
-          λ c v. (Constant c, value_label names (codes "const_") v.name v.ty) in
+      λ c v. (Constant c, value_label names (codes "const_") v.name v.ty) in
       let override_ : ℕ → AnOverride → LabelledItem =
-          λ o v. (Override o, value_label names (codes "override_") v.name v.ty) in
+      λ o v. (Override o, value_label names (codes "override_") v.name v.ty) in
       apart_append (digit_of 0) (same_digit 0) 5 (labelled_constants names «module».constants)
-          (labelled_overrides names «module».overrides)
+      (labelled_overrides names «module».overrides)
       (entries_all constant (λ x. digit_of 0 x.0 < 5) (λ c v. omega arith) 0 «module».constants)
-          (entries_all override_ (λ x. 5 ≤ digit_of 0 x.0) (λ o v. omega arith) 0 «module».overrides)
+      (entries_all override_ (λ x. 5 ≤ digit_of 0 x.0) (λ o v. omega arith) 0 «module».overrides)
       (entries_apart constant 1 (λ c v. refl) «module».constants)
-          (entries_apart override_ 1 (λ o v. refl) «module».overrides)
+      (entries_apart override_ 1 (λ o v. refl) «module».overrides)
 
   values_high : (names : ℕ → List ℕ) → AllByRecursion (λ x. 4 ≤ digit_of 0 x.0) (labelled_values names «module»)
   values_high names =
       let constant : ℕ → AConstant → LabelledItem =
-          λ c v. (Constant c, value_label names (codes "const_") v.name v.ty) in
+      λ c v. (Constant c, value_label names (codes "const_") v.name v.ty) in
       let override_ : ℕ → AnOverride → LabelledItem =
-          λ o v. (Override o, value_label names (codes "override_") v.name v.ty) in
+      λ o v. (Override o, value_label names (codes "override_") v.name v.ty) in
       all_append (λ x. 4 ≤ digit_of 0 x.0) (labelled_constants names «module».constants)
-          (labelled_overrides names «module».overrides)
+      (labelled_overrides names «module».overrides)
       (entries_all constant (λ x. 4 ≤ digit_of 0 x.0) (λ c v. omega arith) 0 «module».constants)
-          (entries_all override_ (λ x. 4 ≤ digit_of 0 x.0) (λ o v. omega arith) 0 «module».overrides)
+      (entries_all override_ (λ x. 4 ≤ digit_of 0 x.0) (λ o v. omega arith) 0 «module».overrides)
 
 -- no item of a module has the key of another one
 pub items_apart : (start : Names) («module» : Module) → AreApart (labelled_items start «module»)

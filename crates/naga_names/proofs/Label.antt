@@ -114,7 +114,7 @@ pub without_repeated_underscores-append : (cs : List ℕ) (d : ℕ) (ds : List �
 without_repeated_underscores-append [] d ds e = refl
 without_repeated_underscores-append (c ∷ []) d ds e =
     ap (λ b. cond b (without_repeated_underscores (d ∷ ds)) (c ∷ without_repeated_underscores (d ∷ ds)))
-        (ap (λ b. c == 95 && b) e ∙ and-false (c == 95))
+    (ap (λ b. c == 95 && b) e ∙ and-false (c == 95))
     ∙ sym (ap (λ b. cond b [] (c ∷ []) ++ without_repeated_underscores (d ∷ ds)) (and-false (c == 95)))
 without_repeated_underscores-append (c ∷ x ∷ cs) d ds e =
     more (c == 95 && x == 95) (without_repeated_underscores-append (x ∷ cs) d ds e)
@@ -157,7 +157,7 @@ unseparated-digits : (k n : ℕ) (following : List ℕ) → unseparated followin
 unseparated-digits zero n following e = e
 unseparated-digits (suc k) n following e =
     more (n / 16 == 0) (ap (λ b. b && unseparated following) (no_separator_glyph (n % 16) (omega arith)) ∙ e)
-        (unseparated-digits k (n / 16) (digit_glyph false (n % 16) ∷ following))
+    (unseparated-digits k (n / 16) (digit_glyph false (n % 16) ∷ following))
   where
     more : (b : Bool) → unseparated (digit_glyph false (n % 16) ∷ following) ≡ true →
         (unseparated (digit_glyph false (n % 16) ∷ following) ≡ true →
@@ -172,9 +172,9 @@ unseparated-hexadecimal : (c : ℕ) → unseparated (hexadecimal c) ≡ true
 unfolding hexadecimal digits
 unseparated-hexadecimal c =
     list_all-append (λ d. not (d == 95)) (replicate (4 - length (digits_onto 64 16 false c [])) 48)
-        (digits_onto 64 16 false c [])
+    (digits_onto 64 16 false c [])
     ∙ ap (λ b. b && unseparated (digits_onto 64 16 false c []))
-        (unseparated-zeros (4 - length (digits_onto 64 16 false c [])))
+    (unseparated-zeros (4 - length (digits_onto 64 16 false c [])))
     ∙ unseparated-digits 64 c [] refl
 
 -- ---- spellings
@@ -195,7 +195,7 @@ pub character_spelling-foreign : (c : ℕ) → is_foreign c ≡ true → charact
 character_spelling-foreign c foreign =
     let parts = and_parts (not (is_mark c)) (not (is_identifier_char c)) foreign in
     ap (λ b. cond b (codes "_") (cond (is_identifier_char c) (c ∷ []) (codes "_" ++ by_number c)))
-        (not-true (is_mark c) parts.0)
+    (not-true (is_mark c) parts.0)
     ∙ ap (λ b. cond b (c ∷ []) (codes "_" ++ by_number c)) (not-true (is_identifier_char c) parts.1)
 
 without_repeated_underscores-by_number : (c : ℕ) → without_repeated_underscores (by_number c) ≡ by_number c
@@ -231,8 +231,8 @@ body-push : (c : ℕ) (cs : List ℕ) (d : ℕ) → body (c ∷ cs ++ d ∷ []) 
 unfolding body
 body-push c cs d =
     ap (λ t. cond (is_foreign c) (drop 1 t) t)
-        (flat_map-append character_spelling (c ∷ cs) (d ∷ [])
-        ∙ ap (λ t. flat_map character_spelling (c ∷ cs) ++ t) (append-nil (character_spelling d)))
+    (flat_map-append character_spelling (c ∷ cs) (d ∷ [])
+    ∙ ap (λ t. flat_map character_spelling (c ∷ cs) ++ t) (append-nil (character_spelling d)))
     ∙ either (is_foreign c) refl
   where
     either : (b : Bool) → is_foreign c ≡ b →
@@ -274,13 +274,13 @@ spelling-separator [] c mark = spelling-first c (codes "_") (not_foreign-mark c 
     (character_spelling-mark c mark) ∙ sym (ap with_separator spelling-nil)
 spelling-separator (d ∷ cs) c mark =
     spelling-push d cs c (codes "_") (character_spelling-mark c mark)
-        ∙ without_repeated_underscores-push_separator (body (d ∷ cs)) ∙ ap with_separator (sym (spelling-body (d ∷ cs)))
+    ∙ without_repeated_underscores-push_separator (body (d ∷ cs)) ∙ ap with_separator (sym (spelling-body (d ∷ cs)))
 
 pub spelling-underscore : (cs : List ℕ) → spelling (cs ++ 95 ∷ []) ≡ with_separator (spelling cs)
 spelling-underscore [] = spelling-first 95 (codes "_") refl refl ∙ sym (ap with_separator spelling-nil)
 spelling-underscore (d ∷ cs) =
     spelling-push d cs 95 (codes "_") refl ∙ without_repeated_underscores-push_separator (body (d ∷ cs))
-        ∙ ap with_separator (sym (spelling-body (d ∷ cs)))
+    ∙ ap with_separator (sym (spelling-body (d ∷ cs)))
 
 without_repeated_underscores-one : (c : ℕ) → without_repeated_underscores (c ∷ []) ≡ c ∷ []
 without_repeated_underscores-one c = ap (λ b. cond b [] (c ∷ [])) (and-false (c == 95))
@@ -304,14 +304,23 @@ body_cons c cs = either (is_foreign c) (is_mark c) (is_identifier_char c) refl r
         (d : ℕ) × (ds : List ℕ) ×
         (cond f (drop 1 (character_spelling c ++ flat_map character_spelling cs))
         (character_spelling c ++ flat_map character_spelling cs) ≡ d ∷ ds)
-    either true m p f_is m_is p_is = (117, hexadecimal c ++ codes "_" ++ flat_map character_spelling cs,
-        ap (λ t. drop 1 (t ++ flat_map character_spelling cs)) (character_spelling-foreign c f_is))
-    either false true p f_is m_is p_is =
-        (95, flat_map character_spelling cs, ap (λ t. t ++ flat_map character_spelling cs)
-        (character_spelling-mark c m_is))
-    either false false true f_is m_is p_is =
-        (c, flat_map character_spelling cs, ap (λ t. t ++ flat_map character_spelling cs)
-        (character_spelling-plain c m_is p_is))
+    either true m p f_is m_is p_is = (
+      117,
+      hexadecimal c ++ codes "_" ++ flat_map character_spelling cs,
+      ap (λ t. drop 1 (t ++ flat_map character_spelling cs)) (character_spelling-foreign c f_is),
+    )
+    either false true p f_is m_is p_is = (
+      95,
+      flat_map character_spelling cs,
+      ap (λ t. t ++ flat_map character_spelling cs)
+          (character_spelling-mark c m_is),
+    )
+    either false false true f_is m_is p_is = (
+      c,
+      flat_map character_spelling cs,
+      ap (λ t. t ++ flat_map character_spelling cs)
+          (character_spelling-plain c m_is p_is),
+    )
     either false false false f_is m_is p_is =
         absurd (cc (ap (λ b. not b && not (is_identifier_char c)) m_is, ap not p_is, f_is))
 
@@ -343,7 +352,7 @@ spelling-later_foreign (d ∷ cs) c foreign some =
     ∙ without_repeated_underscores-append (body (d ∷ cs) ++ 95 ∷ []) 117 (hexadecimal c ++ codes "_") refl
     ∙ ap (λ t. without_repeated_underscores (body (d ∷ cs) ++ 95 ∷ []) ++ t) (without_repeated_underscores-by_number c)
     ∙ ap (λ t. t ++ by_number c) (without_repeated_underscores-push_separator (body (d ∷ cs))
-        ∙ ap with_separator (sym (spelling-body (d ∷ cs))))
+    ∙ ap with_separator (sym (spelling-body (d ∷ cs))))
 
 -- ---- the same by the tests that the code makes
 pub spelling-separating : (cs : List ℕ) (c : ℕ) → (is_mark c || c == 95) ≡ true → spelling (cs ++ c ∷ [])
@@ -358,14 +367,14 @@ pub spelling-alphanumeric : (cs : List ℕ) (c : ℕ) → (is_mark c || c == 95)
     ≡ true → spelling (cs ++ c ∷ []) ≡ spelling cs ++ c ∷ []
 spelling-alphanumeric cs c test plain =
     let parts = or_parts (is_mark c) (c == 95) test in
-        spelling-plain cs c parts.0 (ap (λ b. b || c == 95) plain) parts.1
+    spelling-plain cs c parts.0 (ap (λ b. b || c == 95) plain) parts.1
 
 pub foreign-from_tests : (c : ℕ) → (is_mark c || c == 95) ≡ false → is_ascii_alphanumeric c ≡ false →
     is_foreign c ≡ true
 foreign-from_tests c test plain =
     let parts = or_parts (is_mark c) (c == 95) test in
     ap (λ b. not b && not (is_ascii_alphanumeric c || c == 95)) parts.0 ∙ ap (λ b. not (b || c == 95)) plain
-        ∙ ap not parts.1
+    ∙ ap not parts.1
 
 -- what `{:04x}` writes
 pub padded-hexadecimal : (c : ℕ) → padded_integral (format_spec 32 0 4 4 (2 ^ 64 - 1)) false []
@@ -374,7 +383,7 @@ unfolding padded_integral hexadecimal char_count
 padded-hexadecimal c =
     let short : 4 - length (digits 16 false c) - 0 - 0 ≡ 4 - length (digits 16 false c) = omega arith in
     ap (λ n. replicate n 48 ++ (digits 16 false c ++ [])) short
-        ∙ ap (λ t. replicate (4 - length (digits 16 false c)) 48 ++ t) (append-nil (digits 16 false c))
+    ∙ ap (λ t. replicate (4 - length (digits 16 false c)) 48 ++ t) (append-nil (digits 16 false c))
 
 -- ---- texts that are spelled as they stand
 pub ends_separated-push : (cs : List ℕ) (c : ℕ) → ends_separated (cs ++ c ∷ []) ≡ (c == 95)
@@ -483,7 +492,7 @@ number_written r old new c d s number options written =
     ∙ ap (option_map (padded_integral (format_spec 32 0 4 4 (2 ^ 64 - 1)) false [])) number
     ∙ ap Some (padded-hexadecimal c) in
     on_ok_then r written
-        (λ appended. subst (λ o. AppendsText old new (Some (codes "u") ++? (o ++? Some (codes "_")))) shown appended)
+    (λ appended. subst (λ o. AppendsText old new (Some (codes "u") ++? (o ++? Some (codes "_")))) shown appended)
 
 pub nothing_there : (text : List ℕ) → length text ≡ 0 → text ≡ []
 nothing_there [] e = refl
@@ -501,7 +510,7 @@ pub any_from : (test : List ℕ → Bool) (prefixes : List (Bor (List ℕ))) (i 
     (test (get_or prefixes i d).now || list_any test (map (λ p. p.now) (drop (i + 1) prefixes)))
 any_from test prefixes i d lt =
     let split : drop i prefixes ≡ get_or prefixes i d ∷ drop (i + 1) prefixes =
-        rw add-one (drop-cons prefixes i d lt) in
+    rw add-one (drop-cons prefixes i d lt) in
     ap (λ ps. list_any test (map (λ p. p.now) ps)) split
 
 pub same_items : (xs : List ℕ) → map (λ c. c) xs ≡ xs
@@ -518,7 +527,7 @@ without_last-pop text shorter n long last split cut =
     let same : get_or text (n - 1) 0 ≡ 95 = ap (λ m. get_or text (m - 1) 0) long ∙ eqb-true _ 95 last in
     let front = cut some (omega (arith, same)) ∙ ap (λ m. take (m - 1) text) long in
     ap without_last_separators front ∙ sym (ap without_last_separators split
-        ∙ without_last-push (take (length text - 1) text))
+    ∙ without_last-push (take (length text - 1) text))
 
 -- What every base looks like.
 
@@ -529,7 +538,7 @@ module _ (p : ℕ → Bool) (base : ℕ) (each : (n : ℕ) → p (digit_glyph fa
   all_digits_onto zero n following e = e
   all_digits_onto (suc k) n following e =
       more (n / base == 0) (ap (λ b. b && list_all p following) (each n) ∙ e)
-          (all_digits_onto k (n / base) (digit_glyph false (n % base) ∷ following))
+      (all_digits_onto k (n / base) (digit_glyph false (n % base) ∷ following))
     where
       more : (b : Bool) → list_all p (digit_glyph false (n % base) ∷ following) ≡ true →
           (list_all p (digit_glyph false (n % base) ∷ following) ≡ true →

@@ -87,9 +87,9 @@ module _ (start : Names) (t : ℕ) (earlier : List LabelledItem) where
       let rest = named_beside (done ++ item ∷ []) (n + 1) members long in
       λ i. (key.StructMember t n, member_name start t earlier done n (member_label m) is i)
       ∷ (ap (λ items. named_from start items (members_from t (n + 1) members))
-          (append_assoc earlier done (item ∷ [])) ∙ rest
+      (append_assoc earlier done (item ∷ [])) ∙ rest
       ∙ ap (λ labels. alone_from (member_names start) labels (members_from t (n + 1) members))
-          (map-append (λ (item : LabelledItem). item.1) done (item ∷ []))) i
+      (map-append (λ (item : LabelledItem). item.1) done (item ∷ []))) i
 
   scan-append : (before : List LabelledItem) (xs ys : List LabelledItem) → named_from start before (xs ++ ys)
       ≡ named_from start before xs ++ named_from start (before ++ xs) ys
@@ -97,8 +97,8 @@ module _ (start : Names) (t : ℕ) (earlier : List LabelledItem) where
   scan-append before (x ∷ xs) ys =
       ap (λ pairs. (x.0, item_name start before x) ∷ pairs)
       (scan-append (before ++ x ∷ []) xs ys
-          ∙ ap (λ items. named_from start (before ++ x ∷ []) xs ++ named_from start items ys)
-          (append_assoc before (x ∷ []) xs))
+      ∙ ap (λ items. named_from start (before ++ x ∷ []) xs ++ named_from start items ys)
+      (append_assoc before (x ∷ []) xs))
 
   pub named_items_members : (members : List StructMember) →
       named_items start (earlier ++ labelled_members t members) ≡ named_items start earlier ++ named_members
@@ -106,8 +106,8 @@ module _ (start : Names) (t : ℕ) (earlier : List LabelledItem) where
   named_items_members members =
       scan-append [] earlier (labelled_members t members)
       ∙ ap (λ pairs. named_items start earlier ++ pairs)
-          (ap (λ items. named_from start items (labelled_members t members)) (sym (append-nil earlier))
-          ∙ named_beside [] 0 members refl)
+      (ap (λ items. named_from start items (labelled_members t members)) (sym (append-nil earlier))
+      ∙ named_beside [] 0 members refl)
 
 pub own_labels : (t n : ℕ) (members : List StructMember) → map (λ item. item.1) (members_from t n members)
     ≡ map member_label members
@@ -142,7 +142,7 @@ module _ (old : Names) (before now : NameMap) (t : ℕ) (members : List StructMe
   puts_members start first earlier some has put =
       subst (λ pairs. PutsInto first pairs now)
       (ap (λ names. named_items start earlier ++ named_members (member_names names) t some) has.words
-          ∙ sym (named_items_members start t earlier some))
+      ∙ sym (named_items_members start t earlier some))
       (puts_more first before now (named_items start earlier) (named_members (member_names old) t some) has.put put)
 
   pub members_named : (inner : Names) → HasNamedMembers (member_names old) before t members inner now →
@@ -169,7 +169,7 @@ module _ (old : Names) (before now : NameMap) (t : ℕ) (members : List StructMe
           ∙ entries_grown (λ n (m : StructMember). (key.StructMember t n, member_label m)) 0
           (take refused.count members) (drop refused.count members))
           ∙ sym (append_assoc earlier (labelled_members t (take refused.count members))
-              (members_from t (0 + length (take refused.count members)) (drop refused.count members)));
+          (members_from t (0 + length (take refused.count members)) (drop refused.count members)));
       put = puts_members start first earlier (take refused.count members) has refused.put;
     };
     why = λ start first earlier has. reason start earlier error refused.why;
@@ -194,7 +194,7 @@ module _ (start : Names) (before : NameMap) (t : ℕ) where
   pushed members m =
       let same : 0 + length members ≡ length members = omega arith in
       entries_grown (λ n (m : StructMember). (key.StructMember t n, member_label m)) 0 members (m ∷ [])
-          ∙ ap (λ n. labelled_members t members ++ (key.StructMember t n, member_label m) ∷ []) same
+      ∙ ap (λ n. labelled_members t members ++ (key.StructMember t n, member_label m) ∷ []) same
 
   labels_folded : (earlier : List (List ℕ)) (items : List LabelledItem) →
       fold (λ labels item. labels ++ item.1 ∷ []) earlier items ≡ earlier ++ map (λ item. item.1) items
@@ -229,7 +229,7 @@ module _ (start : Names) (before : NameMap) (t : ℕ) where
     keys =
         ap keys_fit (pushed members m)
         ∙ list_all-append (λ item. key_fits item.0) (labelled_members t members)
-            ((key.StructMember t (length members), member_label m) ∷ [])
+        ((key.StructMember t (length members), member_label m) ∷ [])
         ∙ (λ i. has.keys i && (lt-ltb (length members) (2 ^ 32) small i && true));
     put = record {
       finds = λ q.
@@ -257,7 +257,7 @@ module _ (start : Names) (before : NameMap) (t : ℕ) where
       let long : length (take i all) ≡ i = omega (arith, length-take-le i all (omega (arith, lt))) in
       let short : length (take i all) < 2 ^ 32 = omega (arith, small, long) in
       subst (λ members. HasNamedMembers start before t members new now)
-          (sym (take_more all i m lt ∙ ap (λ y. take i all ++ y ∷ []) (sym is)))
+      (sym (take_more all i m lt ∙ ap (λ y. take i all ++ y ∷ []) (sym is)))
       (member_more (take i all) names new between now m words short has
       (subst (λ k. PutsName names between (key.StructMember t k) (member_label m) new now)
       (n_is ∙ sym long)
@@ -360,16 +360,24 @@ after_left : (xs ys : List LabelledItem) (item : LabelledItem) (done : List Labe
     StandsAfter xs item done → StandsAfter (xs ++ ys) item done
 after_left xs ys item done s =
     let le : s.place ≤ length xs = omega (arith, slice_get_within xs s.place item s.there) in
-    record { place = s.place; there = place_left xs ys s.place item s.there; front = s.front;
-        before = take-append-le s.place xs ys le ∙ s.before }
+    record {
+      place = s.place;
+      there = place_left xs ys s.place item s.there;
+      front = s.front;
+      before = take-append-le s.place xs ys le ∙ s.before;
+    }
 
 after_right : (xs ys : List LabelledItem) (item : LabelledItem) (done : List LabelledItem) →
     StandsAfter ys item done → StandsAfter (xs ++ ys) item done
 after_right [] ys item done s = s
 after_right (x ∷ xs) ys item done s =
     let inner = after_right xs ys item done s in
-    record { place = suc inner.place; there = inner.there; front = x ∷ inner.front;
-        before = ap (λ items. x ∷ items) inner.before }
+    record {
+      place = suc inner.place;
+      there = inner.there;
+      front = x ∷ inner.front;
+      before = ap (λ items. x ∷ items) inner.before;
+    }
 
 after_sections : {X : Type 0} (section : ℕ → X → List LabelledItem) (n i : ℕ) (xs : List X) (x : X)
     (item : LabelledItem) (done : List LabelledItem) → slice_get xs i ≡ Some x →
@@ -380,7 +388,7 @@ after_sections section n zero (y ∷ xs) x item done e s =
     let here : n + zero ≡ n = omega arith in
     after_left (section n y) (flat_map (λ p. section p.0 p.1) (enumerate_from (n + 1) xs)) item done
     (subst (λ z. StandsAfter (section n z) item done) (sym (ap (λ o. unwrap_or o y) e))
-        (subst (λ m. StandsAfter (section m x) item done) here s))
+    (subst (λ m. StandsAfter (section m x) item done) here s))
 after_sections section n (suc i) (y ∷ xs) x item done e s =
     let next : n + suc i ≡ n + 1 + i = omega arith in
     after_right (section n y) (flat_map (λ p. section p.0 p.1) (enumerate_from (n + 1) xs)) item
@@ -432,11 +440,11 @@ module _ (start : Names) («module» : Module) (t : ℕ) (ty : Type_)
       let m = «module» in
       let same : t ≡ 0 + t = omega arith in
       let others = labelled_entry_points m.entry_points.items
-          ++ (labelled_functions m.types m.functions ++ labelled_globals m.types m.global_variables) in
+      ++ (labelled_functions m.types m.functions ++ labelled_globals m.types m.global_variables) in
       after_left (labelled_declarations m) (labelled_values (type_name start m) m) item done
       (after_left (labelled_types m.entry_points.items m.types) others item done
       (after_sections (labelled_type m.entry_points.items) 0 t m.types ty item done found
-          (subst (λ k. StandsAfter (labelled_type m.entry_points.items k ty) item done) same in_type)))
+      (subst (λ k. StandsAfter (labelled_type m.entry_points.items k ty) item done) same in_type)))
 
   long : length (take n (members_of ty.inner)) ≡ n
   long = let le : n ≤ length (members_of ty.inner) = omega
@@ -452,11 +460,11 @@ module _ (start : Names) («module» : Module) (t : ℕ) (ty : Type_)
         (λ p. (key.StructMember t p.0, member_label p.1))
         ∙ length-enumerate_from 0 (take n (members_of ty.inner)) ∙ long in
         item_put start before now (labelled_items start «module») put (items_apart start «module»)
-            in_module.place item in_module.there
+        in_module.place item in_module.there
         ∙ ap (λ items. Some (item_name start items item)) in_module.before
         ∙ ap Some (member_name start t in_module.front done n (member_label member) done_long)
         ∙ ap (λ labels. Some (name_after (member_names start) labels (member_label member)))
-            (own_labels t 0 (take n (members_of ty.inner)))
+        (own_labels t 0 (take n (members_of ty.inner)))
 
   module _ (before now : NameMap) (names : Names)
       (has : HasNamedItems start before (labelled_items start «module») names now) where
@@ -468,10 +476,10 @@ module _ (start : Names) («module» : Module) (t : ℕ) (ty : Type_)
         (name : List ℕ) → now (key.StructMember t n) ≡ Some name → set.contains start.keywords name ≡ false
     member_not_reserved reserved name is =
         let same : name_after (member_names start) (map member_label (take n (members_of ty.inner)))
-            (member_label member) ≡ name = ap (λ o. unwrap_or o name) (sym member_named ∙ is) in
+        (member_label member) ≡ name = ap (λ o. unwrap_or o name) (sym member_named ∙ is) in
         ap (set.contains start.keywords) (sym same)
         ∙ name_after_no_keyword (member_names start) (map member_label (take n (members_of ty.inner)))
-            (member_label member) (subst HasPlainEnds (sym reserved) reserved_plain)
+        (member_label member) (subst HasPlainEnds (sym reserved) reserved_plain)
 
 -- ---- no two members of one struct have one name
 module _ (start : Names) where
@@ -497,7 +505,7 @@ module _ (start : Names) where
       let first : List (List ℕ) = map member_label (take n members) in
       let middle : List (List ℕ) = map member_label parts.0 in
       let before : map member_label (take k members) ≡ first ++ member_label a ∷ middle =
-          ap (map member_label) parts.1 ∙ map-append member_label (take n members) (a ∷ parts.0) in
+      ap (map member_label) parts.1 ∙ map-append member_label (take n members) (a ∷ parts.0) in
       names_differ (member_names start) first (member_label a) middle (member_label b)
       (same ∙ ap (λ labels. name_after (member_names start) labels (member_label b)) before)
 

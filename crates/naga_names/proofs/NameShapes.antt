@@ -261,7 +261,7 @@ kept_three : (start : Names) (word : List ℕ) → is_taken start word ≡ false
     (set.contains start.caseless_keywords (in_lower_case word) ≡ false)
 kept_three start word e =
     let outer = or_parts (set.contains start.keywords word || set.contains start.builtin_identifiers word)
-        (set.contains start.caseless_keywords (in_lower_case word)) e in
+    (set.contains start.caseless_keywords (in_lower_case word)) e in
     let inner = or_parts (set.contains start.keywords word) (set.contains start.builtin_identifiers word) outer.0 in
     (inner.0, inner.1, outer.1)
 
@@ -382,7 +382,7 @@ name_after_no_caseless start earlier label plain =
     let base = label_base start label in
     free_of_base start base (λ word. set.contains start.caseless_keywords (in_lower_case word))
     (λ front digits all. ap (set.contains start.caseless_keywords) (lowered_end front digits)
-        ∙ plain.no_end (in_lower_case front) (in_lower_case digits) (lowered_digits digits all))
+    ∙ plain.no_end (in_lower_case front) (in_lower_case digits) (lowered_digits digits all))
     (λ e. (kept_three start base e).2) (labels_with_base start earlier base)
   where
     lowered_end : (front digits : List ℕ) → in_lower_case (front ++ 95 ∷ digits) ≡ in_lower_case front ++ 95
@@ -445,9 +445,9 @@ module _ (start : Names) where
       let m : ℕ = labels_with_base start first base_a in
       let n : ℕ = labels_with_base start (first ++ a ∷ middle) base_b in
       let same = same_base_and_number start base_a base_b m n (base_ends start.reserved_prefixes (chars a))
-          (base_ends start.reserved_prefixes (chars b)) is in
+      (base_ends start.reserved_prefixes (chars b)) is in
       let more : n ≡ labels_with_base start first base_b + (1 + labels_with_base start middle base_b) =
-          counted_more first a middle base_b same.0 in
+      counted_more first a middle base_b same.0 in
       let less : m ≡ labels_with_base start first base_b = ap (labels_with_base start first) same.0 in
       let equal : m ≡ n = same.1 in
       absurd (omega (arith, more, less, equal))

@@ -66,8 +66,12 @@ split_two (z ∷ xs) zero (suc j) x y lt ex ey =
 split_two (z ∷ xs) (suc i) zero x y lt ex ey = absurd (omega (arith, lt))
 split_two (z ∷ xs) (suc i) (suc j) x y lt ex ey =
     let inner = split_two xs i j x y (omega (arith, lt)) ex ey in
-    record { middle = inner.middle; rest = inner.rest; all = ap (λ t. z ∷ t) inner.all;
-        before = ap (λ t. z ∷ t) inner.before }
+    record {
+      middle = inner.middle;
+      rest = inner.rest;
+      all = ap (λ t. z ∷ t) inner.all;
+      before = ap (λ t. z ∷ t) inner.before;
+    }
 
 -- two places are one, or one is before the other
 pub order : (i j : ℕ) → (i ≡ j) ⊎ ((i < j) ⊎ (j < i))
@@ -91,9 +95,9 @@ module _ (start : Names) (items : List LabelledItem) where
       let parts = split_two items i j x y lt ex ey in
       let front : List (List ℕ) = labels_of (take i items) in
       let before : labels_of (take j items) ≡ front ++ x.1 ∷ labels_of parts.middle = ap labels_of parts.before
-          ∙ labels_of-around (take i items) x parts.middle out_x in
+      ∙ labels_of-around (take i items) x parts.middle out_x in
       names_differ start front x.1 (labels_of parts.middle) y.1
-          (same ∙ ap (λ labels. name_after start labels y.1) before)
+      (same ∙ ap (λ labels. name_after start labels y.1) before)
 
   -- two places with one name are one place
   pub item_names_tell : (i j : ℕ) (x y : LabelledItem) → slice_get items i ≡ Some x →
@@ -136,12 +140,12 @@ found start earlier (x ∷ items) zero item apart e =
     let same = same_Some x item e in
     let yes = ap (same_key item.0) (ap (λ (y : LabelledItem). y.0) same) ∙ same_key_laws.refl item.0 in
     ap (λ b. cond b (Some (item_name start earlier x))
-        (lookup (same_key item.0) (named_from start (earlier ++ x ∷ []) items))) yes
+    (lookup (same_key item.0) (named_from start (earlier ++ x ∷ []) items))) yes
     ∙ (λ j. Some (item_name start (sym (append-nil earlier) j) (same j)))
 found start earlier (x ∷ items) (suc i) item apart e =
     let other = same_key_laws.symm item.0 x.0 ∙ at_place (λ y. same_key x.0 y.0 ≡ false) items i item apart.0 e in
     ap (λ b. cond b (Some (item_name start earlier x))
-        (lookup (same_key item.0) (named_from start (earlier ++ x ∷ []) items))) other
+    (lookup (same_key item.0) (named_from start (earlier ++ x ∷ []) items))) other
     ∙ found start (earlier ++ x ∷ []) items i item apart.1 e
     ∙ ap (λ items. Some (item_name start items item)) (append_assoc earlier (x ∷ []) (take i items))
 
@@ -150,7 +154,7 @@ absent : (start : Names) (k : NameKey) (earlier items : List LabelledItem) →
 absent start k earlier [] all = refl
 absent start k earlier (x ∷ items) all =
     ap (λ b. cond b (Some (item_name start earlier x))
-        (lookup (same_key k) (named_from start (earlier ++ x ∷ []) items))) all.0
+    (lookup (same_key k) (named_from start (earlier ++ x ∷ []) items))) all.0
     ∙ absent start k (earlier ++ x ∷ []) items all.1
 
 -- among the names of some items, an item's key has its name, and a key that no item has none
@@ -170,7 +174,7 @@ pub item_put : (start : Names) (before now : NameMap) (items : List LabelledItem
 item_put start before now items put apart i item e =
     put.finds item.0
     ∙ update_all_distinct same_key_laws same_key (λ x y. refl) before (named_items start items) item.0
-        (keys_distinct start [] items apart)
+    (keys_distinct start [] items apart)
     ∙ ap (λ o. option_or o (before item.0)) (name_found start items i item apart e)
 
 -- of an item outside structs, the name after the labels before it
@@ -188,7 +192,7 @@ pub put_elsewhere : (start : Names) (before now : NameMap) (items : List Labelle
 put_elsewhere start before now items put apart k none =
     put.finds k
     ∙ update_all_distinct same_key_laws same_key (λ x y. refl) before (named_items start items) k
-        (keys_distinct start [] items apart)
+    (keys_distinct start [] items apart)
     ∙ ap (λ o. option_or o (before k)) (name_absent start items k none)
 
 -- ---- where an item stands
@@ -239,7 +243,7 @@ among_sections section n zero (y ∷ xs) x item e s =
 among_sections section n (suc i) (y ∷ xs) x item e s =
     let next : n + suc i ≡ n + 1 + i = omega arith in
     among_right (section n y) (flat_map (λ p. section p.0 p.1) (enumerate_from (n + 1) xs)) item
-        (among_sections section (n + 1) i xs x item e (subst (λ m. IsAmong (section m x) item) next s))
+    (among_sections section (n + 1) i xs x item e (subst (λ m. IsAmong (section m x) item) next s))
 
 pub among_entries : {X : Type 0} (entry : ℕ → X → LabelledItem) (i : ℕ) (xs : List X) (x : X) → slice_get xs i
     ≡ Some x → IsAmong (map (λ p. entry p.0 p.1) (enumerate_from 0 xs)) (entry i x)
@@ -247,7 +251,7 @@ among_entries entry i xs x e =
     let same : 0 + i ≡ i = omega arith in
     subst (λ items. IsAmong items (entry i x)) (single (λ p. entry p.0 p.1) (enumerate_from 0 xs))
     (among_sections (λ n x. entry n x ∷ []) 0 i xs x (entry i x) e
-        (subst (λ n. IsAmong (entry n x ∷ []) (entry i x)) (sym same) (first_among (entry i x) [])))
+    (subst (λ n. IsAmong (entry n x ∷ []) (entry i x)) (sym same) (first_among (entry i x) [])))
 
 pub stands_first : (item : LabelledItem) (items : List LabelledItem) → is_member item.0 ≡ false →
     Stands (item ∷ items) item
@@ -280,7 +284,7 @@ pub type_among_types : (start : Names) («module» : Module) (t : ℕ) (ty : Typ
 type_among_types start m t ty e =
     let same : t ≡ 0 + t = omega arith in
     stands_in_section (labelled_type m.entry_points.items) 0 t m.types ty
-        (key.Type_ t, type_label m.entry_points.items t ty) e
+    (key.Type_ t, type_label m.entry_points.items t ty) e
     (subst (λ n. Stands (labelled_type m.entry_points.items n ty) (
       key.Type_ t,
       type_label m.entry_points.items t ty,
@@ -314,7 +318,7 @@ module _ (start : Names) («module» : Module) where
   type_stands t ty e =
       declared (key.Type_ t, type_label «module».entry_points.items t ty)
       (stands_left the_types (the_entry_points ++ (the_functions ++ the_globals))
-          (key.Type_ t, type_label «module».entry_points.items t ty) (type_among_types start «module» t ty e))
+      (key.Type_ t, type_label «module».entry_points.items t ty) (type_among_types start «module» t ty e))
 
   in_entry_point : (n : ℕ) (entry_point : EntryPoint) (item : LabelledItem) →
       slice_get «module».entry_points.items n ≡ Some entry_point →
@@ -324,7 +328,7 @@ module _ (start : Names) («module» : Module) where
       declared item (stands_right the_types (the_entry_points ++ (the_functions ++ the_globals)) item
       (stands_left the_entry_points (the_functions ++ the_globals) item
       (stands_in_section labelled_entry_point 0 n «module».entry_points.items entry_point item e
-          (subst (λ k. Stands (labelled_entry_point k entry_point) item) same s))))
+      (subst (λ k. Stands (labelled_entry_point k entry_point) item) same s))))
 
   pub entry_point_stands : (n : ℕ) (entry_point : EntryPoint) →
       slice_get «module».entry_points.items n ≡ Some entry_point →
@@ -344,7 +348,7 @@ module _ (start : Names) («module» : Module) where
       let arguments = labelled_entry_arguments n entry_point.function.arguments.items in
       let locals = labelled_entry_locals n entry_point.function.local_variables in
       in_entry_point n entry_point item e (stands_right ((key.EntryPoint n, string_bytes entry_point.name) ∷ [])
-          (arguments ++ locals) item
+      (arguments ++ locals) item
       (stands_left arguments locals item
       (stands_in_entries
       (λ k (b : FunctionArgument). (
@@ -365,7 +369,7 @@ module _ (start : Names) («module» : Module) where
       let arguments = labelled_entry_arguments n entry_point.function.arguments.items in
       let locals = labelled_entry_locals n entry_point.function.local_variables in
       in_entry_point n entry_point item e (stands_right ((key.EntryPoint n, string_bytes entry_point.name) ∷ [])
-          (arguments ++ locals) item
+      (arguments ++ locals) item
       (stands_right arguments locals item
       (stands_in_entries
       (λ k (v : LocalVariable). (key.EntryPointLocal n k, label_or v.name (codes "local"))) l
@@ -381,7 +385,7 @@ module _ (start : Names) («module» : Module) where
       (stands_right the_entry_points (the_functions ++ the_globals) item
       (stands_left the_functions the_globals item
       (stands_in_section (labelled_function «module».types) 0 h «module».functions function item e
-          (subst (λ n. Stands (labelled_function «module».types n function) item) same s)))))
+      (subst (λ n. Stands (labelled_function «module».types n function) item) same s)))))
 
   pub function_stands : (h : ℕ) (function : Function) →
       slice_get «module».functions h ≡ Some function →
@@ -389,8 +393,10 @@ module _ (start : Names) («module» : Module) where
         key.Function h,
         label_or function.name (codes "function"),
       )
-  function_stands h function e = in_function h function (key.Function h,
-      label_or function.name (codes "function")) e (stands_first _ _ refl)
+  function_stands h function e = in_function h function (
+    key.Function h,
+    label_or function.name (codes "function"),
+  ) e (stands_first _ _ refl)
 
   in_argument : (h : ℕ) (function : Function) (n : ℕ) (argument : FunctionArgument)
       (item : LabelledItem) → slice_get «module».functions h ≡ Some function →
@@ -402,10 +408,10 @@ module _ (start : Names) («module» : Module) where
       let arguments = labelled_arguments «module».types h function.arguments.items in
       let locals = labelled_locals h function.local_variables in
       in_function h function item e
-          (stands_right ((key.Function h, label_or function.name (codes "function")) ∷ []) (arguments ++ locals) item
+      (stands_right ((key.Function h, label_or function.name (codes "function")) ∷ []) (arguments ++ locals) item
       (stands_left arguments locals item
       (stands_in_section (labelled_argument «module».types h) 0 n function.arguments.items argument item a
-          (subst (λ k. Stands (labelled_argument «module».types h k argument) item) same s))))
+      (subst (λ k. Stands (labelled_argument «module».types h k argument) item) same s))))
 
   pub argument_stands : (h : ℕ) (function : Function) (n : ℕ) (argument : FunctionArgument) →
       slice_get «module».functions h ≡ Some function →
@@ -432,8 +438,8 @@ module _ (start : Names) («module» : Module) where
       (labelled_parts (key.ExternalTextureFunctionArgument h n)
       (label_or argument.name (codes "param"))) []) part
       (subst (λ b. Stands
-          (cond b (labelled_parts (key.ExternalTextureFunctionArgument h n)
-          (label_or argument.name (codes "param"))) []) part) (sym external) s))
+      (cond b (labelled_parts (key.ExternalTextureFunctionArgument h n)
+      (label_or argument.name (codes "param"))) []) part) (sym external) s))
 
   pub local_stands : (h : ℕ) (function : Function) (l : ℕ) (local : LocalVariable) →
       slice_get «module».functions h ≡ Some function →
@@ -447,10 +453,10 @@ module _ (start : Names) («module» : Module) where
       let arguments = labelled_arguments «module».types h function.arguments.items in
       let locals = labelled_locals h function.local_variables in
       in_function h function item e
-          (stands_right ((key.Function h, label_or function.name (codes "function")) ∷ []) (arguments ++ locals) item
+      (stands_right ((key.Function h, label_or function.name (codes "function")) ∷ []) (arguments ++ locals) item
       (stands_right arguments locals item
-          (stands_in_entries (λ k (v : LocalVariable).
-          (key.FunctionLocal h k, label_or v.name (codes "local"))) l function.local_variables local f refl)))
+      (stands_in_entries (λ k (v : LocalVariable).
+      (key.FunctionLocal h k, label_or v.name (codes "local"))) l function.local_variables local f refl)))
 
   in_global : (g : ℕ) (global : GlobalVariable) (item : LabelledItem) →
       slice_get «module».global_variables g ≡ Some global →
@@ -462,7 +468,7 @@ module _ (start : Names) («module» : Module) where
       (stands_right the_entry_points (the_functions ++ the_globals) item
       (stands_right the_functions the_globals item
       (stands_in_section (labelled_global «module».types) 0 g «module».global_variables global item e
-          (subst (λ k. Stands (labelled_global «module».types k global) item) same s)))))
+      (subst (λ k. Stands (labelled_global «module».types k global) item) same s)))))
 
   pub global_stands : (g : ℕ) (global : GlobalVariable) →
       slice_get «module».global_variables g ≡ Some global →
@@ -486,8 +492,8 @@ module _ (start : Names) («module» : Module) where
       (labelled_parts (key.ExternalTextureGlobalVariable g)
       (label_or global.name (codes "global"))) []) part
       (subst (λ b. Stands
-          (cond b (labelled_parts (key.ExternalTextureGlobalVariable g)
-          (label_or global.name (codes "global"))) []) part) (sym external) s))
+      (cond b (labelled_parts (key.ExternalTextureGlobalVariable g)
+      (label_or global.name (codes "global"))) []) part) (sym external) s))
 
   pub constant_stands : (c : ℕ) (constant : Constant) →
       slice_get «module».constants c ≡ Some constant →
@@ -497,13 +503,13 @@ module _ (start : Names) («module» : Module) where
       )
   constant_stands c constant e =
       let item : LabelledItem =
-          (key.Constant c, value_label (type_name start «module») (codes "const_") constant.name constant.ty) in
+      (key.Constant c, value_label (type_name start «module») (codes "const_") constant.name constant.ty) in
       stands_right (labelled_declarations «module») the_values item
       (stands_left (labelled_constants (type_name start «module») «module».constants)
-          (labelled_overrides (type_name start «module») «module».overrides) item
+      (labelled_overrides (type_name start «module») «module».overrides) item
       (stands_in_entries (λ k (v : Constant).
-          (key.Constant k, value_label (type_name start «module») (codes "const_") v.name v.ty)) c
-          «module».constants constant e refl))
+      (key.Constant k, value_label (type_name start «module») (codes "const_") v.name v.ty)) c
+      «module».constants constant e refl))
 
   pub override_stands : (o : ℕ) (value : Override) → slice_get «module».overrides o ≡ Some value →
       Stands (labelled_items start «module») (
@@ -512,13 +518,13 @@ module _ (start : Names) («module» : Module) where
       )
   override_stands o value e =
       let item : LabelledItem =
-          (key.Override o, value_label (type_name start «module») (codes "override_") value.name value.ty) in
+      (key.Override o, value_label (type_name start «module») (codes "override_") value.name value.ty) in
       stands_right (labelled_declarations «module») the_values item
       (stands_right (labelled_constants (type_name start «module») «module».constants)
-          (labelled_overrides (type_name start «module») «module».overrides) item
+      (labelled_overrides (type_name start «module») «module».overrides) item
       (stands_in_entries (λ k (v : Override).
-          (key.Override k, value_label (type_name start «module») (codes "override_") v.name v.ty)) o
-          «module».overrides value e refl))
+      (key.Override k, value_label (type_name start «module») (codes "override_") v.name v.ty)) o
+      «module».overrides value e refl))
 
 -- ---- after a `reset`
 module _ (start : Names) (before : NameMap) («module» : Module) (names : Names) (now : NameMap)
@@ -535,27 +541,35 @@ module _ (start : Names) (before : NameMap) («module» : Module) (names : Names
   names_tell a b s t same =
       let one = same_Some _ _ (sym (named_there a s) ∙ same ∙ named_there b t) in
       let place = item_names_tell start (labelled_items start «module») s.place t.place a b s.there t.there
-          s.outside t.outside one in
+      s.outside t.outside one in
       same_Some a b (sym s.there ∙ ap (slice_get (labelled_items start «module»)) place ∙ t.there)
 
   -- a function has its name, and each of its arguments
   pub function_named : (h : ℕ) (function : Function) → slice_get «module».functions h ≡ Some function →
       (name : List ℕ) × (now (key.Function h) ≡ Some name)
-  function_named h function e = (_, named_there (key.Function h, label_or function.name (codes "function"))
-      (function_stands start «module» h function e))
+  function_named h function e = (
+    _,
+    named_there (key.Function h, label_or function.name (codes "function"))
+        (function_stands start «module» h function e),
+  )
 
   pub argument_named : (h : ℕ) (function : Function) (n : ℕ) (argument : FunctionArgument) →
       slice_get «module».functions h ≡ Some function →
       slice_get function.arguments.items n ≡ Some argument → (name : List ℕ) ×
       (now (key.FunctionArgument h n) ≡ Some name)
-  argument_named h function n argument e a =
-      (_, named_there (key.FunctionArgument h n, label_or argument.name (codes "param"))
-      (argument_stands start «module» h function n argument e a))
+  argument_named h function n argument e a = (
+    _,
+    named_there (key.FunctionArgument h n, label_or argument.name (codes "param"))
+        (argument_stands start «module» h function n argument e a),
+  )
 
   pub type_named : (t : ℕ) (ty : Type_) → slice_get «module».types t ≡ Some ty → (name : List ℕ)
       × (now (key.Type_ t) ≡ Some name)
-  type_named t ty e = (_, named_there (key.Type_ t, type_label «module».entry_points.items t ty)
-      (type_stands start «module» t ty e))
+  type_named t ty e = (
+    _,
+    named_there (key.Type_ t, type_label «module».entry_points.items t ty)
+        (type_stands start «module» t ty e),
+  )
 
   -- the same by places
   pub named_at : (i : ℕ) (item : LabelledItem) → slice_get (labelled_items start «module») i ≡ Some item →

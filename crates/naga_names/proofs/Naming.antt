@@ -32,7 +32,7 @@ module _ {Y : Type 0} where
   found q [] = refl
   found q (e ∷ es) =
       ap (λ b. cond b (Some (e.1 + 1)) (finite.find (slice_cmp nat_cmp) q
-          (map (λ e. (string_bytes e.0, e.1 + 1)) es))) (is_eq-slice_cmp q (string_bytes e.0))
+      (map (λ e. (string_bytes e.0, e.1 + 1)) es))) (is_eq-slice_cmp q (string_bytes e.0))
       ∙ either (bytes_eq q (string_bytes e.0)) (found q es)
     where
       either : (b : Bool) →
@@ -86,8 +86,10 @@ uses_of-empty base = ap (λ u. unwrap_or u 0) (finite.get-empty (slice_cmp nat_c
 
 -- nothing was named by a `Namer` that is new
 pub has_named_nothing : (names : Names) → names.uses ≡ finite.empty → HasNamed names []
-has_named_nothing names none = record { uses_are = λ base. ap (λ u. uses_of u base) none ∙ uses_of-empty base;
-    few = λ base. omega arith }
+has_named_nothing names none = record {
+  uses_are = λ base. ap (λ u. uses_of u base) none ∙ uses_of-empty base;
+  few = λ base. omega arith;
+}
 
 -- a label that has the base b
 pub with_use_is : (names : Names) (label b : List ℕ) (n : ℕ) (after : Uses) →
@@ -96,9 +98,10 @@ pub with_use_is : (names : Names) (label b : List ℕ) (n : ℕ) (after : Uses) 
     record names { uses = after } ≡ with_use names label
 unfolding with_use
 with_use_is names label b n after base_is uses_are is =
-    (λ i. record names
-        { uses = (is ∙ ap (λ m. finite.insert names.uses b (m + 1)) (sym uses_are)
-        ∙ ap (λ d. finite.insert names.uses d (uses_of names.uses d + 1)) base_is) i })
+    (λ i. record names {
+      uses = (is ∙ ap (λ m. finite.insert names.uses b (m + 1)) (sym uses_are)
+          ∙ ap (λ d. finite.insert names.uses d (uses_of names.uses d + 1)) base_is) i;
+    })
 
 pub name_of-first : (names : Names) (label b : List ℕ) → b ≡ label_base names label → uses_of names.uses b ≡ 0 →
     first_name names b ≡ name_of names label
@@ -111,7 +114,7 @@ pub name_of-later : (names : Names) (label b : List ℕ) (n : ℕ) → b ≡ lab
 unfolding name_of
 name_of-later names label b n base_is used =
     sym (ap (name_of_base names b) used ∙ later (n + 1 == 0) (omega_false n))
-        ∙ ap (λ d. name_of_base names d (uses_of names.uses d)) base_is
+    ∙ ap (λ d. name_of_base names d (uses_of names.uses d)) base_is
   where
     omega_false : (n : ℕ) → (n + 1 == 0) ≡ false
     omega_false n = grind (arith, nat_tests)
@@ -156,14 +159,14 @@ has_named-push names earlier label room has = record {
     fewer base true same =
         let pushed : labels_with_base names (earlier ++ label ∷ []) base ≡ labels_with_base names earlier base + 1 =
         sum_by_push (λ l. cond (bytes_eq (label_base names l) base) 1 0) earlier label
-            ∙ ap (λ t. labels_with_base names earlier base + cond t 1 0) same in
+        ∙ ap (λ t. labels_with_base names earlier base + cond t 1 0) same in
         let used : labels_with_base names earlier base ≡ uses_of names.uses b = sym (has.uses_are base)
-            ∙ sym (ap (uses_of names.uses) ((bytes_decides b base).0 same)) in
+        ∙ sym (ap (uses_of names.uses) ((bytes_decides b base).0 same)) in
         omega (arith, pushed, used, room)
     fewer base false differs =
         let pushed : labels_with_base names (earlier ++ label ∷ []) base ≡ labels_with_base names earlier base + 0 =
         sum_by_push (λ l. cond (bytes_eq (label_base names l) base) 1 0) earlier label
-            ∙ ap (λ t. labels_with_base names earlier base + cond t 1 0) differs in
+        ∙ ap (λ t. labels_with_base names earlier base + cond t 1 0) differs in
         omega (arith, pushed, has.few base)
 
 pub uses_of-unused : (uses : Uses) (b : List ℕ) (later : Option ℕ) → option_map (λ n. n + 1) later

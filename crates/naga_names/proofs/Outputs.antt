@@ -41,7 +41,7 @@ module _ (t : ℕ) (entry_points : List EntryPoint) (i : ℕ) (entry_point : Ent
       output_word entry_point.stage ≡ Some word.now →
       hash.Updates nat_eq old new result.ty (Some word)
       → words_in old t ≡ output_label t (take i entry_points) → words_in new t
-          ≡ output_label t (take (i + 1) entry_points)
+      ≡ output_label t (take (i + 1) entry_points)
   has_word old new result word some is_word updates so_far =
       ap (option_map (λ word. word.now)) (updates.0 t) ∙ either (nat_eq result.ty t)
       ∙ sym (output_label-more t entry_points i entry_point lt is ∙ (λ j. more (some j) (is_word j)))

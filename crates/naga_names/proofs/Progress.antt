@@ -32,14 +32,16 @@ stands_more start first earlier items names now error stands =
 
 pub gives_none : (a : Progress) → Gives a [] a
 gives_none a =
-    record { more = λ start first earlier stands. subst
-    (λ items. Stands start first items a.names a.map a.refusal) (sym (append-nil earlier)) stands }
+    record {
+      more = λ start first earlier stands. subst
+          (λ items. Stands start first items a.names a.map a.refusal) (sym (append-nil earlier)) stands;
+    }
 
 pub gives_then : {a b c : Progress} {xs ys : List LabelledItem} → Gives a xs b → Gives b ys c → Gives a (xs ++ ys) c
 gives_then {a} {b} {c} {xs} {ys} one two = record {
   more = λ start first earlier stands.
       subst (λ items. Stands start first items c.names c.map c.refusal) (append_assoc earlier xs ys)
-          (two.more start first (earlier ++ xs) (one.more start first earlier stands));
+      (two.more start first (earlier ++ xs) (one.more start first earlier stands));
 }
 
 -- the same from names that a map has in another order
@@ -74,7 +76,7 @@ pub gives_named : (a b : Progress) (items : List LabelledItem) → a.refusal ≡
 gives_named a b items was is named = record {
   more = λ start first earlier stands.
       subst (Stands start first (earlier ++ items) b.names b.map) (sym is)
-          (named.more start first earlier (subst (Stands start first earlier a.names a.map) was stands));
+      (named.more start first earlier (subst (Stands start first earlier a.names a.map) was stands));
 }
 
 pub gives_refused : (a b : Progress) (items : List LabelledItem) (error : NamerError) → a.refusal ≡ None →
@@ -82,16 +84,16 @@ pub gives_refused : (a b : Progress) (items : List LabelledItem) (error : NamerE
 gives_refused a b items error was is refused = record {
   more = λ start first earlier stands.
       let has : HasNamedItems start first earlier a.names a.map =
-          subst (Stands start first earlier a.names a.map) was stands in
+      subst (Stands start first earlier a.names a.map) was stands in
       subst (Stands start first (earlier ++ items) b.names b.map) (sym is)
-          (refused.some start first earlier has, refused.why start first earlier has);
+      (refused.some start first earlier has, refused.why start first earlier has);
 }
 
 -- a refusal is remembered, for which there is a reason with these items
 pub gives_up : (a b : Progress) (items : List LabelledItem) (error : NamerError) → b.map ≡ a.map →
     b.refusal ≡ option_or a.refusal (Some error)
     → ((start : Names) (earlier : List LabelledItem) → IsRefusalOfItems start (earlier ++ items) error) →
-        Gives a items b
+    Gives a items b
 gives_up a b items error map_is is why =
     record { more = λ start first earlier stands. either start first earlier a.refusal refl stands }
   where
@@ -101,13 +103,19 @@ gives_up a b items error map_is is why =
         Stands start first (earlier ++ items) b.names b.map b.refusal
     either start first earlier None was stands =
         let has : HasNamedItems start first earlier a.names a.map =
-            subst (Stands start first earlier a.names a.map) was stands in
-        subst (Stands start first (earlier ++ items) b.names b.map) (sym (is ∙ ap (λ o. option_or o (Some error)) was))
-        (record { named = earlier; left = items; all = refl;
-            put = subst (PutsInto first (named_items start earlier)) (sym map_is) has.put }, why start earlier)
+        subst (Stands start first earlier a.names a.map) was stands in
+        subst (Stands start first (earlier ++ items) b.names b.map) (sym (is ∙ ap (λ o. option_or o (Some error)) was)) (
+          record {
+            named = earlier;
+            left = items;
+            all = refl;
+            put = subst (PutsInto first (named_items start earlier)) (sym map_is) has.put;
+          },
+          why start earlier,
+        )
     either start first earlier (Some before) was stands =
         let more = stands_more start first earlier items a.names a.map before
-            (subst (Stands start first earlier a.names a.map) was stands) in
+        (subst (Stands start first earlier a.names a.map) was stands) in
         subst (Stands start first (earlier ++ items) b.names b.map) (sym (is ∙ ap (λ o. option_or o (Some error)) was))
         (subst (PutsBeginning start first (earlier ++ items)) (sym map_is) more.0, more.1)
 
@@ -123,7 +131,7 @@ pub gives_up_key : (a b : Progress) (item : LabelledItem) (others : List Labelle
 gives_up_key a b item others map_is is unfit =
     gives_up a b (item ∷ others) KeyFull map_is is
     (λ start earlier. list_all-append (λ item. key_fits item.0) earlier (item ∷ others)
-        ∙ ap (λ b. keys_fit earlier && (b && keys_fit others)) unfit ∙ and-false (keys_fit earlier))
+    ∙ ap (λ b. keys_fit earlier && (b && keys_fit others)) unfit ∙ and-false (keys_fit earlier))
 
 -- ---- loops
 pub leaves_all : (a : Progress) {all left : List LabelledItem} → all ≡ left → Leaves a a all left
@@ -133,8 +141,10 @@ module _ {X : Type 0} (own : X → List LabelledItem) {a b : Progress} {all : Li
   pub leaves_turn : {c : Progress} {x : X} {rest : List X} → xs ≡ x ∷ rest → Leaves a b all (flat_map own xs) →
       Gives b (own x) c → Leaves a c all (flat_map own rest)
   leaves_turn is leaves gives =
-      record { rest = λ after others. leaves.rest after
-      (gives_same (sym (ap (flat_map own) is)) (gives_then gives others)) }
+      record {
+        rest = λ after others. leaves.rest after
+            (gives_same (sym (ap (flat_map own) is)) (gives_then gives others));
+      }
 
   pub leaves_none : xs ≡ [] → Leaves a b all (flat_map own xs) → Gives a all b
   leaves_none is leaves = leaves.rest b (gives_same (sym (ap (flat_map own) is)) (gives_none b))
@@ -180,7 +190,7 @@ module _ (a b : Progress) («module» : Module) (declared : Gives a (labelled_de
   module_refused is = record {
     more = λ start first stands.
         (gives_after b (labelled_values (type_name start «module») «module») is).more start first
-            (labelled_declarations «module») (declared.more start first [] stands);
+        (labelled_declarations «module») (declared.more start first [] stands);
   }
 
   -- they are labelled by the names that the map has for their types
@@ -190,9 +200,9 @@ module _ (a b : Progress) («module» : Module) (declared : Gives a (labelled_de
     more = λ start first stands.
         let so_far = declared.more start first [] stands in
         let has : HasNamedItems start first (labelled_declarations «module») b.names b.map =
-            subst (Stands start first (labelled_declarations «module») b.names b.map) none so_far in
+        subst (Stands start first (labelled_declarations «module») b.names b.map) none so_far in
         subst (λ names. Stands start first (labelled_declarations «module» ++ labelled_values names «module»)
-            c.names c.map c.refusal) (agree start «module» first b.names b.map has)
+        c.names c.map c.refusal) (agree start «module» first b.names b.map has)
         (values.more start first (labelled_declarations «module») so_far);
   }
 
@@ -203,8 +213,8 @@ module _ (start : Names) (a b : Progress) («module» : Module) (same : a.names 
   stands_at_end =
       gives.more start a.map
       (subst (Stands start a.map [] a.names a.map) (sym fresh)
-          (subst (λ names. HasNamedItems start a.map [] names a.map) (sym same)
-          (begins start a.map (has_named_nothing start none))))
+      (subst (λ names. HasNamedItems start a.map [] names a.map) (sym same)
+      (begins start a.map (has_named_nothing start none))))
 
   pub all_named : (names : Names) → (b.refusal ≡ None) × (names ≡ b.names) →
       HasNamedItems start a.map (labelled_items start «module») names b.map

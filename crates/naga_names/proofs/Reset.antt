@@ -40,7 +40,7 @@ pub labels_of-around : (items : List LabelledItem) (item : LabelledItem)
     labels_of (items ++ item ∷ others) ≡ labels_of items ++ item.1 ∷ labels_of others
 labels_of-around items item others outside =
     labels_of-append items (item ∷ others)
-        ∙ ap (λ b. labels_of items ++ (cond b [] (item.1 ∷ []) ++ labels_of others)) outside
+    ∙ ap (λ b. labels_of items ++ (cond b [] (item.1 ∷ []) ++ labels_of others)) outside
 
 -- its name is that of its label after these labels
 pub item_name-outside : (start : Names) (earlier : List LabelledItem) (key : NameKey)
@@ -68,7 +68,7 @@ named_items-push : (start : Names) (items : List LabelledItem) (item : LabelledI
     named_items start (items ++ item ∷ []) ≡ named_items start items ++ (item.0, item_name start items item) ∷ []
 named_items-push start items item =
     scan-push (λ earlier item. earlier ++ item ∷ [])
-        (λ earlier item. (item.0, item_name start earlier item)) [] items item
+    (λ earlier item. (item.0, item_name start earlier item)) [] items item
     ∙ ap (λ earlier. named_items start items ++ (item.0, item_name start earlier item) ∷ []) (items_folded [] items)
 
 -- one more use leaves the words and the prefixes
@@ -103,7 +103,7 @@ module _ where
             ∙ sym (item_name-outside start earlier key label outside)) i)) (has.put.finds q i))
             ∙ sym (ap (λ pairs. update_all same_key first pairs q) (named_items-push start earlier (key, label))
             ∙ ap (λ f. f q) (fold-push (λ f p. update same_key f p.0 (Some p.1)) first
-                (named_items start earlier) (key, item_name start earlier (key, label))));
+            (named_items start earlier) (key, item_name start earlier (key, label))));
       };
     };
   }
@@ -124,8 +124,13 @@ pub starts : (keywords builtins caseless : Words) (uses : Uses)
     } ≡ new_names keywords builtins
     caseless (map (λ p. p.now) assigned)
 starts keywords builtins caseless uses prefixes assigned none same =
-    λ i. record { keywords = keywords; builtin_identifiers = builtins; caseless_keywords = caseless;
-        reserved_prefixes = map (λ p. p.now) (same i); uses = none i }
+    λ i. record {
+      keywords = keywords;
+      builtin_identifiers = builtins;
+      caseless_keywords = caseless;
+      reserved_prefixes = map (λ p. p.now) (same i);
+      uses = none i;
+    }
 
 -- ---- why items are refused
 pub if_err : {T E : Type 0} (r : Result T E) (e : E) (P : E → Type 0) → IsErrAnd r (λ y. y ≡ e) → P e → IfErr r P
@@ -220,14 +225,14 @@ pub none_full : (start : Names) (before : NameMap) (items : List LabelledItem) (
 none_full start before items names now has full =
     let base : List ℕ = label_base start full.item.1 in
     let all : labels_of items ≡ labels_of full.named ++ full.item.1 ∷ labels_of full.left =
-        ap labels_of full.all ∙ labels_of-around full.named full.item full.left full.outside in
+    ap labels_of full.all ∙ labels_of-around full.named full.item full.left full.outside in
     let few : labels_with_base start (labels_of items) base ≤ 2 ^ 32 =
-        subst (λ n. n ≤ 2 ^ 32) (ap (λ (n : Names). labels_with_base n (labels_of items) base) has.words)
-        (has.labels.few base) in
+    subst (λ n. n ≤ 2 ^ 32) (ap (λ (n : Names). labels_with_base n (labels_of items) base) has.words)
+    (has.labels.few base) in
     let count : labels_with_base start (labels_of items) base
-        ≡ labels_with_base start (labels_of full.named) base + (1 + labels_with_base start (labels_of full.left) base) =
+    ≡ labels_with_base start (labels_of full.named) base + (1 + labels_with_base start (labels_of full.left) base) =
     ap (λ labels. labels_with_base start labels base) all
-        ∙ counted_more start (labels_of full.named) full.item.1 (labels_of full.left) base refl in
+    ∙ counted_more start (labels_of full.named) full.item.1 (labels_of full.left) base refl in
     let met : labels_with_base start (labels_of full.named) base ≡ 2 ^ 32 = full.full in
     omega (arith, few, count, met)
 
@@ -250,7 +255,7 @@ enumerate_from-append n [] ys = ap (λ m. enumerate_from m ys) (sym (add-zero n)
 enumerate_from-append n (x ∷ xs) ys =
     let long : n + 1 + length xs ≡ n + length (x ∷ xs) = omega arith in
     ap (λ items. (n, x) ∷ items) (enumerate_from-append (n + 1) xs ys
-        ∙ ap (λ m. enumerate_from (n + 1) xs ++ enumerate_from m ys) long)
+    ∙ ap (λ m. enumerate_from (n + 1) xs ++ enumerate_from m ys) long)
 
 -- items that come of a list, in order, each by its place and the entry there
 module _ {X : Type 0} (items : ℕ → List X → List LabelledItem) (own : ℕ → X → List LabelledItem)
@@ -305,7 +310,7 @@ output_label-push t [] entry_point =
     sym (option_or-none (cond (returns t entry_point) (output_word entry_point.stage) None))
 output_label-push t (first ∷ entry_points) entry_point =
     ap (λ o. option_or o (cond (returns t first) (output_word first.stage) None))
-        (output_label-push t entry_points entry_point)
+    (output_label-push t entry_points entry_point)
     ∙ option_or-assoc (cond (returns t entry_point) (output_word entry_point.stage) None)
     (output_label t entry_points) (cond (returns t first) (output_word first.stage) None)
 
@@ -317,7 +322,7 @@ pub output_label-more : (t : ℕ) (entry_points : List EntryPoint) (i : ℕ)
     (output_label t (take i entry_points))
 output_label-more t entry_points i entry_point lt is =
     ap (output_label t) (take_more entry_points i entry_point lt ∙ ap (λ e. take i entry_points ++ e ∷ [])
-        (sym is)) ∙ output_label-push t (take i entry_points) entry_point
+    (sym is)) ∙ output_label-push t (take i entry_points) entry_point
 
 -- a map that has the same names for types
 pub same_type_names : (before now : NameMap) (count : ℕ) →

@@ -36,9 +36,9 @@ no_type entry_points t n [] le = tt
 no_type entry_points t n (ty ∷ types) le =
     let differ : t ≡ n → ⊥ = λ e. absurd (omega (arith, e, le)) in
     all_append (λ y. same_key (key.Type_ t) y.0 ≡ false) (labelled_type entry_points n ty)
-        (flat_map (λ p. labelled_type entry_points p.0 p.1) (enumerate_from (n + 1) types))
+    (flat_map (λ p. labelled_type entry_points p.0 p.1) (enumerate_from (n + 1) types))
     (unlike_types t n differ, members_differ 0 (members_of ty.inner))
-        (no_type entry_points t (n + 1) types (omega (arith, le)))
+    (no_type entry_points t (n + 1) types (omega (arith, le)))
   where
     members_differ : (k : ℕ) (members : List StructMember) →
         AllByRecursion (λ (y : LabelledItem). same_key (key.Type_ t) y.0 ≡ false)
@@ -65,10 +65,10 @@ module _ (start : Names) («module» : Module) where
         let s = type_among_types start «module» t ty e in
         let le : s.place ≤ length the_types = omega (arith, slice_get_within the_types s.place item s.there) in
         item_put start first now (labelled_declarations «module») has.put (declarations_apart «module») s.place
-            item (place_left the_types the_others s.place item s.there)
+        item (place_left the_types the_others s.place item s.there)
         ∙ ap (λ items. Some (item_name start items item)) (take-append-le s.place the_types the_others le)
         ∙ sym (ap (λ o. Some (unwrap_or o []))
-            (name_found start the_types s.place item (types_apart «module».entry_points.items «module».types) s.there))
+        (name_found start the_types s.place item (types_apart «module».entry_points.items «module».types) s.there))
 
     agrees : (t : ℕ) → type_names_in now (length «module».types) t ≡ type_name start «module» t
     agrees t = by (slice_get «module».types t) refl
@@ -77,14 +77,14 @@ module _ (start : Names) («module» : Module) where
             ≡ type_name start «module» t
         by (Some ty) e =
             ap (λ b. cond b (unwrap_or (now (key.Type_ t)) []) [])
-                (lt-ltb t (length «module».types) (slice_get_within «module».types t ty e))
+            (lt-ltb t (length «module».types) (slice_get_within «module».types t ty e))
             ∙ ap (λ o. unwrap_or o []) (there t ty e)
         by None e =
             let past_end : length «module».types ≤ t = past «module».types t e in
             ap (λ b. cond b (unwrap_or (now (key.Type_ t)) []) [])
-                (not_below t (length «module».types) (λ lt. omega (arith, lt, past_end)))
+            (not_below t (length «module».types) (λ lt. omega (arith, lt, past_end)))
             ∙ sym (ap (λ o. unwrap_or o []) (name_absent start the_types (key.Type_ t)
-                (no_type «module».entry_points.items t 0 «module».types (omega (arith, past_end)))))
+            (no_type «module».entry_points.items t 0 «module».types (omega (arith, past_end)))))
 
     pub agree : type_names_in now (length «module».types) ≡ type_name start «module»
     agree = λ i t. agrees t i

@@ -55,7 +55,7 @@ module _ (es : List Expression) (writes : List (Line × ℕ)) (first : List (Opt
           next es (handles_to last writes) (marks_to last first) (marks_to last old) (marks_to last new) h e
           (marks_size last old ∙ size) at below (marked ∙ there)
           (λ j. (also.marks last).marks j ∙ ap (λ hs. marked_with (marks_to last old) hs j)
-              (handles_there last line (expression_operands e) there))
+          (handles_there last line (expression_operands e) there))
           (swept last)
       by false beyond =
           moved es (handles_to last writes) (marks_to last first) (marks_to last old) (marks_to last new) h
@@ -63,7 +63,7 @@ module _ (es : List Expression) (writes : List (Line × ℕ)) (first : List (Opt
           ∙ ap (λ hs. marked_with (marks_to last old) hs j) (handles_beyond last line (expression_operands e) beyond)
           ∙ or-false (is_marked (marks_to last old) j))
           (passed es (handles_to last writes) (marks_to last first) (marks_to last old) h (marked ∙ beyond)
-              (swept last))
+          (swept last))
 
 -- ---- what is found
 module _ (formed : Expression → Bool) (es : List Expression) where
@@ -93,8 +93,8 @@ module _ (formed : Expression → Bool) (es : List Expression) where
           by : (h ≡ x) ⊎ (suc x ≤ h) → suc x ≤ h
           by (inl same) =
               absurd (false≢true
-                  (sym (ap (λ k. is_marked (marks_to last lines) k) same ∙ marked_is last lines x
-                  ∙ ap (has_line_to last) none) ∙ is))
+              (sym (ap (λ k. is_marked (marks_to last lines) k) same ∙ marked_is last lines x
+              ∙ ap (has_line_to last) none) ∙ is))
           by (inr lt) = lt
 
       by : (found : Option (Line × ℕ)) → FoundFrom (suc x) lines found → FoundFrom x lines found
@@ -108,8 +108,8 @@ module _ (formed : Expression → Bool) (es : List Expression) where
     up_to : (last : Line) (h : ℕ) → h ≡ x → is_marked (marks_to last lines) h ≡ true → is_before last line ≡ false
     up_to last h same marked =
         let there : is_up_to last line ≡ true =
-            sym (ap (λ k. is_marked (marks_to last lines) k) same ∙ marked_is last lines x
-            ∙ ap (has_line_to last) is) ∙ marked in
+        sym (ap (λ k. is_marked (marks_to last lines) k) same ∙ marked_is last lines x
+        ∙ ap (has_line_to last) is) ∙ marked in
         not-true (is_before last line) there
 
     same_expression : (h : ℕ) (d : Expression) → h ≡ x → slice_get es h ≡ Some d → e ≡ d
@@ -160,8 +160,12 @@ module _ (formed : Expression → Bool) (es : List Expression) where
     here false lacks (Some f) (marked, was, each) = which (is_before f.0 line) refl
       where
         which : (b : Bool) → is_before f.0 line ≡ b → FoundFrom x lines (if b then Some f else Some (line, x))
-        which true before = (marked, was, λ last h d le there marked fails. by last h d there marked fails
-            (from_there x h le))
+        which true before = (
+          marked,
+          was,
+          λ last h d le there marked fails. by last h d there marked fails
+              (from_there x h le),
+        )
           where
             by : (last : Line) (h : ℕ) (d : Expression) → slice_get es h ≡ Some d →
                 is_marked (marks_to last lines) h ≡ true →
@@ -194,7 +198,7 @@ module _ (formed : Expression → Bool) (es : List Expression) where
   pub found_next : (old new : List (Option Line)) (x : ℕ) (e : Expression) (line : Line) (has_form : Bool)
       (found : Option (Line × ℕ)) →
       slice_get es x ≡ Some e → AllBelow x (expression_operands e) → get_or old x None ≡ Some line →
-          formed e ≡ has_form →
+      formed e ≡ has_form →
       WritesAlso old (writes_at line (expression_operands e)) new → FoundFrom (suc x) old found →
       FoundFrom x new (found_with found line x has_form)
   found_next old new x e line has_form found at below is has also before =
@@ -213,7 +217,7 @@ module _ (formed : Expression → Bool) (es : List Expression) where
               sym (ap (λ hs. is_one_of hs h) (handles_there last line (expression_operands e) there)) ∙ one
           inside false beyond =
               absurd (false≢true
-                  (sym (ap (λ hs. is_one_of hs h) (handles_beyond last line (expression_operands e) beyond)) ∙ one))
+              (sym (ap (λ hs. is_one_of hs h) (handles_beyond last line (expression_operands e) beyond)) ∙ one))
 
       was : (last : Line) (h : ℕ) → x ≤ h → is_marked (marks_to last new) h ≡ true →
           is_marked (marks_to last old) h ≡ true
@@ -222,7 +226,7 @@ module _ (formed : Expression → Bool) (es : List Expression) where
         where
           inside : (is_marked (marks_to last old) h ≡ true) ⊎
               ((is_one_of (handles_to last (writes_at line (expression_operands e))) h
-                  && nat_lt h (length (marks_to last old))) ≡ true) →
+              && nat_lt h (length (marks_to last old))) ≡ true) →
               is_marked (marks_to last old) h ≡ true
           inside (inl is) = is
           inside (inr is) =
@@ -238,7 +242,7 @@ module _ (formed : Expression → Bool) (es : List Expression) where
   pub found_all : (writes : List (Line × ℕ)) (first lines : List (Option Line)) (found : Option (Line × ℕ)) →
       WritesJust writes first →
       length first ≡ length es → SweptTo es writes first lines 0 → FoundFrom 0 lines found →
-          FindsEarliest formed es writes found
+      FindsEarliest formed es writes found
   found_all writes first lines found just size swept is = by found is
     where
       marked : (last : Line) (h : ℕ) (e : Expression) → slice_get es h ≡ Some e →
@@ -246,7 +250,7 @@ module _ (formed : Expression → Bool) (es : List Expression) where
           is_marked (marks_to last lines) h ≡ true
       marked last h e at written =
           all_marked es (handles_to last writes) (marks_to last first) (just last)
-              (marks_size last first ∙ size) (marks_to last lines) (swept last)
+          (marks_size last first ∙ size) (marks_to last lines) (swept last)
           h (slice_get_within es h e at) written
 
       by : (found : Option (Line × ℕ)) → FoundFrom 0 lines found → FindsEarliest formed es writes found

@@ -134,7 +134,7 @@ module _ (m : Module) (info : ModuleInfo) (f : ir_function.Function) (es : List 
         let all = is ∙ sym (checked_operands m info f es ordered s n h held h) in
         λ i. result_and (unless (sym new i) (GivenBefore n h))
         (result_and (unless (sym (emittable_at m info f es h ∙ kind) i) (NeedsNoEmit n h))
-            (check_bound (bound i) (all i)))
+        (check_bound (bound i) (all i)))
 
 module _ (names : NameMap) (m : Module) (info : ModuleInfo) (named : ℕ → List ℕ) (g : ℕ)
     (f : ir_function.Function) (es : List ExpressionInfo) where
@@ -152,7 +152,7 @@ module _ (names : NameMap) (m : Module) (info : ModuleInfo) (named : ℕ → Lis
       (let evaluated = expression_of shape h in
       cell ≡ emitted_availability (binds shape h) (is_pure evaluated)
       (usable_all shape (handles table) (operands_of evaluated)) (next_name (is_some (label_of f h)) k)
-          (get_or table h Absent)) →
+      (get_or table h Absent)) →
       handles (slice_set table h cell) ≡ after_one own k h (handles table)
   emitted_is h k table cell lt is =
       let s = handles table in
@@ -174,14 +174,14 @@ module _ (names : NameMap) (m : Module) (info : ModuleInfo) (named : ℕ → Lis
       let s = handles table in
       let at = no_expression_at m info f es h (slice_get_past f.expressions h past) in
       sym (ap (λ e. with_emitted_handle (binds_as shape h e) (is_pure e) (usable_all shape s (operands_of e))
-          (runs.bound_name own k h) s h) at)
+      (runs.bound_name own k h) s h) at)
 
   -- so an Emit of any handle does
   pub any_emitted : (h k : ℕ) (table : List Availability) (cell : Availability) → length table ≡ length f.expressions →
       (let evaluated = expression_of shape h in
       cell ≡ emitted_availability (binds shape h) (is_pure evaluated)
       (usable_all shape (handles table) (operands_of evaluated)) (next_name (is_some (label_of f h)) k)
-          (get_or table h Absent)) →
+      (get_or table h Absent)) →
       handles (slice_set table h cell) ≡ after_one own k h (handles table)
   any_emitted h k table cell size is = by (cases_lt h (length table))
     where

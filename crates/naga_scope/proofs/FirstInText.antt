@@ -126,7 +126,7 @@ module _ (explicit : Bool) (m : Module) (info : ModuleInfo) (f : Function) (es :
         by line kind (inl lt) comes = none line kind lt
         by line kind (inr same) comes =
             subst (λ k. Nothing k line) (sym same)
-                (of_this line (subst (λ k. ComesBefore line k (line_of error) (kind_of error)) same comes))
+            (of_this line (subst (λ k. ComesBefore line k (line_of error) (kind_of error)) same comes))
 
     -- the first of two
     kept : (x y : PlanError) → is_before (line_of y) (line_of x) ≡ false → FirstBelow n x → FirstOf this y →
@@ -147,7 +147,7 @@ module _ (explicit : Bool) (m : Module) (info : ModuleInfo) (f : Function) (es :
         by line kind (inl lt) comes = first.before line kind lt comes
         by line kind (inr same) comes =
             subst (λ k. Nothing k line) (sym same)
-                (of_this line (subst (λ k. ComesBefore line k (line_of x) (kind_of x)) same comes))
+            (of_this line (subst (λ k. ComesBefore line k (line_of x) (kind_of x)) same comes))
 
     taken : (x y : PlanError) → is_before (line_of y) (line_of x) ≡ true → FirstBelow n x → FirstOf this y →
         FirstBelow (suc n) y
@@ -174,7 +174,7 @@ module _ (explicit : Bool) (m : Module) (info : ModuleInfo) (f : Function) (es :
         by line kind (inl lt) comes = of_first line kind lt comes
         by line kind (inr same) comes =
             subst (λ k. Nothing k line) (sym same)
-                (of_this line (subst (λ k. ComesBefore line k (line_of y) (kind_of y)) same comes))
+            (of_this line (subst (λ k. ComesBefore line k (line_of y) (kind_of y)) same comes))
 
     next : (a b : Option PlanError) → FoundBelow n a → FoundOf this b → FoundBelow (suc n) (earlier a b)
     next None None none nothing = λ line kind lt. by line kind (earlier_or_this kind this n rank lt)
@@ -212,7 +212,7 @@ module _ (explicit : Bool) (m : Module) (info : ModuleInfo) (f : Function) (es :
       before = λ line before other found same. let one = same_fault fault other (checked_scope m info f es)
           (sym is) found in
           absurd (false≢true (sym (not_before_itself (line_of_fault fault))
-              ∙ (ap (λ l. is_before l (line_of_fault fault)) (ap line_of_fault one ∙ same) ∙ before)));
+          ∙ (ap (λ l. is_before l (line_of_fault fault)) (ap line_of_fault one ∙ same) ∙ before)));
     }
       where
         same_fault : (a b : ScopeFault) (r : Result ℕ ScopeFault) → r ≡ Err a → r ≡ Err b → a ≡ b
@@ -338,7 +338,7 @@ module _ (explicit : Bool) (m : Module) (info : ModuleInfo) (f : Function) (es :
         by (Statement n) = λ st at. each n st (ap (λ ss. slice_get ss n) trees ∙ at)
     of_lets (Some (n, h)) found =
         let there : slice_get (trees_in f.body) n ≡ Some found.1 = ap (slice_get (trees_in f.body)) found.3
-            ∙ (ap (λ ss. slice_get ss found.0) (sym trees) ∙ found.2) in
+        ∙ (ap (λ ss. slice_get ss found.0) (sym trees) ∙ found.2) in
         record {
           is = refl;
           of_kind = λ st at. ap (own_annotated explicit m es bound)
@@ -361,7 +361,7 @@ module _ (explicit : Bool) (m : Module) (info : ModuleInfo) (f : Function) (es :
         (checked : Result ℕ ScopeFault) (is_checked : checked ≡ checked_scope m info f es)
         (statement : Option (ℕ × UnsupportedStatement)) (finds_statement : FindsUnsupported sts statement)
         (expression : Option (Line × ℕ)) (finds_expression : FindsEarliest formed f.expressions
-            (function_writes bound f sts) expression)
+        (function_writes bound f sts) expression)
         (declared : Option (Declared × ℕ)) (is_declared : declared ≡ declared_unsupported m f)
         (annotated : Option (ℕ × ℕ)) (finds_annotated : FindsAnnotated explicit m es bound sts annotated) where
       of_body : FindsEarliest formed f.expressions (function_writes bound f (trees_in f.body)) expression
@@ -399,8 +399,8 @@ module _ (explicit : Bool) (m : Module) (info : ModuleInfo) (f : Function) (es :
                   (unmapped _ statement scoped.1) finds_statement));
               types = spelled_formed explicit m info f es (sym is_declared ∙ unmapped _ declared formed_all.1)
                   (subst (λ ts. FindsAnnotated explicit m es bound ts None) trees
-                      (subst (FindsAnnotated explicit m es bound sts)
-                      (unmapped _ annotated spelled.1) finds_annotated));
+                  (subst (FindsAnnotated explicit m es bound sts)
+                  (unmapped _ annotated spelled.1) finds_annotated));
             },
           )
         where

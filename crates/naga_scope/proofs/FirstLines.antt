@@ -113,12 +113,12 @@ module _ (last : Line) where
         unlike h other =
             marked_is new h
             ∙ ap (has_line_to last) (get_or-set_other lines i h (Some (first_line (get_or lines i None) line))
-                None other)
+            None other)
             ∙ sym (marked_is lines h)
             ∙ sym (ap (λ b. is_marked (marks_to last lines) h || (b && nat_lt h (length (marks_to last lines))))
             (marks_of_one line i h ∙ ap (λ b. is_up_to last line && b) (other_index h i other))
             ∙ nothing (is_marked (marks_to last lines) h) (is_up_to last line)
-                (nat_lt h (length (marks_to last lines))))
+            (nat_lt h (length (marks_to last lines))))
 
         by : (h : ℕ) → (h ≡ i) ⊎ ((h < i) ⊎ (i < h)) →
             is_marked (marks_to last new) h ≡ marked_with (marks_to last lines) (handles_to last ((line, i) ∷ [])) h
@@ -127,10 +127,10 @@ module _ (last : Line) where
             let lt : h < length (marks_to last lines) = omega (arith, same, within, size) in
             marked_is new h
             ∙ ap (has_line_to last) (get_or-set_at lines i h (Some (first_line (get_or lines i None) line)) None
-                same within)
+            same within)
             ∙ first_has (get_or lines i None) line
             ∙ ap (λ o. o || is_up_to last line) (ap (λ k. has_line_to last (get_or lines k None)) (sym same)
-                ∙ sym (marked_is lines h))
+            ∙ sym (marked_is lines h))
             ∙ sym (ap₂ (λ b c. is_marked (marks_to last lines) h || (b && c))
             (marks_of_one line i h ∙ ap (λ b. is_up_to last line && b) (same_index h same))
             (lt-ltb h (length (marks_to last lines)) lt)
@@ -149,7 +149,7 @@ module _ (last : Line) where
 
         out : (h : ℕ) → is_one_of (handles_to last ((line, i) ∷ [])) h ≡ false → (c : Bool) →
             is_marked (marks_to last lines) h ≡ (is_marked (marks_to last lines) h
-                || (is_one_of (handles_to last ((line, i) ∷ [])) h && c))
+            || (is_one_of (handles_to last ((line, i) ∷ [])) h && c))
         out h is c = sym (ap (λ b. is_marked (marks_to last lines) h || (b && c)) is
             ∙ or-false (is_marked (marks_to last lines) h))
 
@@ -159,7 +159,7 @@ module _ (last : Line) where
             let lt = ltb-true h (length (marks_to last lines)) is in
             let size = marks_size lines in
             out h (marks_of_one line i h ∙ ap (λ b. is_up_to last line && b)
-                (other_index h i (λ same. omega (arith, lt, size, past, same))) ∙ none (is_up_to last line))
+            (other_index h i (λ same. omega (arith, lt, size, past, same))) ∙ none (is_up_to last line))
             (nat_lt h (length (marks_to last lines)))
           where
             none : (b : Bool) → (b && false) ≡ false
@@ -168,7 +168,7 @@ module _ (last : Line) where
         by h false is =
             nothing (is_marked (marks_to last lines) h) (is_one_of (handles_to last ((line, i) ∷ [])) h)
             ∙ ap (λ c. is_marked (marks_to last lines) h
-                || (is_one_of (handles_to last ((line, i) ∷ [])) h && c)) (sym is)
+            || (is_one_of (handles_to last ((line, i) ∷ [])) h && c)) (sym is)
 
 -- ---- several writes
 pub writes_none : (lines : List (Option Line)) → WritesAlso lines [] lines

@@ -66,12 +66,12 @@ cases_formed (case v b falls cs) =
     ∙ third_second stays (block_has_forms b) none (bodies_have_forms cs)
     ∙ ap (λ x. x && (block_has_forms b && bodies_have_forms cs))
     (sym (both_none (falls_unsupported falls (has_no_statements b)) (unsupported_case cs)
-        ∙ ap (λ x. x && none) (falls_none falls (has_no_statements b))))
+    ∙ ap (λ x. x && none) (falls_none falls (has_no_statements b))))
 
 block_formed : (b : BlockTree) → is_none (unsupported_statement b) ≡ block_has_forms b
 block_formed =
     gathered all_of (λ sts. is_none (first_unsupported sts)) (λ st. is_none (own_unsupported st))
-        statement_has_form block_has_forms bodies_have_forms (record {
+    statement_has_form block_has_forms bodies_have_forms (record {
       none = refl;
       next = λ st sts. both_none (own_unsupported st) (first_unsupported sts);
       simple_is = simple_formed;

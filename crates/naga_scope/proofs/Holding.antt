@@ -132,7 +132,7 @@ pub record IsAct (st : Statement) : Type 0 where
 pub act_of : (st : Statement) → ((range : Range) → st ≡ statement_variant.Emit range → ⊥) →
     ((b : _) → st ≡ statement_variant.Block b → ⊥) →
     ((c : _) (x y : _) → st ≡ statement_variant.If c x y → ⊥) →
-        ((c : _) (cs : _) → st ≡ statement_variant.Switch c cs → ⊥) →
+    ((c : _) (cs : _) → st ≡ statement_variant.Switch c cs → ⊥) →
     ((x y : _) (e : _) → st ≡ statement_variant.Loop x y e → ⊥) → IsAct st
 act_of (statement_variant.Emit range) emits blocks branches switches loops = absurd (emits range refl)
 act_of (statement_variant.Block b) emits blocks branches switches loops = absurd (blocks b refl)

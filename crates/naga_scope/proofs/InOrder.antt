@@ -94,18 +94,18 @@ lists {X} = record { unit = []; op = λ xs ys. xs ++ ys; left = λ xs. refl; rig
 pub labels_in_order : (f : Function) (b : BlockTree) → flat_map (own_labels f) (trees_in b) ≡ block_labels f b
 labels_in_order f = gathered lists (flat_map (own_labels f)) (own_labels f) (labels_in f) (block_labels f)
     (cases_labels f) (record {
-  none = refl;
-  next = λ st sts. refl;
-  simple_is = simple_labels;
-  block_is = λ b. refl;
-  branch_is = λ c x y. refl;
-  switch_is = λ s cs. refl;
-  loop_is = λ x y e. refl;
-  no_statements_is = refl;
-  statement_is = λ st b. refl;
-  no_cases_is = refl;
-  case_is = λ v b falls cs. refl;
-})
+      none = refl;
+      next = λ st sts. refl;
+      simple_is = simple_labels;
+      block_is = λ b. refl;
+      branch_is = λ c x y. refl;
+      switch_is = λ s cs. refl;
+      loop_is = λ x y e. refl;
+      no_statements_is = refl;
+      statement_is = λ st b. refl;
+      no_cases_is = refl;
+      case_is = λ v b falls cs. refl;
+    })
   where
     simple_labels : (st : SimpleStatement) → labels_in f (simple st) ≡ own_labels f (simple st)
     simple_labels (emit first end) = refl
@@ -114,18 +114,18 @@ labels_in_order f = gathered lists (flat_map (own_labels f)) (own_labels f) (lab
 pub lets_in_order : (binds : ℕ → Bool) (b : BlockTree) → flat_map (own_lets binds) (trees_in b) ≡ block_lets binds b
 lets_in_order binds = gathered lists (flat_map (own_lets binds)) (own_lets binds) (statement_lets binds)
     (block_lets binds) (cases_lets binds) (record {
-  none = refl;
-  next = λ st sts. refl;
-  simple_is = λ st. refl;
-  block_is = λ b. refl;
-  branch_is = λ c x y. refl;
-  switch_is = λ s cs. refl;
-  loop_is = λ x y e. refl;
-  no_statements_is = refl;
-  statement_is = λ st b. refl;
-  no_cases_is = refl;
-  case_is = λ v b falls cs. refl;
-})
+      none = refl;
+      next = λ st sts. refl;
+      simple_is = λ st. refl;
+      block_is = λ b. refl;
+      branch_is = λ c x y. refl;
+      switch_is = λ s cs. refl;
+      loop_is = λ x y e. refl;
+      no_statements_is = refl;
+      statement_is = λ st b. refl;
+      no_cases_is = refl;
+      case_is = λ v b falls cs. refl;
+    })
 
 -- ---- numbers
 none_more : (x : ℕ) → 0 + x ≡ x
@@ -137,18 +137,18 @@ sums = record { unit = 0; op = λ x y. x + y; left = none_more; right = λ x. om
 pub changes_in_order : (b : BlockTree) → sum_by own_changes (trees_in b) ≡ block_changes b
 changes_in_order = gathered sums (sum_by own_changes) own_changes statement_changes block_changes cases_changes
     (record {
-  none = refl;
-  next = sum_by-cons own_changes;
-  simple_is = λ st. refl;
-  block_is = λ b. sym (none_more (block_changes b));
-  branch_is = λ c x y. sym (none_more (block_changes x + block_changes y));
-  switch_is = λ s cs. sym (none_more (cases_changes cs));
-  loop_is = λ x y e. sym (none_more (block_changes x + block_changes y));
-  no_statements_is = refl;
-  statement_is = λ st b. refl;
-  no_cases_is = refl;
-  case_is = λ v b falls cs. refl;
-})
+      none = refl;
+      next = sum_by-cons own_changes;
+      simple_is = λ st. refl;
+      block_is = λ b. sym (none_more (block_changes b));
+      branch_is = λ c x y. sym (none_more (block_changes x + block_changes y));
+      switch_is = λ s cs. sym (none_more (cases_changes cs));
+      loop_is = λ x y e. sym (none_more (block_changes x + block_changes y));
+      no_statements_is = refl;
+      statement_is = λ st b. refl;
+      no_cases_is = refl;
+      case_is = λ v b falls cs. refl;
+    })
 
 -- ---- truth values
 abbrev some_of : Monoid Bool
@@ -176,9 +176,9 @@ module _ (binds : ℕ → Bool) (h : ℕ) where
         loop_is = λ x y e. either (block_roots binds x) (block_roots binds y ++ option_to_list e)
             ∙ ap (λ a. is_one_of (block_roots binds x) h || a) (either (block_roots binds y) (option_to_list e))
             ∙ sym (or_assoc (is_one_of (block_roots binds x) h) (is_one_of (block_roots binds y) h)
-                (is_one_of (option_to_list e) h))
+            (is_one_of (option_to_list e) h))
             ∙ or_comm (is_one_of (block_roots binds x) h || is_one_of (block_roots binds y) h)
-                (is_one_of (option_to_list e) h);
+            (is_one_of (option_to_list e) h);
         no_statements_is = refl;
         statement_is = λ st b. either (statement_roots binds st) (block_roots binds b);
         no_cases_is = refl;

@@ -14,7 +14,7 @@ use Rattle.shader_runs.specs.Scope as runs
 -- what grows stays in scope
 grown_present : (named : ℕ → List ℕ) (numbered : List ℕ) (was now : Availability) → IsTrue (grows was now) →
     runs.is_present (availability_of named numbered was) ≡ true →
-        runs.is_present (availability_of named numbered now) ≡ true
+    runs.is_present (availability_of named numbered now) ≡ true
 grown_present named numbered Absent now grown is = absurd cc
 grown_present named numbered Barred now grown is = absurd cc
 grown_present named numbered Everywhere Absent grown is = absurd cc

@@ -441,7 +441,7 @@ module _ (f : Function) (at : Point) (s : Handles) (t : Tracks f at s) (st : Sta
   module _ (x : ℕ) (g : GivesAt f at st at (Emitted x)) where
     operands_break : IsTrue (binds f x) → (hs : List ℕ) →
         ((i h : ℕ) → slice_get hs i ≡ Some h → IsOperandOf f x h) → check_operands f s n x hs ≡ Err e →
-            EmitsWith f at st n e
+        EmitsWith f at st n e
     operands_break bound [] u is = absurd cc
     operands_break bound (h ∷ hs) u is =
         ⊎_elim
@@ -523,7 +523,7 @@ module _ (f : Naming) (e : ScopeFault) where
         let n1 = next_number n in
         ⊎_elim
         (λ is. itself f.function e m n at (Switch h cs) num
-            (use_breaks f.function at s t (Switch h cs) n e h selector is))
+        (use_breaks f.function at s t (Switch h cs) n e h selector is))
         (λ q. inner f.function e m at (Switch h cs) (cases_break k n1 (suc m) cs at s t (next_is n m num) q.1))
         (and_err (check_use f.function s n h) (check_cases f k n1 cs s) e is)
     statement_breaks k n m (Loop b d o) at s t num is =
@@ -564,7 +564,7 @@ module _ (f : Naming) (e : ScopeFault) where
             let x = unless_err (usable f.function s2 h) (Operand n h) e is in
             let used = subst (λ o. UsesAt f.function at (Loop b d o) last h) (sym same) break_if in
             let out : IsOutOfScopeAt f.function last h = λ d. false_is_not_true (usable f.function s2 h) x.0
-                ((t2.used h).1 d) in
+            ((t2.used h).1 d) in
             subst (BreaksWith f.function (record { at = at; statement = Loop b d o }) n) x.1 (refl, (last, used, out))
     statement_breaks k n m (Jumps (Return v)) at s t num is =
         itself f.function e m n at (Jumps (Return v)) num
@@ -617,7 +617,7 @@ module _ (f : Naming) (e : ScopeFault) where
 -- ---- the whole function
 first_values_break : (f : Function) → ((h : ℕ) → AllBelow h (operands_of (expression_of f h))) → (e : ScopeFault) →
     (i : ℕ) (os : List (Option ℕ)) → ((k h : ℕ) → slice_get os k ≡ Some (Some h) →
-        slice_get f.first_values (i + k) ≡ Some (Some h)) →
+    slice_get f.first_values (i + k) ≡ Some (Some h)) →
     check_first_values f i os ≡ Err e → IsScopeFault f e
 first_values_break f ordered e i [] stands is = absurd cc
 first_values_break f ordered e i (o ∷ os) stands is =
@@ -633,7 +633,7 @@ first_values_break f ordered e i (o ∷ os) stands is =
         let x = unless_err (usable own (at_start f) h) (FirstValue i h) e is in
         let t = tracks_start own ordered in
         let out : IsOutOfScopeAt own entry_point h = λ d. false_is_not_true (usable own (at_start f) h) x.0
-            ((t.used h).1 d) in
+        ((t.used h).1 d) in
         let at = subst (λ j. slice_get f.first_values j ≡ Some (Some h)) (omega arith) (stands 0 h (ap Some same)) in
         subst (IsScopeFault f) x.1 (at, out)
 
@@ -673,7 +673,7 @@ mutual
   stands_in f at end i s is = absurd cc
   stands_in f at (then st ss) zero s is =
       subst (λ s. StandsIn f at (then st ss) s.at s.statement)
-          (same_Some (record { at = at; statement = st }) s is) stands_first
+      (same_Some (record { at = at; statement = st }) s is) stands_first
   stands_in f at (then st ss) (suc i) s is =
       ⊎_elim (inside_in f at st ss i s) (λ p. later (stands_in f (following f st at) ss p.0 s p.1))
       (within (inside f at st) (standing f (following f st at) ss) i s is)
@@ -717,7 +717,7 @@ breaks_scope f s n (NeedsNoEmit k h) x = let c = x.1 in not_emittable c.0 h c.1 
 
 in_the_body : (f : Function) (e : ScopeFault) →
     ((n : ℕ) × (s : Standing) × (slice_get (standing f entry_point f.body) n ≡ Some s)
-        × BreaksWith f s (n % 2 ^ 64) e) →
+    × BreaksWith f s (n % 2 ^ 64) e) →
     HasScopeFault f
 in_the_body f e x =
     in_body x.1.at x.1.statement (stands_in f entry_point f.body x.0 x.1 x.2) (breaks_scope f x.1 (x.0 % 2 ^ 64) e x.3)

@@ -69,15 +69,15 @@ module _ {X : Type 0} (p : X → Bool) where
   -- it is the first that passes
   pub found_first : (xs : List X) (x : X) → find p xs ≡ Some x →
       (i : ℕ) × (slice_get xs i ≡ Some x) × (p x ≡ true)
-          × ((j : ℕ) (y : X) → j < i → slice_get xs j ≡ Some y → p y ≡ false)
+      × ((j : ℕ) (y : X) → j < i → slice_get xs j ≡ Some y → p y ≡ false)
   found_first [] x is = absurd cc
   found_first (y ∷ ys) x is = by (p y) refl is (found_first ys x)
     where
       by : (b : Bool) → p y ≡ b → cond b (Some y) (find p ys) ≡ Some x →
           (find p ys ≡ Some x → (i : ℕ) × (slice_get ys i ≡ Some x) × (p x ≡ true)
-              × ((j : ℕ) (z : X) → j < i → slice_get ys j ≡ Some z → p z ≡ false)) →
+          × ((j : ℕ) (z : X) → j < i → slice_get ys j ≡ Some z → p z ≡ false)) →
           (i : ℕ) × (slice_get (y ∷ ys) i ≡ Some x) × (p x ≡ true)
-              × ((j : ℕ) (z : X) → j < i → slice_get (y ∷ ys) j ≡ Some z → p z ≡ false)
+          × ((j : ℕ) (z : X) → j < i → slice_get (y ∷ ys) j ≡ Some z → p z ≡ false)
       by true passes is rest =
           let same : y ≡ x = cc in (0, ap Some same, ap p (sym same) ∙ passes, λ j z lt at. absurd (omega (arith, lt)))
       by false fails is rest = let further = rest is in
@@ -141,23 +141,23 @@ module _ (m : Module) (xs : List FunctionArgument) (i n : ℕ) (x : FunctionArgu
     (is : x ≡ slice_index_or xs i x) where
   from_argument : first_unsupported m (arguments_from n (drop i xs)) ≡
       cond (is_unsupported m x.ty) (Some (Argument n, x.ty))
-          (first_unsupported m (arguments_from (n + 1) (drop (i + 1) xs)))
+      (first_unsupported m (arguments_from (n + 1) (drop (i + 1) xs)))
   from_argument = ap (λ ys. first_unsupported m (arguments_from n ys)) (drop_first i xs x lt is)
 
   pub found_argument : is_unsupported m x.ty ≡ true → Some (Argument n, x.ty)
       ≡ first_unsupported m (arguments_from n (drop i xs))
   found_argument passes =
       sym (from_argument
-          ∙ ap (λ b. cond b (Some (Argument n, x.ty))
-          (first_unsupported m (arguments_from (n + 1) (drop (i + 1) xs)))) passes)
+      ∙ ap (λ b. cond b (Some (Argument n, x.ty))
+      (first_unsupported m (arguments_from (n + 1) (drop (i + 1) xs)))) passes)
 
   pub not_argument : is_unsupported m x.ty ≡ false →
       first_unsupported m (arguments_from (n + 1) (drop (i + 1) xs))
-          ≡ first_unsupported m (arguments_from n (drop i xs))
+      ≡ first_unsupported m (arguments_from n (drop i xs))
   not_argument fails =
       sym (from_argument
-          ∙ ap (λ b. cond b (Some (Argument n, x.ty))
-          (first_unsupported m (arguments_from (n + 1) (drop (i + 1) xs)))) fails)
+      ∙ ap (λ b. cond b (Some (Argument n, x.ty))
+      (first_unsupported m (arguments_from (n + 1) (drop (i + 1) xs)))) fails)
 
 -- the same by what is among a list
 pub there_among : {X : Type 0} (xs : List X) (x : X) → IsAmong xs x → (i : ℕ) × (slice_get xs i ≡ Some x)
@@ -189,7 +189,7 @@ module _ {X : Type 0} (p : X → Bool) where
       let kept = (and_parts (keep x) (p x) both).0 in
       let passes = (and_parts (keep x) (p x) both).1 in
       ap (λ b. find p (if b then x ∷ filter keep xs else filter keep xs)) kept
-          ∙ ap (λ b. cond b (Some x) (find p (filter keep xs))) passes
+      ∙ ap (λ b. cond b (Some x) (find p (filter keep xs))) passes
 
   pub kept_not_found : (keep : X → Bool) (x : X) (xs : List X) → (keep x && p x) ≡ false →
       find p (filter keep (x ∷ xs)) ≡ find p (filter keep xs)
@@ -208,7 +208,7 @@ pub parted : (m : Module) (f : Function) →
     (option_or (first_unsupported m (result_types f.result)) (first_unsupported m (local_types f.local_variables)))
 parted m f =
     find-append (λ d. is_unsupported m d.1) (argument_types f.arguments.items)
-        (result_types f.result ++ local_types f.local_variables)
+    (result_types f.result ++ local_types f.local_variables)
     ∙ ap (option_or (first_unsupported m (argument_types f.arguments.items)))
     (find-append (λ d. is_unsupported m d.1) (result_types f.result) (local_types f.local_variables))
 
@@ -234,14 +234,14 @@ module _ (m : Module) (f : Function) where
       let a = mapped_some (λ a. a.ty) (slice_get f.arguments.items i) ty is in
       let at = numbered_at (λ p. (Argument p.0, p.1.ty)) 0 f.arguments.items i a.0 a.1 in
       subst IsSpellable a.2
-          (not-false _ (none_passes lacks (argument_types f.arguments.items) none i (Argument (0 + i), a.0.ty) at))
+      (not-false _ (none_passes lacks (argument_types f.arguments.items) none i (Argument (0 + i), a.0.ty) at))
 
   result_spelled : first_unsupported m (result_types f.result) ≡ None → (ty : ℕ) →
       declared_type f declared.Result ≡ Some ty → IsSpellable ty
   result_spelled none ty is =
       let r = mapped_some (λ r. r.ty) f.result ty is in
       subst IsSpellable r.2
-          (not-false _ (none_passes lacks (result_types f.result) none 0 (declared.Result, r.0.ty) (there r.0 r.1)))
+      (not-false _ (none_passes lacks (result_types f.result) none 0 (declared.Result, r.0.ty) (there r.0 r.1)))
     where
       there : (r : FunctionResult) → f.result ≡ Some r → slice_get (result_types f.result) 0
           ≡ Some (declared.Result, r.ty)
@@ -265,7 +265,7 @@ module _ (m : Module) (f : Function) where
     where
       by : (first_unsupported m (argument_types f.arguments.items) ≡ None)
           × (option_or (first_unsupported m (result_types f.result))
-              (first_unsupported m (local_types f.local_variables)) ≡ None) →
+          (first_unsupported m (local_types f.local_variables)) ≡ None) →
           (at : Declared) → declared_type f at ≡ Some ty → IsSpellable ty
       by both (Argument i) is = arguments_spelled both.0 i ty is
       by both declared.Result is = result_spelled (neither _ _ both.1).0 ty is
@@ -348,7 +348,7 @@ module _ (m : Module) (f : Function) where
           earlier : (i : ℕ) → ((j : ℕ) (y : Declared × ℕ) → j < i → slice_get (local_types f.local_variables) j
               ≡ Some y → lacks y ≡ false) →
               (at : Declared) (ty : ℕ) → declared_type f at ≡ Some ty →
-                  is_before (line_of_declared at) (line.Local i) ≡ true → IsSpellable ty
+              is_before (line_of_declared at) (line.Local i) ≡ true → IsSpellable ty
           earlier i each (Argument k) ty there lt = arguments_spelled arguments k ty there
           earlier i each declared.Result ty there lt = result_spelled result ty there
           earlier i each (Local k) ty there lt =
@@ -369,7 +369,7 @@ module _ (explicit : Bool) (m : Module) (info : ModuleInfo) (f : Function) (es :
   let_of_one [] h is = absurd cc
   let_of_one (st ∷ sts) h is =
       by (or_cases _ _ (sym (list_any-append (nat_eq h) (own_lets bound st) (flat_map (own_lets bound) sts))
-          ∙ is)) (let_of_one sts h)
+      ∙ is)) (let_of_one sts h)
     where
       by : (is_one_of (own_lets bound st) h ≡ true) ⊎ (is_one_of (flat_map (own_lets bound) sts) h ≡ true) →
           (is_one_of (flat_map (own_lets bound) sts) h ≡ true →
@@ -417,7 +417,7 @@ module _ (explicit : Bool) (m : Module) (info : ModuleInfo) (f : Function) (es :
       spelled _ (OfLocal l v at) = declared_spelled m f none_declared (Local l) v.ty (ap (option_map (λ l. l.ty)) at)
       spelled _ (OfLet h k tells among at declared) =
           let one = ap (λ hs. is_one_of hs h) (lets_in_order bound f.body)
-              ∙ among_one (block_lets bound f.body) h among in
+          ∙ among_one (block_lets bound f.body) h among in
           let of = let_of_one (trees_in f.body) h one in
           let_formed explicit tells of.1 (none_annotated of.0 of.1 of.2) h k of.3 at declared
 
@@ -445,8 +445,8 @@ module _ (explicit : Bool) (m : Module) (info : ModuleInfo) (f : Function) (es :
           let among = among_there (own_lets bound st) found.0 h found.1 in
           let one = let_in_body (trees_in f.body) n st h there (among_one (own_lets bound st) h among) in
           let in_body =
-              one_among (block_lets bound f.body) h
-              (sym (ap (λ hs. is_one_of hs h) (lets_in_order bound f.body)) ∙ one) in (
+          one_among (block_lets bound f.body) h
+          (sym (ap (λ hs. is_one_of hs h) (lets_in_order bound f.body)) ∙ one) in (
             subst (λ hs. IsAmong hs h) (sym (ap (λ o. option_map_or (own_lets bound) o []) there)) among,
             known (slice_get es h) refl tells in_body found.2,
           )

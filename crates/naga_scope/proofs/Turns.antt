@@ -72,7 +72,7 @@ count_drops ss n is = ap (λ k. block_of (drop k ss)) is ∙ drops ss
 size_by : (c : Bool) (st : StatementTree) (b front back : BlockTree) → block_size front + block_size back
     ≡ block_size b →
     block_size (cond c no_statements (statement st front)) + block_size (cond c (statement st b) back)
-        ≡ statement_size st + block_size b
+    ≡ statement_size st + block_size b
 size_by true st b front back rest = omega arith
 size_by false st b front back rest = omega (arith, rest)
 
@@ -83,7 +83,7 @@ size_split (statement st b) = size_by (holds_continue st) st b (before_continue 
 changes_by : (c : Bool) (st : StatementTree) (b front back : BlockTree) →
     block_changes front + block_changes back ≡ block_changes b →
     block_changes (cond c no_statements (statement st front)) + block_changes (cond c (statement st b) back)
-        ≡ statement_changes st + block_changes b
+    ≡ statement_changes st + block_changes b
 changes_by true st b front back rest = omega arith
 changes_by false st b front back rest = omega (arith, rest)
 
@@ -219,10 +219,10 @@ module _ (n : Naming) (a : ExpressionContext) where
   named_part : (c : Bool) (st : StatementTree) (b front back : BlockTree) (k : ℕ) →
       (let k1 = named_by n.function (line st) k in
       named_by_all n.function (lines b) k1 ≡ named_by_all n.function (lines back)
-          (named_by_all n.function (lines front) k1) →
+      (named_by_all n.function (lines front) k1) →
       named_by_all n.function (lines (statement st b)) k
-          ≡ named_by_all n.function (lines (cond c (statement st b) back))
-          (named_by_all n.function (lines (cond c no_statements
+      ≡ named_by_all n.function (lines (cond c (statement st b) back))
+      (named_by_all n.function (lines (cond c no_statements
       (statement st front))) k))
   named_part true st b front back k rest = refl
   named_part false st b front back k rest = rest
@@ -243,10 +243,10 @@ module _ (n : Naming) (a : ExpressionContext) where
       (let k1 = named_by n.function (line st) k in let s1 = after n k (line st) s in
       ((j : ℕ) → check_all n k1 j (lines b) s1 ≡
       onward (λ j. check_all n (named_by_all n.function (lines front) k1) j (lines back)
-          (after_each n k1 (lines front) s1)) (check_all n k1 j (lines front) s1)) →
+      (after_each n k1 (lines front) s1)) (check_all n k1 j (lines front) s1)) →
       check_all n k j (lines (statement st b)) s ≡
       onward (λ j. check_all n (named_by_all n.function (lines (cond c no_statements (statement st front))) k) j
-          (lines (cond c (statement st b) back)) (after_each n k (lines (cond c no_statements
+      (lines (cond c (statement st b) back)) (after_each n k (lines (cond c no_statements
       (statement st front))) s)) (check_all n k j (lines (cond c no_statements (statement st front))) s))
   check_part true st b front back k j s rest = refl
   check_part false st b front back k j s rest =
@@ -258,7 +258,7 @@ module _ (n : Naming) (a : ExpressionContext) where
 
   check_split : (b : BlockTree) (k j : ℕ) (s : Handles) → check_all n k j (lines b) s ≡
       onward (λ j. check_all n (named_by_all n.function (lines (before_continue b)) k) j
-          (lines (from_continue b)) (after_each n k (lines (before_continue b)) s))
+      (lines (from_continue b)) (after_each n k (lines (before_continue b)) s))
       (check_all n k j (lines (before_continue b)) s)
   check_split no_statements k j s = refl
   check_split (statement st b) k j s =
@@ -269,17 +269,17 @@ module _ (n : Naming) (a : ExpressionContext) where
   walk_part : (c : Bool) (st : StatementTree) (b front back : BlockTree) (k : ℕ) (s : Handles) →
       (let k1 = named_by n.function (line st) k in let s1 = after n k (line st) s in
       after_each n k1 (lines b) s1 ≡ after_each n (named_by_all n.function (lines front) k1) (lines back)
-          (after_each n k1 (lines front) s1) →
+      (after_each n k1 (lines front) s1) →
       after_each n k (lines (statement st b)) s
-          ≡ after_each n (named_by_all n.function (lines (cond c no_statements (statement st front))) k)
-          (lines (cond c (statement st b) back))
+      ≡ after_each n (named_by_all n.function (lines (cond c no_statements (statement st front))) k)
+      (lines (cond c (statement st b) back))
       (after_each n k (lines (cond c no_statements (statement st front))) s))
   walk_part true st b front back k s rest = refl
   walk_part false st b front back k s rest = rest
 
   walk_split : (b : BlockTree) (k : ℕ) (s : Handles) → after_each n k (lines b) s ≡
       after_each n (named_by_all n.function (lines (before_continue b)) k) (lines (from_continue b))
-          (after_each n k (lines (before_continue b)) s)
+      (after_each n k (lines (before_continue b)) s)
   walk_split no_statements k s = refl
   walk_split (statement st b) k s = walk_part (holds_continue st) st b (before_continue b) (from_continue b) k s
       (walk_split b (named_by n.function (line st) k) (after n k (line st) s))
@@ -287,13 +287,13 @@ module _ (n : Naming) (a : ExpressionContext) where
   -- what the definition forgets at each statement that holds a `continue` is forgotten at the first
   turn_part : (c : Bool) (st : StatementTree) (b : BlockTree) (k : ℕ) (s : Handles) →
       (let front = before_continue b in let back = from_continue b in let k1 = named_by n.function
-          (line st) k in let s1 = after n k (line st) s in
+      (line st) k in let s1 = after n k (line st) s in
       after_all n k1 (lines b) s1 ≡ forgotten_handles (after_each n k1 (lines front) s1)
-          (after_each n (named_by_all n.function (lines front) k1) (lines back) (after_each n k1 (lines front) s1)) →
+      (after_each n (named_by_all n.function (lines front) k1) (lines back) (after_each n k1 (lines front) s1)) →
       forgotten_if c s (after_all n k1 (lines b) s1)
       ≡ forgotten_handles (after_each n k (lines (cond c no_statements (statement st front))) s)
       (after_each n (named_by_all n.function (lines (cond c no_statements (statement st front))) k)
-          (lines (cond c (statement st b) back)) (after_each n k (lines (cond c no_statements
+      (lines (cond c (statement st b) back)) (after_each n k (lines (cond c no_statements
       (statement st front))) s)))
   turn_part true st b k s rest =
       let k1 : ℕ = named_by n.function (line st) k in
@@ -303,20 +303,20 @@ module _ (n : Naming) (a : ExpressionContext) where
       let t : Handles = after_each n k2 (lines (from_continue b)) u in
       ap (forgotten_handles s) rest
       ∙ (λ i j. forgotten_twice (s j) (u j) (t j)
-          (stays_then (after_stays k (line st) s j) (each_stays k1 (lines (before_continue b)) s1 j))
-          (each_stays k2 (lines (from_continue b)) u j) i)
+      (stays_then (after_stays k (line st) s j) (each_stays k1 (lines (before_continue b)) s1 j))
+      (each_stays k2 (lines (from_continue b)) u j) i)
       ∙ ap (forgotten_handles s) (sym (walk_split b k1 s1))
   turn_part false st b k s rest = rest
 
   pub turn : (b : BlockTree) (k : ℕ) (s : Handles) → after_all n k (lines b) s ≡
       forgotten_handles (after_each n k (lines (before_continue b)) s)
-          (after_each n (named_by_all n.function (lines (before_continue b)) k) (lines (from_continue b))
-          (after_each n k (lines
+      (after_each n (named_by_all n.function (lines (before_continue b)) k) (lines (from_continue b))
+      (after_each n k (lines
       (before_continue b)) s))
   turn no_statements k s = λ i j. sym (forgotten_same (s j)) i
   turn (statement st b) k s =
       ap (λ c. forgotten_if c s (after_all n (named_by n.function (line st) k) (lines b)
-          (after n k (line st) s))) (shape_continues st)
+      (after n k (line st) s))) (shape_continues st)
       ∙ turn_part (holds_continue st) st b k s (turn b (named_by n.function (line st) k) (after n k (line st) s))
 
   -- ---- in code
@@ -325,8 +325,8 @@ module _ (n : Naming) (a : ExpressionContext) where
       k2 ≡ named_by_all n.function (lines back) k1 → k2 ≡ named_by_all n.function (lines b) k
   body_named b front back k k1 k2 f g first second =
       second ∙ (λ i. named_by_all n.function (lines (g i)) (first i))
-          ∙ (λ i. named_by_all n.function (lines (from_continue b)) (named_by_all n.function (lines (f i)) k))
-          ∙ sym (named_split b k)
+      ∙ (λ i. named_by_all n.function (lines (from_continue b)) (named_by_all n.function (lines (f i)) k))
+      ∙ sym (named_split b k)
 
   pub body_checks : (b front back : BlockTree) (k k1 j middle : ℕ) (s s1 : Handles) (next : Result ℕ ScopeFault) →
       front ≡ before_continue b → back ≡ from_continue b → Ok middle ≡ check_all n k j (lines front) s →
@@ -337,9 +337,9 @@ module _ (n : Naming) (a : ExpressionContext) where
       let s2 = after_each n k (lines (before_continue b)) s in
       is ∙ (λ i. check_all n (given i) middle (lines (g i)) (following i))
       ∙ (λ i. check_all n (named_by_all n.function (lines (f i)) k) middle (lines (from_continue b))
-          (after_each n k (lines (f i)) s))
+      (after_each n k (lines (f i)) s))
       ∙ ap (onward (λ j. check_all n k2 j (lines (from_continue b)) s2))
-          (first ∙ ap (λ x. check_all n k j (lines x) s) f)
+      (first ∙ ap (λ x. check_all n k j (lines x) s) f)
       ∙ sym (check_split b k j s)
 
   pub body_stops : (b front : BlockTree) (k j : ℕ) (s : Handles) (fault : ScopeFault) → front ≡ before_continue b →
@@ -353,11 +353,11 @@ module _ (n : Naming) (a : ExpressionContext) where
   pub body_leaves : (b front back : BlockTree) (k k1 : ℕ) (s s1 s2 s3 : Handles) → front ≡ before_continue b →
       back ≡ from_continue b →
       k1 ≡ named_by_all n.function (lines front) k → s1 ≡ after_each n k (lines front) s →
-          s2 ≡ after_each n k1 (lines back) s1 → s3 ≡ forgotten_handles s1 s2 → s3 ≡ after_all n k (lines b) s
+      s2 ≡ after_each n k1 (lines back) s1 → s3 ≡ forgotten_handles s1 s2 → s3 ≡ after_all n k (lines b) s
   body_leaves b front back k k1 s s1 s2 s3 f g given first second forgets =
       let u : s1 ≡ after_each n k (lines (before_continue b)) s = first ∙ ap (λ y. after_each n k (lines y) s) f in
       let t : s2 ≡ after_each n (named_by_all n.function (lines (before_continue b)) k)
-          (lines (from_continue b)) (after_each n k (lines (before_continue b)) s) =
+      (lines (from_continue b)) (after_each n k (lines (before_continue b)) s) =
       second ∙ (λ i. after_each n ((given ∙ ap (λ y. named_by_all n.function (lines y) k) f) i) (lines (g i)) (u i)) in
       forgets ∙ (λ i. forgotten_handles (u i) (t i)) ∙ sym (turn b k s)
 

@@ -168,7 +168,7 @@ module _ (m : Module) where
 
     stride_in : (ty : ℕ) (ks : List Placed) → concerned_among m (members_of t.inner) ≡ Some ks →
         (i : ℕ) (s : StructMember) → slice_get (members_of t.inner) i ≡ Some s → IsOtherStride m s ty →
-            HasOtherStride m h ty
+        HasOtherStride m h ty
     stride_in ty ks concerned i s there other = record {
       members = ks;
       concerned = concerned_is ∙ concerned;
@@ -260,41 +260,41 @@ module _ (m : Module) where
   module _ (types : TypesHaveForms m) where
     pub of_constants : (found : DeclarationPosition × UnsupportedDeclaration) →
         FindsFirst m.constants (λ i. ConstantHasForm m) (λ h. position.Constant h)
-            (λ i. IsUnsupportedConstant m) (Some found) → IsFound found
+        (λ i. IsUnsupportedConstant m) (Some found) → IsFound found
     of_constants (at, it) (h, c, there, same, earlier, lacks) =
         at_place at (position.Constant h) it same (constants_lack h c there it lacks) (c, there, lacks) (types, earlier)
 
     module _ (constants : ConstantsHaveForms m) where
       pub of_overrides : (found : DeclarationPosition × UnsupportedDeclaration) →
           FindsFirst m.overrides (λ i o. ValueHasForm m o.ty o.init) (λ h. position.Override h)
-              (λ i o. IsUnsupportedValue m o.ty o.init) (Some found) → IsFound found
+          (λ i o. IsUnsupportedValue m o.ty o.init) (Some found) → IsFound found
       of_overrides (at, it) (h, o, there, same, earlier, lacks) =
           at_place at (position.Override h) it same (overrides_lack h o there it lacks) (o, there, lacks)
-              (types, constants, earlier)
+          (types, constants, earlier)
 
       module _ (overrides : OverridesHaveForms m) where
         pub of_variables : (found : DeclarationPosition × UnsupportedDeclaration) →
             FindsFirst m.global_variables (λ i g. ValueHasForm m g.ty g.init) (λ h. position.GlobalVariable h)
-                (λ i g. IsUnsupportedValue m g.ty g.init) (Some found) → IsFound found
+            (λ i g. IsUnsupportedValue m g.ty g.init) (Some found) → IsFound found
         of_variables (at, it) (h, g, there, same, earlier, lacks) =
             at_place at (position.GlobalVariable h) it same (variables_lack h g there it lacks)
-                (g, there, lacks) (types, constants, overrides, earlier)
+            (g, there, lacks) (types, constants, overrides, earlier)
 
         module _ (variables : VariablesHaveForms m) where
           pub of_functions : (found : DeclarationPosition × UnsupportedDeclaration) →
               FindsFirst m.functions (λ i. PassedHasForm) (λ h. position.Function h)
-                  (λ i. IsUnsupportedFunction) (Some found) → IsFound found
+              (λ i. IsUnsupportedFunction) (Some found) → IsFound found
           of_functions (at, it) (h, f, there, same, earlier, lacks) =
               at_place at (position.Function h) it same (functions_lack h f there it lacks) (f, there, lacks)
               (types, constants, overrides, variables, earlier)
 
           pub of_entry_points : FunctionsHaveForms m → (found : ℕ × UnsupportedHead) →
               FindsFirst m.entry_points.items (λ i. EntryPointHasForm) (λ i. i) (λ i. IsUnsupportedEntryPoint)
-                  (Some found) →
+              (Some found) →
               IsFound (position.EntryPoint found.0, declaration.Head found.1)
           of_entry_points functions (at, it) (j, p, there, same, earlier, lacks) =
               at_place (position.EntryPoint at) (position.EntryPoint j) (declaration.Head it)
-                  (ap (λ j. position.EntryPoint j) same)
+              (ap (λ j. position.EntryPoint j) same)
               (length m.functions + j, entry_point_lacks j p there it lacks) (p, there, lacks)
               (types, constants, overrides, variables, functions, earlier)
 
@@ -320,20 +320,20 @@ module _ (m : Module) where
     -- a struct that is concerned is there, and a text declares it
     concerned_formed : (h : ℕ) (ks : List Placed) → concerned_members m h ≡ Some ks →
         (t : Type_) × (slice_get m.types h ≡ Some t) × (concerned_among m (members_of t.inner) ≡ Some ks)
-            × StructHasForm m (members_of t.inner)
+        × StructHasForm m (members_of t.inner)
     concerned_formed h ks concerned = by (slice_get m.types h) refl concerned
       where
         by : (o : Option Type_) → slice_get m.types h ≡ o → option_and_then (λ t. concerned_of m h t.inner) o
             ≡ Some ks →
             (t : Type_) × (slice_get m.types h ≡ Some t) × (concerned_among m (members_of t.inner) ≡ Some ks)
-                × StructHasForm m (members_of t.inner)
+            × StructHasForm m (members_of t.inner)
         by None at concerned = absurd cc
         by (Some t) at concerned = by_test (is_declared m.special_types h t.inner) refl concerned
           where
             by_test : (b : Bool) → is_declared m.special_types h t.inner ≡ b →
                 (if b then concerned_among m (members_of t.inner) else None) ≡ Some ks →
                 (t : Type_) × (slice_get m.types h ≡ Some t)
-                    × (concerned_among m (members_of t.inner) ≡ Some ks) × StructHasForm m (members_of t.inner)
+                × (concerned_among m (members_of t.inner) ≡ Some ks) × StructHasForm m (members_of t.inner)
             by_test false declared concerned = absurd cc
             by_test true declared concerned = (t, at, concerned, in_types h t at declared)
 
@@ -382,10 +382,10 @@ module _ (m : Module) where
 module _ (f : Function) (arguments : List FunctionArgument) (are : arguments ≡ f.arguments.items) where
   pub argument_lacks : (v : BuiltIn) →
       Finds arguments (λ i a. BindingHasForm a.binding) (λ i a. IsUnsupportedBinding a.binding) (Some v) →
-          IsUnsupportedPassed f v
+      IsUnsupportedPassed f v
   argument_lacks v finds =
       inl (subst (λ xs. Finds xs (λ i a. BindingHasForm a.binding) (λ i a. IsUnsupportedBinding a.binding)
-          (Some v)) are finds)
+      (Some v)) are finds)
 
   -- by whether the result lacks a form, where no argument does
   pub by_result : Finds arguments (λ i a. BindingHasForm a.binding) (λ i a. IsUnsupportedBinding a.binding) None →
@@ -446,7 +446,7 @@ module _ (m : Module) (members : List StructMember) where
     where
       by : (o : Option (List Placed)) → placed_members (layout_in m) members ≡ o →
           option_and_then (first_fault None None) o ≡ Some fault →
-              IsUnsupportedStruct m members (declaration.Misplaced fault)
+          IsUnsupportedStruct m members (declaration.Misplaced fault)
       by None are found = absurd cc
       by (Some ks) are found =
           let stands = fault_stands ks fault found in
@@ -480,7 +480,7 @@ module _ (m : Module) (members : List StructMember) where
         strides = λ ks concerned i s there.
             let found = among ks concerned in
             absurd (false≢true (unlaid ∙ concerned_laid (layout_in m) (all_aligned (module_rule m) m.types)
-                members span ks found.0 found.1 (first_none ks found.0)));
+            members span ks found.0 found.1 (first_none ks found.0)));
       }
 
     pub by_other : (span ty : ℕ) → FindsStride m members (Some ty) →
@@ -498,6 +498,7 @@ pub by_members : (m : Module) (ty : ℕ) (t : Type_) (members : Vec StructMember
     MatchOption found (TypeHasForm m ty t) (IsUnsupportedType m ty t)
 by_members m ty t members span None is declared formed =
     λ named. subst (λ it. StructHasForm m (members_of it)) (sym is) formed
-by_members m ty t members span (Some it) is declared lacks =
-    (ap (is_declared m.special_types ty) is ∙ ap not declared,
-        subst (λ inner. IsUnsupportedStruct m (members_of inner) it) (sym is) lacks)
+by_members m ty t members span (Some it) is declared lacks = (
+  ap (is_declared m.special_types ty) is ∙ ap not declared,
+  subst (λ inner. IsUnsupportedStruct m (members_of inner) it) (sym is) lacks,
+)

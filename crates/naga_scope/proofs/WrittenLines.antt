@@ -55,7 +55,7 @@ module _ {X Y : Type 0} (g : ℕ × X → List Y) (y : Y) where
     where
       by : In (g (n, x)) y ⊎ In (flat_map g (enumerate_from (n + 1) xs)) y →
           (In (flat_map g (enumerate_from (n + 1) xs)) y → (k : ℕ) × (z : X) × (slice_get xs k ≡ Some z)
-              × In (g (n + 1 + k, z)) y) →
+          × In (g (n + 1 + k, z)) y) →
           (k : ℕ) × (z : X) × (slice_get (x ∷ xs) k ≡ Some z) × In (g (n + k, z)) y
       by (inl is) rest = let none : n ≡ n + 0 = omega arith in (0, x, refl, subst (λ k. In (g (k, x)) y) none is)
       by (inr is) rest =
@@ -70,11 +70,11 @@ module _ {X Y : Type 0} (g : ℕ × X → List Y) (y : Y) where
       let same : z ≡ x = cc in
       let none : n + 0 ≡ n = omega arith in
       in_left y (g (n, z)) (flat_map g (enumerate_from (n + 1) xs))
-          (subst (λ z. In (g (n, z)) y) (sym same) (subst (λ k. In (g (k, x)) y) none is))
+      (subst (λ z. In (g (n, z)) y) (sym same) (subst (λ k. In (g (k, x)) y) none is))
   one_in n (z ∷ xs) (suc k) x at is =
       let more : n + suc k ≡ n + 1 + k = omega arith in
       in_right y (g (n, z)) (flat_map g (enumerate_from (n + 1) xs))
-          (one_in (n + 1) xs k x at (subst (λ k. In (g (k, x)) y) more is))
+      (one_in (n + 1) xs k x at (subst (λ k. In (g (k, x)) y) more is))
 
 -- ---- handles that lines write
 itself : (h x : ℕ) → h ≡ x → nat_eq h x ≡ true
@@ -112,7 +112,7 @@ module _ (h : ℕ) where
       where
         by : (b : Bool) → is_up_to last w.0 ≡ b →
             is_one_of (map {A = Line × ℕ} (λ w. w.1)
-                (if b then w ∷ filter (λ w. is_up_to last w.0) ws else filter (λ w. is_up_to last w.0) ws)) h ≡ true →
+            (if b then w ∷ filter (λ w. is_up_to last w.0) ws else filter (λ w. is_up_to last w.0) ws)) h ≡ true →
             (is_one_of (handles_to last ws) h ≡ true → (line : Line) × (is_up_to last line ≡ true) × In ws (line, h)) →
             (line : Line) × (is_up_to last line ≡ true) × In (w ∷ ws) (line, h)
         by false beyond is rest = let further = rest is in (further.0, further.1, inr further.2)
@@ -128,14 +128,14 @@ module _ (h : ℕ) where
     in_writes [] line is there = absurd is
     in_writes (w ∷ ws) line (inl same) there =
         ap (λ b. is_one_of (map {A = Line × ℕ} (λ w. w.1)
-            (if b then w ∷ filter (λ w. is_up_to last w.0) ws else filter (λ w. is_up_to last w.0) ws)) h)
+        (if b then w ∷ filter (λ w. is_up_to last w.0) ws else filter (λ w. is_up_to last w.0) ws)) h)
         (ap (λ w. is_up_to last w.0) same ∙ there)
         ∙ or_left _ _ (itself h w.1 (sym (ap (λ w. w.1) same)))
     in_writes (w ∷ ws) line (inr is) there = by (is_up_to last w.0) (in_writes ws line is there)
       where
         by : (b : Bool) → is_one_of (handles_to last ws) h ≡ true →
             is_one_of (map {A = Line × ℕ} (λ w. w.1)
-                (if b then w ∷ filter (λ w. is_up_to last w.0) ws else filter (λ w. is_up_to last w.0) ws)) h ≡ true
+            (if b then w ∷ filter (λ w. is_up_to last w.0) ws else filter (λ w. is_up_to last w.0) ws)) h ≡ true
         by true rest = or_right _ _ rest
         by false rest = rest
 
@@ -184,7 +184,7 @@ module _ (bound : ℕ → Bool) (f : Function) where
           in_left (Local i, h) (local_writes f) (statement_writes bound (trees_in f.body))
           (one_in local_one (Local i, h) 0 f.local_variables i v at
           (subst (λ k. In (local_one (k, v)) (Local i, h)) (sym (none_more i))
-              (on_line h (Local i) (option_to_list v.init) is)))
+          (on_line h (Local i) (option_to_list v.init) is)))
   in_function (Statement n) h is = by (slice_get (trees_in f.body) n) refl is
     where
       by : (o : Option StatementTree) → slice_get (trees_in f.body) n ≡ o →
@@ -195,7 +195,7 @@ module _ (bound : ℕ → Bool) (f : Function) where
           in_right (Statement n, h) (local_writes f) (statement_writes bound (trees_in f.body))
           (one_in statement_one (Statement n, h) 0 (trees_in f.body) n st at
           (subst (λ k. In (statement_one (k, st)) (Statement n, h)) (sym (none_more n))
-              (on_line h (Statement n) (own_roots bound st) is)))
+          (on_line h (Statement n) (own_roots bound st) is)))
 
   -- ---- of what is written
   module _ (es : List Expression) where
@@ -222,8 +222,8 @@ module _ (bound : ℕ → Bool) (f : Function) where
     init_of [] h is = absurd cc
     init_of (l ∷ ls) h is =
         by (or_cases _ _
-            (sym (list_any-append (nat_eq h) (option_to_list l.init) (flat_map (λ l. option_to_list l.init) ls))
-            ∙ is)) (init_of ls h)
+        (sym (list_any-append (nat_eq h) (option_to_list l.init) (flat_map (λ l. option_to_list l.init) ls))
+        ∙ is)) (init_of ls h)
       where
         by : (is_one_of (option_to_list l.init) h ≡ true)
             ⊎ (is_one_of (flat_map (λ l. option_to_list l.init) ls) h ≡ true) →
@@ -238,7 +238,7 @@ module _ (bound : ℕ → Bool) (f : Function) where
     own_of [] h is = absurd cc
     own_of (st ∷ sts) h is =
         by (or_cases _ _ (sym (list_any-append (nat_eq h) (own_roots bound st) (flat_map (own_roots bound) sts))
-            ∙ is)) (own_of sts h)
+        ∙ is)) (own_of sts h)
       where
         by : (is_one_of (own_roots bound st) h ≡ true) ⊎ (is_one_of (flat_map (own_roots bound) sts) h ≡ true) →
             (is_one_of (flat_map (own_roots bound) sts) h ≡ true →
@@ -272,7 +272,7 @@ module _ (bound : ℕ → Bool) (f : Function) where
         list_any-append (nat_eq h) (option_to_list l.init) (flat_map (λ l. option_to_list l.init) ls) ∙ or_left _ _ is
     of_init (l ∷ ls) (suc i) h is =
         list_any-append (nat_eq h) (option_to_list l.init) (flat_map (λ l. option_to_list l.init) ls)
-            ∙ or_right _ _ (of_init ls i h is)
+        ∙ or_right _ _ (of_init ls i h is)
 
     of_own : (sts : List StatementTree) (n h : ℕ) →
         is_one_of (option_map_or (own_roots bound) (slice_get sts n) []) h ≡ true →
@@ -282,23 +282,23 @@ module _ (bound : ℕ → Bool) (f : Function) where
         list_any-append (nat_eq h) (own_roots bound st) (flat_map (own_roots bound) sts) ∙ or_left _ _ is
     of_own (st ∷ sts) (suc n) h is =
         list_any-append (nat_eq h) (own_roots bound st) (flat_map (own_roots bound) sts)
-            ∙ or_right _ _ (of_own sts n h is)
+        ∙ or_right _ _ (of_own sts n h is)
 
     line_root : (line : Line) (h : ℕ) → is_one_of (roots_at bound f line) h ≡ true →
         is_one_of (roots_with bound f (trees_in f.body)) h ≡ true
     line_root Signature h is = absurd cc
     line_root (Local i) h is =
         list_any-append (nat_eq h) (flat_map (λ l. option_to_list l.init) f.local_variables)
-            (flat_map (own_roots bound) (trees_in f.body))
+        (flat_map (own_roots bound) (trees_in f.body))
         ∙ or_left _ _ (of_init f.local_variables i h is)
     line_root (Statement n) h is =
         list_any-append (nat_eq h) (flat_map (λ l. option_to_list l.init) f.local_variables)
-            (flat_map (own_roots bound) (trees_in f.body))
+        (flat_map (own_roots bound) (trees_in f.body))
         ∙ or_right _ _ (of_own (trees_in f.body) n h is)
 
     pub in_the_function : (line : Line) (h : ℕ) → IsWritten es (roots_at bound f line) h →
         IsWritten es (function_roots bound f) h
     in_the_function line h (Root _ among) =
         Root h (one_among (function_roots bound f) h
-            (sym (same_roots bound h f) ∙ line_root line h (among_one (roots_at bound f line) h among)))
+        (sym (same_roots bound h f) ∙ line_root line h (among_one (roots_at bound f line) h among)))
     in_the_function line x (OperandOf h _ e is at among) = OperandOf h x e (in_the_function line h is) at among

@@ -49,13 +49,13 @@ call_lines i word xs = simp indentation_row
 
 let_lines : (i : ℕ) (name ty word xs : List ℕ)
     → replicate (4 * i) 32
-        ++ (codes "let " ++ (name ++ (ty ++ (codes " = " ++ ((word ++ (codes "(" ++ xs)) ++ codes ";\n")))))
+    ++ (codes "let " ++ (name ++ (ty ++ (codes " = " ++ ((word ++ (codes "(" ++ xs)) ++ codes ";\n")))))
     ≡ indentation i ++ ((codes "let " ++ (name ++ (ty ++ codes " = "))) ++ (word ++ (codes "(" ++ (xs ++ codes ";\n"))))
 let_lines i name ty word xs = simp (append_assoc, indentation_row)
 
 pub act_row : (f : FunctionText) (table : List Availability) (i : ℕ) (word xs : List ℕ) (outcome : Option ℕ)
     → act_text f (handles_in f table) i word xs outcome ≡ joined_texts (indentation i)
-        (joined_texts (outcome_text f outcome)
+    (joined_texts (outcome_text f outcome)
     (joined_texts word (joined_texts (codes "(") (joined_texts (operands_left f table true xs) (codes ";\n")))))
 unfolding act_text outcome_text let_annotation_text joined_texts
 act_row f table i word xs outcome = by outcome
@@ -68,7 +68,7 @@ act_row f table i word xs outcome = by outcome
 
     named : (h : ℕ) (t : Option TypeSpecifier) → line_text i (let_form t (numbered_name h) (Call (Named word) args)) ≡
         indentation i ++ ((codes "let " ++ (numbered_name h ++ (annotation_if t ++ codes " = ")))
-            ++ (word ++ (codes "(" ++ (called ++ codes ";\n"))))
+        ++ (word ++ (codes "(" ++ (called ++ codes ";\n"))))
     named h None =
         let_row_text (numbered_name h) (Call (Named word) args) i
         ∙ (ap (λ t. replicate (4 * i) 32 ++ (codes "let " ++ (numbered_name h ++ (codes " = " ++ (t ++ codes ";\n")))))
@@ -77,8 +77,8 @@ act_row f table i word xs outcome = by outcome
     named h (Some t) =
         typed_let_text (numbered_name h) t (Call (Named word) args) i
         ∙ (ap (λ u. replicate (4 * i) 32
-            ++ (codes "let "
-            ++ (numbered_name h ++ (codes ": " ++ (type_layout t ++ (codes " = " ++ (u ++ codes ";\n")))))))
+        ++ (codes "let "
+        ++ (numbered_name h ++ (codes ": " ++ (type_layout t ++ (codes " = " ++ (u ++ codes ";\n")))))))
         (call_text (Named word) args ∙ ap (λ w. w ++ (codes "(" ++ called)) (named_text word))
         ∙ let_lines i (numbered_name h) (codes ": " ++ type_layout t) word called)
 
@@ -104,7 +104,7 @@ memory_row f k s i flags = refl
 -- one kind in front of others
 barrier_then : (i : ℕ) (b : Bool) (word : List ℕ) (words : List (List ℕ))
     → lines_text i (barrier_lines (word_if b word words) NoStatements)
-        ≡ barrier_text i b (word ++ codes "();\n") ++ lines_text i (barrier_lines words NoStatements)
+    ≡ barrier_text i b (word ++ codes "();\n") ++ lines_text i (barrier_lines words NoStatements)
 unfolding barrier_text line_start
 barrier_then i false word words = refl
 barrier_then i true word words =
@@ -119,7 +119,7 @@ pub barriers_row : (i : ℕ) (flags : Barrier)
     → barriers_text i flags ≡ joined_texts (barrier_text i (is_kept 1 flags) (codes "storageBarrier();\n"))
     (joined_texts (barrier_text i (is_kept 2 flags) (codes "workgroupBarrier();\n"))
     (joined_texts (barrier_text i (is_kept 4 flags) (codes "subgroupBarrier();\n"))
-        (barrier_text i (is_kept 8 flags) (codes "textureBarrier();\n"))))
+    (barrier_text i (is_kept 8 flags) (codes "textureBarrier();\n"))))
 unfolding barriers_text joined_texts
 barriers_row i flags =
     barrier_then i (is_kept 1 flags) (codes "storageBarrier") _
@@ -129,4 +129,4 @@ barriers_row i flags =
     (barrier_then i (is_kept 4 flags) (codes "subgroupBarrier") _
     ∙ ap (λ t. barrier_text i (is_kept 4 flags) (codes "subgroupBarrier();\n") ++ t)
     (barrier_then i (is_kept 8 flags) (codes "textureBarrier") []
-        ∙ append-nil (barrier_text i (is_kept 8 flags) (codes "textureBarrier();\n")))))
+    ∙ append-nil (barrier_text i (is_kept 8 flags) (codes "textureBarrier();\n")))))

@@ -15,8 +15,10 @@ pub wrote_then : {content text middle more now : List ℕ} {failed among failure
     Wrote content failed text middle among → Wrote middle among more now failures →
     Wrote content failed (text ++ more) now failures
 wrote_then {content} {text} {middle} {more} a b =
-    record { appended = b.appended ∙ ap (λ t. t ++ more) a.appended ∙ append_assoc content text more;
-    kept = b.kept ∙ a.kept }
+    record {
+      appended = b.appended ∙ ap (λ t. t ++ more) a.appended ∙ append_assoc content text more;
+      kept = b.kept ∙ a.kept;
+    }
 
 pub stopped_first : {content text now : List ℕ} {failed failures : ℕ} {error : Error}
     (more : List ℕ) → StoppedWithin content failed text now failures error →
@@ -29,14 +31,16 @@ pub stopped_then : {content text middle more now : List ℕ} {failed among failu
     StoppedWithin middle among more now failures error →
     StoppedWithin content failed (text ++ more) now failures error
 stopped_then {content} {text} {middle} {more} {now} {failures = failures} {error = error} w s =
-    record { following = after_then content text middle more now w.appended s.following;
-        reason = subst (λ n. IsWant n failures error) w.kept s.reason }
+    record {
+      following = after_then content text middle more now w.appended s.following;
+      reason = subst (λ n. IsWant n failures error) w.kept s.reason;
+    }
 
 -- the answer of a call that writes after a text that was written
 pub appends_then : (r : Result Unit Error) {content text middle : List ℕ} {failed among : ℕ} (more now : List ℕ)
     (failures : ℕ)
     → Wrote content failed text middle among → Appends r middle among more now failures →
-        Appends r content failed (text ++ more) now failures
+    Appends r content failed (text ++ more) now failures
 appends_then (Ok x) more now failures w a = wrote_then w a
 appends_then (Err e) more now failures w s = stopped_then w s
 

@@ -49,7 +49,7 @@ wants_after before after any = by before.want refl
     none (Some want) at fresh = refl
     none None at fresh =
         let lies = λ (text : List ℕ). subst (λ o. Lies before.content before.failures text after.content
-            after.failures o) at
+        after.failures o) at
         (subst (λ o. Follows o before text after) fresh (any text).goes.0) in
         absurd (other before.content (sym (lies []).0 ∙ (lies (0 ∷ [])).0))
       where

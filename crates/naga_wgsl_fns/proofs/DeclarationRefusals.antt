@@ -67,12 +67,12 @@ module _ (m : Module) (info : ModuleInfo) (accepted : IsTrue (is_accepted m info
   initialiser_there _ (OfConstant i k at named) = initialiser_within m info accepted i k at
   initialiser_there h (OfOverride i o _ at is) =
       let one = and_parts (nat_lt o.ty types) _
-          (list_all_at (override_in_range types own) m.overrides i o parts.0 at) in
+      (list_all_at (override_in_range types own) m.overrides i o parts.0 at) in
       let two = and_parts (is_below own o.init) _ one.1 in
       there own o.init h is two.0
   initialiser_there h (OfVariable i g _ at is) =
       let one = and_parts (nat_lt g.ty types) _
-          (list_all_at (global_in_range types own) m.global_variables i g parts.1 at) in
+      (list_all_at (global_in_range types own) m.global_variables i g parts.1 at) in
       let two = and_parts (is_below own g.init) _ one.1 in
       there own g.init h is two.0
 

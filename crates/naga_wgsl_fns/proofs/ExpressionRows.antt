@@ -212,8 +212,8 @@ module _ (n : Naming) (code : Source) (before : OperandsStandBefore code.express
 pub cell_form : (f : FunctionText) (table : List Availability) (handle : ℕ) → CanWrite f →
     handle < length (expressions f)
     → plain_form (naming f) (source f) (handles_in f table) handle
-        ≡ availability_plain (availability_of (named_in f) (numbered_name handle) (get_or table handle Absent))
-        (own_form f table handle)
+    ≡ availability_plain (availability_of (named_in f) (numbered_name handle) (get_or table handle Absent))
+    (own_form f table handle)
 cell_form f table handle can lt = plain_level (naming f) (source f) (ordered f can) (handles_in f table) handle lt
 
 -- a value, by its cell
@@ -491,7 +491,7 @@ prefix_row f table op operand =
     let form = value_form (naming f) (source f) (handles_in f table) in
     unary_row_text (unary_form op) (form operand)
     ∙ ap (λ w. joined_texts w (joined_texts (codes "(")
-        (joined_texts (expression_layout (form operand)) (codes ")")))) (sym (unary_row op))
+    (joined_texts (expression_layout (form operand)) (codes ")")))) (sym (unary_row op))
 
 pub infix_row : (f : FunctionText) (table : List Availability) (op : ir_operator.BinaryOperator)
     (left right : ℕ)
@@ -521,7 +521,7 @@ unfolding called_text applied_text operands_text joined_texts
 called_row f table word handle =
     call_row_text (NamedType word) (arguments_of (value_forms (form_at f table) (operands_at f handle)))
     ∙ ap (λ w. joined_texts w (joined_texts (codes "(") (operands_left f table true (operands_at f handle))))
-        (named_text word)
+    (named_text word)
 
 pub made_row : (f : FunctionText) (table : List Availability) (ty handle : ℕ)
     → made_text f table (made_type f ty) handle ≡
@@ -649,10 +649,10 @@ query_has_word image_query.NumSamples = refl
 -- no other expression is written but the result of a statement, which has no value of its own
 pub no_value_row : (f : FunctionText) (table : List Availability) (handle : ℕ) → CanWrite f → IsInText f handle →
     (e : ir.Expression) → slice_get (expressions f) handle ≡ Some e → IsNoOther e →
-        codes "false" ≡ own_text f table handle
+    codes "false" ≡ own_text f table handle
 no_value_row f table handle can within e here none =
     sym (own_row f table handle can within
-        ∙ (ap (own_at f table handle) here ∙ by e (expression_formed f can handle e here within) none))
+    ∙ (ap (own_at f table handle) here ∙ by e (expression_formed f can handle e here within) none))
   where
     by : (e : ir.Expression) → IsTrue (expression_is_written f.shader.now f.info.now e) → IsNoOther e →
         own_at f table handle (Some e) ≡ codes "false"

@@ -208,7 +208,7 @@ arguments_row f n a more = by n
         (n + 1) more
     split n =
         text-append (parameter_pieces (parameter_form (module_names f.shader.now) f.shader.now (number f) n a))
-            (more_parameters_pieces (form (n + 1) more))
+        (more_parameters_pieces (form (n + 1) more))
         ∙ ap (λ t. argument_text f n a ++ t) (later n)
 
     by : (n : ℕ) → arguments_left f n (a ∷ more) ≡ (separator n ++ argument_text f n a) ++ arguments_left f (n + 1) more
@@ -221,7 +221,7 @@ arguments_row f n a more = by n
 pub arguments_more : (f : FunctionText) (n : ℕ) (items : List FunctionArgument) (a : FunctionArgument) →
     n < length items → a ≡ slice_index_or items n a
     → arguments_left f n (drop n items) ≡ joined_texts (next_argument_text f n a)
-        (arguments_left f (n + 1) (drop (n + 1) items))
+    (arguments_left f (n + 1) (drop (n + 1) items))
 arguments_more f n items a lt is = ap (arguments_left f n) (drop_first n items a lt is)
     ∙ arguments_row f n a (drop (n + 1) items)
 
@@ -241,7 +241,7 @@ pub first_value_row : (f : FunctionText) (table : List Availability) (value : �
 unfolding first_value_text value_text joined_texts
 first_value_row f table value start =
     ap (λ (s : Handles). codes " = " ++ (expression_layout (value_form (naming f) (source f) s value)
-        ++ codes ";\n")) start
+    ++ codes ";\n")) start
     ∙ sym (value_row_text (first_form f value))
 
 abbrev pub first_at : FunctionText → (value : Option ℕ) → List ℕ
@@ -257,14 +257,14 @@ first_row f (Some value) = refl
 pub local_row : (f : FunctionText) (handle : ℕ) (local : LocalVariable) →
     slice_get f.function.now.local_variables handle ≡ Some local
     → local_text f handle ≡ joined_texts (codes "    var ")
-        (joined_texts (name_of_local f handle)
-        (joined_texts (codes ": ") (joined_texts (type_text f local.ty) (first_text f local.init))))
+    (joined_texts (name_of_local f handle)
+    (joined_texts (codes ": ") (joined_texts (type_text f local.ty) (first_text f local.init))))
 unfolding local_text name_of_local type_text first_text joined_texts
 local_row f handle local at =
     ap (λ o. option_map_or (local_text_of f handle) o []) at
     ∙ (local_row_text (local_form f handle local) []
     ∙ ap (λ t. codes "    var " ++ (name_of_local f handle ++ (codes ": " ++ (type_text f local.ty ++ t))))
-        (append-nil (first_text f local.init)))
+    (append-nil (first_text f local.init)))
 
 -- the locals from this one on
 abbrev pub locals_left : FunctionText → ℕ → List LocalVariable → List ℕ
@@ -279,12 +279,12 @@ locals_step f handle local more =
     let first = text (locals_pieces following) in
     local_row_text form following
     ∙ (ap (λ t. codes "    var " ++ (form.name ++ (codes ": " ++ t)))
-        (sym (append_assoc (type_layout form.type) (text (value_pieces form.value)) first))
+    (sym (append_assoc (type_layout form.type) (text (value_pieces form.value)) first))
     ∙ (ap (λ t. codes "    var " ++ (form.name ++ (codes ": " ++ (t ++ first))))
-        (ap (λ t. type_layout form.type ++ t) (sym (append-nil (text (value_pieces form.value)))))
+    (ap (λ t. type_layout form.type ++ t) (sym (append-nil (text (value_pieces form.value)))))
     ∙ (ap (λ t. codes "    var " ++ t)
-        (sym (append_assoc form.name (codes ": "
-        ++ (type_layout form.type ++ (text (value_pieces form.value) ++ []))) first))
+    (sym (append_assoc form.name (codes ": "
+    ++ (type_layout form.type ++ (text (value_pieces form.value) ++ []))) first))
     ∙ ap (λ t. t ++ first) (sym (local_row_text form [])))))
 
 -- a list from an item of it on, by what stands there
@@ -294,7 +294,7 @@ drop_at i xs x at = drop_first i xs x (slice_get_within xs i x at) (sym (get_or_
 -- a loop over locals: one more, and none
 pub locals_more : (f : FunctionText) (i handle : ℕ) → i < length f.function.now.local_variables → handle ≡ i
     → locals_left f i (drop i f.function.now.local_variables) ≡ joined_texts (local_text f handle)
-        (locals_left f (i + 1) (drop (i + 1) f.function.now.local_variables))
+    (locals_left f (i + 1) (drop (i + 1) f.function.now.local_variables))
 unfolding local_text joined_texts
 locals_more f i handle lt is =
     let locals = f.function.now.local_variables in
@@ -303,7 +303,7 @@ locals_more f i handle lt is =
     ap (locals_left f i) (drop_at i locals local.0 local.1)
     ∙ (locals_step f i local.0 (drop (i + 1) locals)
     ∙ (ap (λ o. option_map_or (local_text_of f i) o [] ++ more) (sym local.1) ∙ ap (λ h. local_text f h ++ more)
-        (sym is)))
+    (sym is)))
 
 -- after the locals, the empty line
 pub locals_none : (f : FunctionText) (i : ℕ) → length f.function.now.local_variables ≤ i →
@@ -329,8 +329,8 @@ pub body_row : (f : FunctionText) (at : TextPoint) → StartsAt f at.table → a
 unfolding body_text block_text joined_texts
 body_row f at start none =
     λ i. locals_text f
-        ++ (lines_text 1 (lines_form (naming f) (let_annotation f) (source f) (none i) f.function.now.body
-        (start i)) ++ codes "}\n")
+    ++ (lines_text 1 (lines_form (naming f) (let_annotation f) (source f) (none i) f.function.now.body
+    (start i)) ++ codes "}\n")
 
 pub function_row : (f : FunctionText) → function_text f ≡ joined_texts (head_text f) (body_text f)
 unfolding function_text head_text body_text name_of_function arguments_text result_text locals_text joined_texts
@@ -341,11 +341,11 @@ function_row f =
     let following = lines_text 1 form.body ++ codes "}\n" in
     function_row_text form
     ∙ sym (append_assoc (codes "fn ") (name_of_function f
-        ++ (codes "(" ++ (arguments_text f ++ (result_text f ++ codes " {\n")))) ((locals ++ end) ++ following)
+    ++ (codes "(" ++ (arguments_text f ++ (result_text f ++ codes " {\n")))) ((locals ++ end) ++ following)
     ∙ ap (λ t. codes "fn " ++ t) (append_assoc form.name
-        (codes "(" ++ (arguments_text f ++ (result_text f ++ codes " {\n"))) ((locals ++ end) ++ following)
+    (codes "(" ++ (arguments_text f ++ (result_text f ++ codes " {\n"))) ((locals ++ end) ++ following)
     ∙ ap (λ t. form.name ++ (codes "(" ++ t))
-        (append_assoc (arguments_text f) (result_text f ++ codes " {\n") ((locals ++ end) ++ following)
+    (append_assoc (arguments_text f) (result_text f ++ codes " {\n") ((locals ++ end) ++ following)
     ∙ ap (λ t. arguments_text f ++ t) (append_assoc (result_text f) (codes " {\n") ((locals ++ end) ++ following)
     ∙ ap (λ t. result_text f ++ (codes " {\n" ++ t)) (append_assoc locals end following)))))
 

@@ -27,7 +27,7 @@ pub both_passed : (f : FunctionText) (b d : BlockTree) {before middle after : Po
     Passed before middle (named_following f b before.scope.named) (block_changes b)
     → Passed middle after (named_following f d middle.scope.named) (block_changes d)
     → Passed before after (named_following f d (named_following f b before.scope.named))
-        (block_changes b + block_changes d)
+    (block_changes b + block_changes d)
 both_passed f b d {before} {middle} {after} one other =
     let log = one.counted.log in
     let names = one.counted.names in

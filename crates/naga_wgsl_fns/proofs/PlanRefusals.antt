@@ -140,7 +140,7 @@ module _ (m : Module) (info : ModuleInfo) (i : ℕ) (error : Error)
       IsWritableAt explicit m info earlier i → ⊥
   expression_fails explicit earlier w =
       let formed = (w.formed n.function n.known n.stands n.is_known).expressions n.expression named.0 named.1
-          n.written in
+      n.written in
       let unsupported = named.2 in
       absurd cc
 

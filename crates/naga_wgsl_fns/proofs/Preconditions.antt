@@ -273,7 +273,7 @@ module _ (t : FunctionText) (can : CanWrite t) where
       let k = element es h lt in
       let inside = sym (type_known_is h k.0 k.1) ∙ (known ∙ ap Some is) in
       let ends = known_before m info can.accepted k.0.ty (known_resolution_fits h k.0 k.1)
-          (inner.Pointer base at) inside in
+      (inner.Pointer base at) inside in
       omega (arith, ends)
 
   -- ---- parts
@@ -545,7 +545,7 @@ module _ (t : FunctionText) (can : CanWrite t) where
       expression_is_written m es (expression.As x kind convert) ≡ true → (from : TypeInner) →
       type_known (context t) x ≡ Some from →
       (to : TypeInner) × ((conversion_target from kind convert ≡ Some to)
-          × (is_spelled m.types (resolution.Value to) ≡ true))
+      × (is_spelled m.types (resolution.Value to) ≡ true))
   converted_is x kind convert may from known =
       let c = conversion m info es x kind convert may in
       let same = same_Some c.from from (sym c.known ∙ known) in

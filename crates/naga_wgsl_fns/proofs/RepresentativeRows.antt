@@ -86,7 +86,7 @@ module _ (m : Module) (can : CanWriteOf m) (representatives : List ℕ) (are : A
       by : (o : Option Expression) → slice_get m.global_expressions h ≡ o →
           option_map_or (global_is_written_over m (global_is_written_within h m)) o false ≡ true →
           ((x : ℕ) → x < bound → global_is_written m x ≡ true →
-              IsRepresentative m x (representative_at representatives x)) →
+          IsRepresentative m x (representative_at representatives x)) →
           IsRepresentative m h (representative_at representatives h)
       by None at is_over earlier = absurd cc
       by (Some e) at is_over earlier =

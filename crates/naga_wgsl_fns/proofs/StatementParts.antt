@@ -61,14 +61,14 @@ pub first_at : (f : FunctionText) (items : List Statement) (n : ℕ) (item : Sta
     CanWriteBlock f (block_of (drop n items)) → CanWriteStatement f (tree_of item)
 first_at f items n item lt here w =
     first_inside f (tree_of item) (block_of (drop (n + 1) items))
-        (subst (CanWriteBlock f) (first_of items n item lt here) w)
+    (subst (CanWriteBlock f) (first_of items n item lt here) w)
 
 pub rest_at : (f : FunctionText) (items : List Statement) (n : ℕ) (item : Statement) → n < length items →
     item ≡ slice_index_or items n item →
     CanWriteBlock f (block_of (drop n items)) → CanWriteBlock f (block_of (drop (n + 1) items))
 rest_at f items n item lt here w =
     rest_inside f (tree_of item) (block_of (drop (n + 1) items))
-        (subst (CanWriteBlock f) (first_of items n item lt here) w)
+    (subst (CanWriteBlock f) (first_of items n item lt here) w)
 
 pub block_inside : (f : FunctionText) (b : BlockTree) → CanWriteStatement f (block b) → CanWriteBlock f b
 block_inside f b w = record { in_range = w.in_range; formed = w.formed; roots = w.roots; lets = w.lets }
@@ -81,7 +81,7 @@ pub accept_inside : (f : FunctionText) (c : ℕ) (a r : BlockTree) → CanWriteS
     CanWriteBlock f a
 accept_inside f c a r w =
     let ranges = and_parts (nat_lt c (count f))
-        (block_in_range (callees f) (count f) a && block_in_range (callees f) (count f) r) w.in_range in
+    (block_in_range (callees f) (count f) a && block_in_range (callees f) (count f) r) w.in_range in
     record {
       in_range = (and_parts (block_in_range (callees f) (count f) a)
           (block_in_range (callees f) (count f) r) ranges.1).0;
@@ -94,7 +94,7 @@ pub reject_inside : (f : FunctionText) (c : ℕ) (a r : BlockTree) → CanWriteS
     CanWriteBlock f r
 reject_inside f c a r w =
     let ranges = and_parts (nat_lt c (count f))
-        (block_in_range (callees f) (count f) a && block_in_range (callees f) (count f) r) w.in_range in
+    (block_in_range (callees f) (count f) a && block_in_range (callees f) (count f) r) w.in_range in
     record {
       in_range = (and_parts (block_in_range (callees f) (count f) a)
           (block_in_range (callees f) (count f) r) ranges.1).1;
@@ -119,7 +119,7 @@ pub continuing_inside : (f : FunctionText) (b c : BlockTree) (e : Option ℕ) �
     CanWriteBlock f c
 continuing_inside f b c e w =
     let ranges = and_parts (block_in_range (callees f) (count f) b)
-        (block_in_range (callees f) (count f) c && is_below (count f) e) w.in_range in
+    (block_in_range (callees f) (count f) c && is_below (count f) e) w.in_range in
     record {
       in_range = (and_parts (block_in_range (callees f) (count f) c) (is_below (count f) e) ranges.1).0;
       formed = (and_parts (block_has_forms b) (block_has_forms c) w.formed).1;
@@ -153,7 +153,7 @@ module _ (f : FunctionText) (v : SwitchValue) (b : BlockTree) (falls : Bool) (cs
   ranges =
       and_parts (block_in_range (callees f) (count f) b) (cases_in_range (callees f) (count f) cs)
       (and_parts (case_value_fits_32_bits v)
-          (block_in_range (callees f) (count f) b && cases_in_range (callees f) (count f) cs) w.in_range).1
+      (block_in_range (callees f) (count f) b && cases_in_range (callees f) (count f) cs) w.in_range).1
 
   forms : IsTrue (not falls || has_no_statements b) × IsTrue (block_has_forms b && cases_have_forms cs)
   forms = and_parts (not falls || has_no_statements b) (block_has_forms b && cases_have_forms cs) w.formed

@@ -91,7 +91,7 @@ one_line line i = then_text line NoStatements i ∙ append-nil (line_text i line
 -- ---- single lines
 pub around_row : (f : FunctionText) (table : List Availability) (i : ℕ) (start : List ℕ) (value : ℕ) (end : List ℕ)
     → around_text f (handles_in f table) i start value end ≡ joined_texts (line_start i start)
-        (joined_texts (value_text f table value) end)
+    (joined_texts (value_text f table value) end)
 unfolding around_text value_text joined_texts
 around_row f table i start value end = refl
 
@@ -104,8 +104,8 @@ assignment_row f table i pointer value =
     let operand = plain_form (naming f) (source f) (handles_in f table) in
     assign_text (as_reference (operand pointer)) (as_value (operand value)) i
     ∙ ap (λ t. t ++ (text (expression_pieces (as_reference (operand pointer)))
-        ++ (codes " = " ++ (text (expression_pieces (as_value (operand value))) ++ codes ";\n"))))
-        (sym (indentation_row i))
+    ++ (codes " = " ++ (text (expression_pieces (as_value (operand value))) ++ codes ";\n"))))
+    (sym (indentation_row i))
 
 pub let_row : (f : FunctionText) (k : ℕ) (table : List Availability) (i handle : ℕ)
     → let_text f k (handles_in f table) i handle ≡ joined_texts (line_start i (codes "let "))
@@ -131,7 +131,7 @@ let_row f k table i handle = by (let_annotation f handle)
     by (Some t) =
         typed_let_text name t own i
         ∙ sym (line_starts i (codes "let ")
-            (name ++ ((codes ": " ++ type_layout t) ++ (codes " = " ++ (text (expression_pieces own) ++ codes ";\n")))))
+        (name ++ ((codes ": " ++ type_layout t) ++ (codes " = " ++ (text (expression_pieces own) ++ codes ";\n")))))
 
 -- ---- statements of one line
 -- a jump that returns no value is written by its words alone
@@ -196,11 +196,11 @@ asks a _ act = absurd cc
 
 act_lines : (f : FunctionText) (k : ℕ) (s : Handles) (i : ℕ) (shape : shapes.Statement) → IsTrue (acts shape)
     → act_text f s i (word_in (naming f).names shape) (operands_in shape) (outcome_in shape)
-        ≡ shape_lines f k s i shape NoStatements
+    ≡ shape_lines f k s i shape NoStatements
 unfolding act_text
 act_lines f k s i (shapes.Act action xs outcome) act =
     sym (one_line (act_line (naming f) (let_annotation f) (word_of (naming f).names action)
-        (operands (value_forms (plain_form (naming f) (source f) s) xs)) outcome) i)
+    (operands (value_forms (plain_form (naming f) (source f) s) xs)) outcome) i)
 act_lines f k s i _ act = absurd cc
 
 pub act_is : (f : FunctionText) (k : ℕ) (s : Handles) (i : ℕ) (st : StatementTree) → IsTrue (is_act st)
@@ -210,7 +210,7 @@ act_is f k s i (simple st) act =
     let shape = simple_shape (context f) st in
     let is = asks (context f) (simple st) act in
     (λ j. act_text f s i (word_in (naming f).names shape) (sym is.operands j) (sym is.outcome j))
-        ∙ act_lines f k s i shape is.acts
+    ∙ act_lines f k s i shape is.acts
 act_is f k s i _ act = absurd cc
 
 -- which leaves its result in scope, and no other name
@@ -224,7 +224,7 @@ pub act_after : (f : FunctionText) (k : ℕ) (s : Handles) (st : StatementTree) 
 act_after f k s st act =
     let is = asks (context f) st act in
     ap (λ o. after_result (naming f).names o s) (sym is.outcome)
-        ∙ shape_after f k s (statement_shape (context f) st) is.acts
+    ∙ shape_after f k s (statement_shape (context f) st) is.acts
 
 shape_named : (f : FunctionText) (k : ℕ) (shape : shapes.Statement) → IsTrue (acts shape) →
     named_by (naming f).function shape k ≡ k
@@ -251,12 +251,12 @@ act_roots binds _ act = absurd cc
 pub store_to_atomic : (f : FunctionText) (k : ℕ) (s : Handles) (i pointer value : ℕ) →
     is_atomic_pointer (context f) pointer ≡ true
     → act_text f s i (codes "atomicStore") (pointer ∷ value ∷ []) None
-        ≡ statement_text f k s i (simple (store pointer value))
+    ≡ statement_text f k s i (simple (store pointer value))
 unfolding statement_text act_text
 store_to_atomic f k s i pointer value is =
     sym (ap (λ b. shape_lines f k s i (store_shape b pointer value) NoStatements) is
     ∙ one_line (act_line (naming f) (let_annotation f) (codes "atomicStore")
-        (operands (value_forms (plain_form (naming f) (source f) s) (pointer ∷ value ∷ []))) None) i)
+    (operands (value_forms (plain_form (naming f) (source f) s) (pointer ∷ value ∷ []))) None) i)
 
 pub store_to_other : (f : FunctionText) (k : ℕ) (s : Handles) (i pointer value : ℕ) →
     is_atomic_pointer (context f) pointer ≡ false
@@ -265,7 +265,7 @@ unfolding statement_text assignment_text
 store_to_other f k s i pointer value is =
     sym (ap (λ b. shape_lines f k s i (store_shape b pointer value) NoStatements) is
     ∙ one_line (tree.Assign (as_reference (plain_form (naming f) (source f) s pointer))
-        (value_form (naming f) (source f) s value)) i)
+    (value_form (naming f) (source f) s value)) i)
 
 -- ---- the handles of an Emit
 module _ (f : FunctionText) where
@@ -288,7 +288,7 @@ module _ (f : FunctionText) where
 
       by : (b : Bool) → lines_text i (following rest) ≡ lines_text i (following NoStatements) ++ lines_text i rest
           → lines_text i (then_if b line (following rest))
-              ≡ lines_text i (then_if b line (following NoStatements)) ++ lines_text i rest
+          ≡ lines_text i (then_if b line (following NoStatements)) ++ lines_text i rest
       by true more =
           then_text line (following rest) i
           ∙ (ap (λ t. line_text i line ++ t) more
@@ -305,12 +305,12 @@ module _ (f : FunctionText) where
   pub lets_more : (k k1 : ℕ) (s s1 : Handles) (i index last handle : ℕ) → index < last → handle ≡ index
       → k1 ≡ named_after (naming f).function handle k → s1 ≡ after_one (naming f) k handle s
       → lets_text f k s i (from index (last - index)) ≡ joined_texts (emitted_text f k s i handle)
-          (lets_text f k1 s1 i (from (index + 1) (last - (index + 1))))
+      (lets_text f k1 s1 i (from (index + 1) (last - (index + 1))))
   unfolding lets_text emitted_text let_text joined_texts
   lets_more k k1 s s1 i index last handle lt here given following =
       ap (λ hs. lets k hs s) (range_more index last lt ∙ ap (λ (h : ℕ). h ∷ rest) (sym here))
       ∙ (by (binds (naming f).function handle)
-          ∙ (λ j. emitted_text f k s i handle ++ lets (sym given j) rest (sym following j)))
+      ∙ (λ j. emitted_text f k s i handle ++ lets (sym given j) rest (sym following j)))
     where
       rest : List ℕ
       rest = from (index + 1) (last - (index + 1))
@@ -335,21 +335,21 @@ module _ (f : FunctionText) where
   pub emitted_after : (k k1 : ℕ) (s s1 : Handles) (index last handle : ℕ) → index < last → handle ≡ index
       → k1 ≡ named_after (naming f).function handle k → s1 ≡ after_one (naming f) k handle s
       → after_emit (naming f) k (from index (last - index)) s
-          ≡ after_emit (naming f) k1 (from (index + 1) (last - (index + 1))) s1
+      ≡ after_emit (naming f) k1 (from (index + 1) (last - (index + 1))) s1
   emitted_after k k1 s s1 index last handle lt here given following =
       let rest = from (index + 1) (last - (index + 1)) in
       ap (λ (hs : List ℕ). after_emit (naming f) k hs s)
-          (range_more index last lt ∙ ap (λ (h : ℕ). h ∷ rest) (sym here))
+      (range_more index last lt ∙ ap (λ (h : ℕ). h ∷ rest) (sym here))
       ∙ (λ j. after_emit (naming f) (sym given j) rest (sym following j))
 
   pub emitted_named : (k k1 index last handle : ℕ) → index < last → handle ≡ index →
       k1 ≡ named_after (naming f).function handle k
       → named_after_all (naming f).function (from index (last - index)) k ≡ named_after_all (naming f).function
-          (from (index + 1) (last - (index + 1))) k1
+      (from (index + 1) (last - (index + 1))) k1
   emitted_named k k1 index last handle lt here given =
       let rest = from (index + 1) (last - (index + 1)) in
       ap (λ (hs : List ℕ). named_after_all (naming f).function hs k)
-          (range_more index last lt ∙ ap (λ (h : ℕ). h ∷ rest) (sym here))
+      (range_more index last lt ∙ ap (λ (h : ℕ). h ∷ rest) (sym here))
       ∙ ap (named_after_all (naming f).function rest) (sym given)
 
   -- ---- statements in front of others
@@ -375,7 +375,7 @@ module _ (f : FunctionText) where
       (value_form (naming f) (source f) s value)) rest i
   shape_then k (shapes.Act action xs outcome) s rest i =
       one_then (act_line (naming f) (let_annotation f) (word_of (naming f).names action)
-          (operands (value_forms (plain_form (naming f) (source f) s) xs)) outcome) rest i
+      (operands (value_forms (plain_form (naming f) (source f) s) xs)) outcome) rest i
   shape_then k (shapes.Barrier bits) s rest i = barriers_then (barrier_words bits) rest i
   shape_then k (shapes.Jumps j) s rest i = one_then (jump_form (naming f) (source f) s j) rest i
   shape_then k _ s rest i = refl
@@ -395,7 +395,7 @@ module _ (f : FunctionText) where
   line_then k (block b) s rest i = one_then (tree.Block (lines_at k b s)) rest i
   line_then k (branch condition accept reject) s rest i =
       one_then (tree.If (operand_at s condition) (lines_at k accept s)
-          (optional_form reject (lines_at (named_following f accept k) reject s))) rest i
+      (optional_form reject (lines_at (named_following f accept k) reject s))) rest i
   line_then k (switch selector cases) s rest i =
       one_then (tree.Switch (operand_at s selector)
       (cases_form (naming f) (let_annotation f) (source f) k [] cases s)) rest i
@@ -404,7 +404,7 @@ module _ (f : FunctionText) where
       let inside = left_to_continuing f k body s in
       let last = left_to_continuing f following continuing inside in
       one_then (loop_form (lines_at k body s) continuing (lines_at following continuing inside)
-          (option_map (operand_at last) break_if)) rest i
+      (option_map (operand_at last) break_if)) rest i
 
   pub block_row : (k k1 : ℕ) (s s1 : Handles) (i : ℕ) (st : StatementTree) (rest : BlockTree) →
       k1 ≡ named_after_statement f st k → s1 ≡ after_statement f k st s
@@ -413,7 +413,7 @@ module _ (f : FunctionText) where
   block_row k k1 s s1 i st rest given following =
       line_then k st s (lines_at (named_after_statement f st k) rest (after_statement f k st s)) i
       ∙ (λ j. lines_text i (line_at k st s NoStatements) ++ lines_text i
-          (lines_at (sym given j) rest (sym following j)))
+      (lines_at (sym given j) rest (sym following j)))
 
   pub no_lines : (k : ℕ) (s : Handles) (i : ℕ) → block_text f k s i no_statements ≡ []
   unfolding block_text
@@ -425,10 +425,10 @@ pub lines_more : (f : FunctionText) (k k1 : ℕ) (s s1 : Handles) (i : ℕ) (ite
     (item : Statement) → n < length items → item ≡ slice_index_or items n item
     → k1 ≡ named_after_statement f (tree_of item) k → s1 ≡ after_statement f k (tree_of item) s
     → block_text f k s i (block_of (drop n items)) ≡ joined_texts (statement_text f k s i (tree_of item))
-        (block_text f k1 s1 i (block_of (drop (n + 1) items)))
+    (block_text f k1 s1 i (block_of (drop (n + 1) items)))
 lines_more f k k1 s s1 i items n item lt here given following =
     ap (block_text f k s i) (first_of items n item lt here) ∙ block_row f k k1 s s1 i (tree_of item)
-        (block_of (drop (n + 1) items)) given following
+    (block_of (drop (n + 1) items)) given following
 
 pub lines_none : (f : FunctionText) (k : ℕ) (s : Handles) (i : ℕ) (items : List Statement) (n : ℕ) →
     length items ≤ n → block_text f k s i (block_of (drop n items)) ≡ []
@@ -440,6 +440,6 @@ pub emit_within : (callees expressions first last : ℕ) →
     IsTrue (statement_in_range callees expressions (simple (emit first last))) → last ≤ expressions
 emit_within callees expressions first last range =
     leb-true last expressions (and_parts (nat_le first expressions) (nat_le last expressions)
-        (and_parts (named_in_range callees expressions (emit first last)) _ range).0).1
+    (and_parts (named_in_range callees expressions (emit first last)) _ range).0).1
 
 pub ruleset lines = (lines_more, lines_none, first_of)

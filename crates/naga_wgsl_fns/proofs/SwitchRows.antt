@@ -60,7 +60,7 @@ group_case_values (l ∷ ls) own =
     text-append (case_value_pieces l) _
     ∙ (ap (λ t. text (case_value_pieces l) ++ (codes ", " ++ t)) (group_case_values ls own)
     ∙ sym (append_assoc (text (case_value_pieces l)) (codes ", " ++ waiting_text ls)
-        (case_value_text own ++ codes ":")))
+    (case_value_text own ++ codes ":")))
 
 pub default_row : (labels : List CaseValue) (own : CaseValue) → stands_alone labels own ≡ true →
     group_start labels own ≡ codes "default:"
@@ -70,7 +70,7 @@ default_row _ _ alone = absurd cc
 
 pub case_values_row : (labels : List CaseValue) (own : CaseValue) → stands_alone labels own ≡ false
     → group_start labels own ≡ joined_texts (codes "case ")
-        (joined_texts (waiting_text labels) (joined_texts (case_value_text own) (codes ":")))
+    (joined_texts (waiting_text labels) (joined_texts (case_value_text own) (codes ":")))
 unfolding group_start joined_texts
 case_values_row [] DefaultCase other = absurd cc
 case_values_row [] (SignedCase negative n) other =
@@ -99,7 +99,7 @@ unsigned_other (l ∷ ls) n = refl
 pub waiting_more : (items : List SwitchCase) (i : ℕ) (item : SwitchCase) → i < length items →
     item ≡ slice_index_or items i item
     → waiting_text (labels_of (drop i items)) ≡ joined_texts (case_value_text (case_value_form item.value))
-        (joined_texts (codes ", ") (waiting_text (labels_of (drop (i + 1) items))))
+    (joined_texts (codes ", ") (waiting_text (labels_of (drop (i + 1) items))))
 unfolding waiting_text joined_texts
 waiting_more items i item lt is = ap (λ (cs : List SwitchCase). waiting_text (labels_of cs))
     (drop_first i items item lt is)
@@ -130,8 +130,8 @@ waiting_after false labels v = []
 case_row : (f : FunctionText) (k : ℕ) (s : Handles) (i : ℕ) (labels : List CaseValue) (v : SwitchValue)
     (b : BlockTree) (falls : Bool) (cs : CaseTrees)
     → cases_text f k s i labels (case v b falls cs)
-        ≡ joined_texts (case_text f k s i labels (case_value_form v) falls b)
-        (cases_text f (named_following f b k) s i (waiting_after falls labels v) cs)
+    ≡ joined_texts (case_text f k s i labels (case_value_form v) falls b)
+    (cases_text f (named_following f b k) s i (waiting_after falls labels v) cs)
 unfolding cases_text case_text group_text group_start block_text joined_texts
 case_row f k s i labels v b true cs = refl
 case_row f k s i labels v b false cs =
@@ -139,7 +139,7 @@ case_row f k s i labels v b false cs =
     let more = cases_form (naming f) (let_annotation f) (source f) (named_following f b k) [] cs s in
     case_row_text (case_values_form labels (case_value_form v)) lines more i
     ∙ group_lines i (text (case_pieces (case_values_form labels (case_value_form v))))
-        (text (statements_pieces lines (suc i))) (text (cases_pieces more i))
+    (text (statements_pieces lines (suc i))) (text (cases_pieces more i))
 
 -- the values of the cases from the first on
 abbrev pub case_values_between : (first index : ℕ) → List SwitchCase → List CaseValue
@@ -174,7 +174,7 @@ after_falling first index cs c le lt is =
 case_values_after : (falls : Bool) (first first1 index : ℕ) (cs : List SwitchCase) (c : SwitchCase) →
     first ≤ index → index < length cs → c ≡ slice_index_or cs index c
     → first1 ≡ (if falls then first else index + 1) →
-        waiting_after falls (case_values_between first index cs) c.value ≡ case_values_between first1 (index + 1) cs
+    waiting_after falls (case_values_between first index cs) c.value ≡ case_values_between first1 (index + 1) cs
 case_values_after true first first1 index cs c le lt is next =
     sym (ap (λ n. case_values_between n (index + 1) cs) next ∙ after_falling first index cs c le lt is)
 case_values_after false first first1 index cs c le lt is next =
@@ -186,7 +186,7 @@ pub cases_more : (f : FunctionText) (k k1 : ℕ) (s : Handles) (i first first1 i
     → first1 ≡ (if c.fall_through then first else index + 1) → k1 ≡ named_following f c.body k
     → cases_text f k s i (case_values_between first index cs) (cases_of (drop index cs)) ≡
     joined_texts (case_text f k s i (case_values_between first index cs)
-        (case_value_form c.value) c.fall_through c.body)
+    (case_value_form c.value) c.fall_through c.body)
     (cases_text f k1 s i (case_values_between first1 (index + 1) cs) (cases_of (drop (index + 1) cs)))
 cases_more f k k1 s i first first1 index cs c le lt is next given =
     let labels = case_values_between first index cs in
@@ -209,17 +209,17 @@ cases_none f k s i labels = refl
 -- ---- switches
 switch_lines : (i : ℕ) (e cs : List ℕ)
     → replicate (4 * i) 32
-        ++ (codes "switch " ++ (e ++ (codes " {\n" ++ (cs ++ (replicate (4 * i) 32 ++ codes "}\n")))))
+    ++ (codes "switch " ++ (e ++ (codes " {\n" ++ (cs ++ (replicate (4 * i) 32 ++ codes "}\n")))))
     ≡ (line_start i (codes "switch ") ++ (e ++ codes " {\n")) ++ (cs ++ line_start i (codes "}\n"))
 unfolding line_start
 switch_lines i e cs = simp (append_assoc, indentation_row)
 
 pub switch_row : (f : FunctionText) (k : ℕ) (s : Handles) (i h : ℕ) (cs : CaseTrees)
     → statement_text f k s i (switch h cs) ≡ joined_texts (around_text f s i (codes "switch ") h (codes " {\n"))
-        (joined_texts (cases_text f k s (suc i) [] cs) (line_start i (codes "}\n")))
+    (joined_texts (cases_text f k s (suc i) [] cs) (line_start i (codes "}\n")))
 unfolding statement_text around_text cases_text joined_texts
 switch_row f k s i h cs =
     let e = value_form (naming f) (source f) s h in
     let groups = cases_form (naming f) (let_annotation f) (source f) k [] cs s in
     one_line (tree.Switch e groups) i ∙ (switch_text e groups i ∙ switch_lines i (expression_layout e)
-        (text (cases_pieces groups (suc i))))
+    (text (cases_pieces groups (suc i))))

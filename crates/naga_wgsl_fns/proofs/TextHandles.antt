@@ -112,15 +112,17 @@ module _ (binds : ℕ → Bool) (callees count : ℕ) where
     statement_within (block b) range = block_within b range
     statement_within (branch c a r) range =
         let one = and_parts (nat_lt c count) (block_in_range callees count a && block_in_range callees count r) range in
-        let two = and_parts (block_in_range callees count a) (block_in_range callees count r) one.1 in
-        (ltb-true c count one.0, both_within count (block_roots binds a) (block_roots binds r)
-            (block_within a two.0) (block_within r two.1))
+        let two = and_parts (block_in_range callees count a) (block_in_range callees count r) one.1 in (
+          ltb-true c count one.0,
+          both_within count (block_roots binds a) (block_roots binds r)
+              (block_within a two.0) (block_within r two.1),
+        )
     statement_within (switch h cs) range =
         let one = and_parts (nat_lt h count) (cases_in_range callees count cs) range in
         (ltb-true h count one.0, cases_within cs one.1)
     statement_within (loop b c e) range =
         let one = and_parts (block_in_range callees count b)
-            (block_in_range callees count c && is_below count e) range in
+        (block_in_range callees count c && is_below count e) range in
         let two = and_parts (block_in_range callees count c) (is_below count e) one.1 in
         both_within count (block_roots binds b) (block_roots binds c ++ option_to_list e) (block_within b one.0)
         (both_within count (block_roots binds c) (option_to_list e) (block_within c two.0) (some_within count e two.1))
@@ -130,13 +132,13 @@ module _ (binds : ℕ → Bool) (callees count : ℕ) where
     block_within (statement st b) range =
         let ranges = and_parts (statement_in_range callees count st) (block_in_range callees count b) range in
         both_within count (statement_roots binds st) (block_roots binds b) (statement_within st ranges.0)
-            (block_within b ranges.1)
+        (block_within b ranges.1)
 
     cases_within : (cs : CaseTrees) → IsTrue (cases_in_range callees count cs) → AllWithin count (cases_roots binds cs)
     cases_within no_cases range = tt
     cases_within (case v b falls cs) range =
         let one = and_parts (case_value_fits_32_bits v)
-            (block_in_range callees count b && cases_in_range callees count cs) range in
+        (block_in_range callees count b && cases_in_range callees count cs) range in
         let two = and_parts (block_in_range callees count b) (cases_in_range callees count cs) one.1 in
         both_within count (block_roots binds b) (cases_roots binds cs) (block_within b two.0) (cases_within cs two.1)
 
@@ -178,9 +180,10 @@ let_named binds _ h is = ap option_to_list is
 -- the result of a statement of a function is one of its expressions, and a `let` names it
 pub outcome_inside : (t : FunctionText) (st : StatementTree) (h : ℕ) → CanWriteStatement t st → own_result st ≡ Some h →
     (h < length t.function.now.expressions) × IsLet t h
-outcome_inside t (simple st) h w is =
-    (result_within (bound t) (callees t) (length t.function.now.expressions) st h w.in_range is,
-        (subst (AreLets t) (let_named (bound t) st h is) w.lets).0)
+outcome_inside t (simple st) h w is = (
+  result_within (bound t) (callees t) (length t.function.now.expressions) st h w.in_range is,
+  (subst (AreLets t) (let_named (bound t) st h is) w.lets).0,
+)
 outcome_inside t _ h w is = absurd cc
 
 -- ---- the body

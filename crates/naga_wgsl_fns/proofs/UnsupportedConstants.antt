@@ -159,7 +159,7 @@ of_type m h ty e at made all _ lacks = tt
 pub of_operand : (m : Module) (h x : ℕ) (e : Expression) → slice_get m.global_expressions h ≡ Some e →
     is_operation e ≡ false →
     find (λ x. not (global_is_written m x)) (expression_operands e) ≡ Some x → (it : Construct) →
-        CarriesOfGlobal m x it →
+    CarriesOfGlobal m x it →
     CarriesOfGlobal m h it
 of_operand m h x e at made first (construct.ScalarType s) lacks = LacksOfOperand h x e at made first lacks
 of_operand m h x e at made first _ lacks = tt

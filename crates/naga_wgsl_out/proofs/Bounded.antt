@@ -29,8 +29,15 @@ pub whole_is_longer : (flags : WriterFlags) (m : Module) (info : ModuleInfo) (bo
 whole_is_longer flags m info bound (Ok tt) content now empty appends following past =
     omega (arith, past, ap length appends, ap length empty, length-append content (written_text m info flags))
 whole_is_longer flags m info bound (Err error) content now empty appends following past =
-    omega (arith, past, ap length following.2, ap length following.3, ap length empty,
-        length-append content following.0, length-append following.0 following.1)
+    omega (
+      arith,
+      past,
+      ap length following.2,
+      ap length following.3,
+      ap length empty,
+      length-append content following.0,
+      length-append following.0 following.1,
+    )
 
 -- all that is promised of a text, under other names of the same
 text_within : (m : Module) (info : ModuleInfo) (bound : ℕ) (own flags : WriterFlags)
@@ -67,7 +74,7 @@ answers_bounded flags own m info bound answer content held now before after (Ok 
     let P : Result Unit Error → Type 0 = λ a. FaithfulWriting own m info a content held before after in
     let f : FaithfulWriting own m info (Ok tt) content held before after = subst P tells.0 faithful in
     let whole : FaithfulWriting own m info (Ok tt) content held 0 0 =
-        record { refusals = f.refusals; reading = f.reading; interface = f.interface; runs = f.runs } in
+    record { refusals = f.refusals; reading = f.reading; interface = f.interface; runs = f.runs } in
     let is : string_bytes text ≡ held = tells.1 ∙ taken in
     text_within m info bound own flags content held (string_bytes text) same empty is whole
     (subst (λ a. OnOk a (EachReading content held (MatchesModule (annotates_types own) m info))) tells.0 matches)
@@ -77,7 +84,7 @@ answers_bounded flags own m info bound answer content held now before after (Err
     none taken faithful matches appends leaves tells =
     subst (λ f. bound < length (written_text m info f)) same
     (whole_is_longer own m info bound answer content held empty appends
-        (leaves_beginning own m info answer content held before after leaves) (omega (arith, tells, ap length taken)))
+    (leaves_beginning own m info answer content held before after leaves) (omega (arith, tells, ap length taken)))
 answers_bounded flags own m info bound answer content held now before after (Err (limited.Refused error)) same
     empty none taken faithful matches appends leaves tells =
     record {

@@ -42,7 +42,7 @@ layout_row p =
     (append_assoc enables after_enables (declarations_of p ++ last)
     ∙ ap (λ t. enables ++ (after_enables ++ t))
     (append_assoc structs ((constants ++ after_constants)
-        ++ ((overrides ++ after_overrides) ++ (globals ++ after_globals))) last
+    ++ ((overrides ++ after_overrides) ++ (globals ++ after_globals))) last
     ∙ ap (λ t. structs ++ t)
     (append_assoc (constants ++ after_constants) ((overrides ++ after_overrides) ++ (globals ++ after_globals)) last
     ∙ (append_assoc constants after_constants (((overrides ++ after_overrides) ++ (globals ++ after_globals)) ++ last)

@@ -39,13 +39,13 @@ module _ (m : Module) where
         where
           by : (o : Option Function) → slice_get (all_functions m) g ≡ o →
               all_expression_labels (take g (all_functions m)) ++ option_map_or expression_labels o []
-                  ≡ all_expression_labels (take (g + 1) (all_functions m))
+              ≡ all_expression_labels (take (g + 1) (all_functions m))
           by (Some f) at =
               let here = sym (get_or_from_slice_get (all_functions m) g f f at) in
               ap (λ ls. all_expression_labels (take g (all_functions m)) ++ ls) (sym (append-nil (expression_labels f)))
               ∙ (sym (flat_map-append expression_labels (take g (all_functions m)) (f ∷ []))
               ∙ ap all_expression_labels (ap (λ q. take g (all_functions m) ++ q ∷ []) here
-                  ∙ sym (take_more (all_functions m) g f lt)))
+              ∙ sym (take_more (all_functions m) g f lt)))
           by None at = absurd (none-some (element (all_functions m) g lt).0
               (sym at ∙ (element (all_functions m) g lt).1))
 

@@ -113,9 +113,9 @@ module _ (m : Module) (info : ModuleInfo) (flags : WriterFlags)
       let following = functions_pieces (functions_form flags (module_names m) m info (g + 1) fs ess) in
       let more = lines_of m info flags (enumerate_from (g + 1) fs) in
       text-append (function_pieces (function_form flags (module_names m) (expression_name m g) m info g f es))
-          (LineEnd ∷ following)
+      (LineEnd ∷ following)
       ∙ (ap (λ rest. own_text g f es ++ (10 ∷ rest))
-          (functions_text (g + 1) fs ess (omega (arith, within)) (ap pred size) (later g ess es known))
+      (functions_text (g + 1) fs ess (omega (arith, within)) (ap pred size) (later g ess es known))
       ∙ (ap (λ ks. own_text g f ks ++ (10 ∷ more)) (sym same)
       ∙ (sym (append_assoc (own_text g f (known_of info g)) (codes "\n") more)
       ∙ ap (λ t. t ++ more) (sym (function_line g f (omega (arith, within)))))))
@@ -157,7 +157,7 @@ module _ (m : Module) (info : ModuleInfo) (flags : WriterFlags)
       j + length ps ≡ length m.entry_points.items →
       ((i : ℕ) (p : EntryPoint) → slice_get ps i ≡ Some p → slice_get m.entry_points.items (j + i) ≡ Some p) →
       ((i : ℕ) (es : List ExpressionInfo) → slice_get ess i ≡ Some es →
-          known_of info (length m.functions + (j + i)) ≡ es) →
+      known_of info (length m.functions + (j + i)) ≡ es) →
       text (entry_points_pieces
       (entry_points_form flags (module_names m) m info (length m.functions + j) ps ess)) ≡
       lines_of m info flags (enumerate_from (length m.functions + j) (entry_functions ps))
@@ -180,14 +180,14 @@ module _ (m : Module) (info : ModuleInfo) (flags : WriterFlags)
       let next : length m.functions + (j + 1) ≡ (length m.functions + j) + 1 = omega arith in
       let point = entry_point_pieces (entry_point_form flags (module_names m) m info (length m.functions + j) p es) in
       let following : ℕ → List Piece =
-          λ h. entry_points_pieces (entry_points_form flags (module_names m) m info h (q ∷ ps) (ks ∷ ess)) in
+      λ h. entry_points_pieces (entry_points_form flags (module_names m) m info h (q ∷ ps) (ks ∷ ess)) in
       let rest : text (following ((length m.functions + j) + 1))
-          ≡ lines_of m info flags (enumerate_from ((length m.functions + j) + 1) (entry_functions (q ∷ ps))) =
+      ≡ lines_of m info flags (enumerate_from ((length m.functions + j) + 1) (entry_functions (q ∷ ps))) =
       subst
       (λ h. text (following h) ≡ lines_of m info flags (enumerate_from h (entry_functions (q ∷ ps)))) next
       (points_text (j + 1) (q ∷ ps) (ks ∷ ess) (ap pred size) all
       (λ i r at. let moved : j + suc i ≡ (j + 1) + i = omega arith in ap (slice_get m.entry_points.items)
-          (sym moved) ∙ there (suc i) r at)
+      (sym moved) ∙ there (suc i) r at)
       (λ i rs at. let moved : length m.functions + (j + suc i) ≡ length m.functions + ((j + 1) + i) = omega arith in
       subst (λ h. known_of info h ≡ rs) moved (known (suc i) rs at))) in
       text-append point (LineEnd ∷ following ((length m.functions + j) + 1))
@@ -239,8 +239,8 @@ written_lines m info flags accepted =
         let all : 0 + length m.entry_points.items ≡ length m.entry_points.items = omega arith in
         let from : length m.functions + 0 ≡ 0 + length m.functions = omega arith in
         ap (λ g. text (entry_points_pieces
-            (entry_points_form flags (module_names m) m info g m.entry_points.items info.entry_points.items)))
-            (sym none)
+        (entry_points_form flags (module_names m) m info g m.entry_points.items info.entry_points.items)))
+        (sym none)
         ∙ (points_text m info flags accepted 0 m.entry_points.items info.entry_points.items
         (entry_points_counted m info accepted) all
         (λ i p at. let same : i ≡ 0 + i = omega arith in ap (slice_get m.entry_points.items) (sym same) ∙ at)

@@ -47,7 +47,7 @@ module _ (m : Module) (before now : NameMap) (names : Names)
   function_is g f found =
       let s = function_there m g f found in
       named_there wgsl_names before m names now has (function_item m g f) s
-          ∙ ap Some (sym (name_is m (function_item m g f) s))
+      ∙ ap Some (sym (name_is m (function_item m g f) s))
 
   pub has_names : HasNamesOf m now
   has_names = record {
@@ -64,12 +64,12 @@ module _ (m : Module) (before now : NameMap) (names : Names)
         let a = element f.arguments.items n lt in
         let s = argument_there m g f n a.0 found a.1 in
         named_there wgsl_names before m names now has (argument_item m g n a.0) s
-            ∙ ap Some (sym (name_is m (argument_item m g n a.0) s));
+        ∙ ap Some (sym (name_is m (argument_item m g n a.0) s));
     locals = λ g f found l lt.
         let v = element f.local_variables l lt in
         let s = local_there m g f l v.0 found v.1 in
         named_there wgsl_names before m names now has (local_item m g l v.0) s
-            ∙ ap Some (sym (name_is m (local_item m g l v.0) s));
+        ∙ ap Some (sym (name_is m (local_item m g l v.0) s));
     numbers = λ g f found. at_most (length f.arguments.items) (λ n lt.
         let a = element f.arguments.items n lt in
         let s = argument_there m g f n a.0 found a.1 in
@@ -100,8 +100,11 @@ module _ (m : Module) (before now : NameMap) (names : Names)
 
   -- and the namer has named the items' labels
   pub has_named : HasNamedBefore m 0 names
-  has_named = record { words = has.words; labels = subst (HasNamed names) (sym (append-nil (item_labels m)))
-      has.labels }
+  has_named = record {
+    words = has.words;
+    labels = subst (HasNamed names) (sym (append-nil (item_labels m)))
+        has.labels;
+  }
 
 -- the words and prefixes of WGSL
 pub start_is : (reserved builtin caseless : Words) (prefixes : List (List ℕ)) →
@@ -140,7 +143,7 @@ names_after_reset (Err _) m start before now names is has full keys = tt
 pub namer_after_reset : (answer : Result Unit NamerError) (m : Module) (start : Names) (before now : NameMap)
     (names : Names) → start ≡ wgsl_names
     → OnOk answer (HasNamedItems start before (labelled_items start m) names now) →
-        OnOk answer (HasNamedBefore m 0 names)
+    OnOk answer (HasNamedBefore m 0 names)
 namer_after_reset (Ok _) m start before now names is has =
     has_named m before now names (subst (λ s. HasNamedItems s before (labelled_items s m) names now) is has)
 namer_after_reset (Err _) m start before now names is has = tt

@@ -78,7 +78,7 @@ module _ (explicit : Bool) (m : Module) (info : ModuleInfo) (accepted : IsTrue (
           Tells it (λ reported. IsSomeAnd o (λ e. NamesExpression m known f.expressions e reported)) →
           IsSomeAnd o (λ e. CarriesOfExpression m known e it) →
           IsSomeAnd o (λ e. IsFalse (expression_has_form m known f.expressions e)
-              × Tells it (NamesExpression m known f.expressions e) × CarriesOfExpression m known e it)
+          × Tells it (NamesExpression m known f.expressions e) × CarriesOfExpression m known e it)
       written None lacks told carries = lacks
       written (Some e) lacks told carries = (lacks, told, carries)
   by_error (plan_error.TypeWithoutForm declared ty) it refused told carries other =
@@ -128,21 +128,21 @@ module _ (explicit : Bool) (m : Module) (info : ModuleInfo) (accepted : IsTrue (
     is_known = is_known;
     at = subst (λ at. StandsAtPart explicit m info number f known at it) (sym r.part)
         (by_error r.error it (r.refused f known stands is_known) (r.told f known stands is_known)
-            (r.carries f known stands is_known) r.other);
+        (r.carries f known stands is_known) r.other);
     first = (r.error, r.part, first_in r.error (r.first f known stands is_known));
   }
 
   -- so what is found where there is no plan
   pub found_in : {E : Type 0} (ty : FunctionType) → number ≡ function_number m ty → (next : Names)
       (r : Result (Option Refusal) E) (u : Unplanned) → IfOk r (IsFoundOf ty u) →
-          IsUnplanned explicit m info number namer u →
+      IsUnplanned explicit m info number namer u →
       IfOk r (λ found. MatchOption found (IsWritable explicit m info (function_number m ty) next)
-          (IsRefusalOf explicit m info ty))
+      (IsRefusalOf explicit m info ty))
   found_in ty same next (Err e) u found r = tt
   found_in ty same next (Ok o) (unplanned.Memory e) found r = absurd found
   found_in ty same next (Ok o) (unplanned.Refused it at) found r =
       subst (λ o. MatchOption o (IsWritable explicit m info (function_number m ty) next)
-          (IsRefusalOf explicit m info ty)) (sym found)
+      (IsRefusalOf explicit m info ty)) (sym found)
       (at, refl, subst (λ n. StandsInFunction explicit m info n (it, at)) same (stands_in it at r))
 
   -- and so what is told of it
@@ -159,7 +159,7 @@ module _ (explicit : Bool) (m : Module) (info : ModuleInfo) (accepted : IsTrue (
 -- what is known of a function that there is
 pub known_at : (m : Module) (info : ModuleInfo) → IsTrue (is_accepted m info) → (number : ℕ) (f : Function) →
     slice_get (all_functions m) number ≡ Some f → (es : List ExpressionInfo)
-        × (slice_get (all_infos info) number ≡ Some es)
+    × (slice_get (all_infos info) number ≡ Some es)
 known_at m info accepted number f stands =
     let within = slice_get_within (all_functions m) number f stands in
     let counted = all_counted m info accepted in

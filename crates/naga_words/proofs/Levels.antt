@@ -57,4 +57,4 @@ module _ (c : Context) (order : IsInOrder c) where
   type_segments_is h t is =
       ap (found_segments_by c (segments_within h c) h) is
       ∙ agree_named (segments_within h c) (type_segments c) h (λ k lt. stable h (suc k) k lt (omega arith)) c h
-          t.inner (order.before h t is)
+      t.inner (order.before h t is)

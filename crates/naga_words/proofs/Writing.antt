@@ -44,7 +44,7 @@ after_segment content failed text more middle after want lies is same =
     subst (λ (s : OutputView). Lies content failed (text ++ more) s.content s.failures s.want)
     (sym same)
     (subst (λ w. Lies content failed (text ++ more) middle.content middle.failures w) (sym is)
-        (after_first content text middle.content more lies.0, lies.1))
+    (after_first content text middle.content more lies.0, lies.1))
 
 pub writes_then : {before middle after : OutputView} {first more : List ℕ} → Wrote before middle first →
     Wrote middle after more → Wrote before after (joined_texts first more)
@@ -58,7 +58,7 @@ writes_then {before} {middle} {after} {first} {more} w v =
         after.want
     on None is lies follows =
         after_whole before.content before.failures first middle.content more after.content middle.failures
-            after.failures after.want lies.0 lies.1 follows
+        after.failures after.want lies.0 lies.1 follows
     on (Some want) is lies follows = after_segment before.content before.failures first more middle after want
         lies (sym is) follows
 
@@ -67,7 +67,7 @@ writes_then {before} {middle} {after} {first} {more} w v =
     by None is follows = on middle.want refl follows v.goes.0
     by (Some want) is follows =
         let stays : Follows (Some want) middle more after =
-            subst (λ o. Follows o middle more after) (ap (λ (s : OutputView). s.want) follows ∙ sym is) v.goes.0 in
+        subst (λ o. Follows o middle more after) (ap (λ (s : OutputView). s.want) follows ∙ sym is) v.goes.0 in
         stays ∙ follows
 
 -- nothing is written
@@ -175,6 +175,6 @@ pub content_begun_as : (start now : OutputView) (text before after : List ℕ)
     start.want ≡ None → now.want ≡ Some want → IsAfter before text after
 content_begun_as start now text before after want first last w fresh some =
     subst (λ h. IsAfter h text after) first
-        (subst (λ h. IsAfter start.content text h) last (content_begun start now text want w fresh some))
+    (subst (λ h. IsAfter start.content text h) last (content_begun start now text want w fresh some))
 
 pub ruleset fresh_output = (same_sink, content_whole, never_failed)

@@ -134,11 +134,11 @@ pub list_ends : (l : Words) (n : ℕ) (ls : Lines) (names : Scope) (t : List Eve
 list_ends l n last names t = both_end
 list_ends l n (before x ls) names t =
     closed_ends (has_continue x) names (then_ends (follow_in_loop l n ls) (follow_all l n ls) (list_ends l n ls)
-        (follow l n x names t))
+    (follow l n x names t))
 
 pub alike_ends : {S T : Type 0} {R : Option Value → Type 0} {P Q B : S → Type 0} {o : Outcome S} {o' o'' : Outcome T} →
     SameEnd o' o'' → Alike R (λ s t. P s) (λ s t. Q s) (λ s t. B s) o o' →
-        Alike R (λ s t. P s) (λ s t. Q s) (λ s t. B s) o o''
+    Alike R (λ s t. P s) (λ s t. Q s) (λ s t. B s) o o''
 alike_ends both_end (done h) = done h
 alike_ends both_continue (continued h) = continued h
 alike_ends both_break (broke h) = broke h
@@ -224,4 +224,4 @@ pub pointer_alike : {S T : Type 0} {R : Option Value → Type 0} {P Q B : S → 
     Alike R P Q B (with_pointer o t f) (with_place r g)
 pointer_alike {R = R} {P = P} {Q = Q} {B = B} f g o t r e h =
     subst (λ r. Alike R P Q B (with_pointer o t f) (with_place r g)) (sym e)
-        (pointer_alike_at f g (option_and_then place_in o) t h)
+    (pointer_alike_at f g (option_and_then place_in o) t h)

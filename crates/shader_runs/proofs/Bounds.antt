@@ -128,8 +128,12 @@ asks_with_fewer {t = t} {u = u} {k = k} (cut_join {c = c} {c' = c'} {next = next
     go : EndsCut (filled c t) (filled c' t) → length u < events_made (filled c t)
     go (inl same) = omega (arith, asks_before a, ap (λ q. events_made q) same)
     go (inr (e, stop, le)) =
-        omega (arith, lt, ap (λ q. events_made (resumed q (λ x e. filled (next x) e))) stop,
-            ap (λ q. events_made q) stop)
+        omega (
+          arith,
+          lt,
+          ap (λ q. events_made (resumed q (λ x e. filled (next x) e))) stop,
+          ap (λ q. events_made q) stop,
+        )
 asks_with_fewer {t = t} {u = u} {k = k} (cut_join {c = c} {c' = c'} {next = next} cut cuts)
     (following {e = e} {x = x} h a) lt =
     go (ends_cut cut t) (asks_with_fewer (cuts x) a)
@@ -140,5 +144,11 @@ asks_with_fewer {t = t} {u = u} {k = k} (cut_join {c = c} {c' = c'} {next = next
     go (inl same) rest =
         following (same ∙ h) (rest (omega (arith, lt, ap (λ q. events_made q) (joined_from c next t (same ∙ h)))))
     go (inr (e1, stop, le)) rest =
-        absurd (omega (arith, lt, asks_later a, le, ap (λ q. events_made q) h,
-            ap (λ q. events_made (resumed q (λ x e. filled (next x) e))) stop))
+        absurd (omega (
+          arith,
+          lt,
+          asks_later a,
+          le,
+          ap (λ q. events_made q) h,
+          ap (λ q. events_made (resumed q (λ x e. filled (next x) e))) stop,
+        ))

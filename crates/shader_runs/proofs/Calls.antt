@@ -117,7 +117,7 @@ entered_alike : (R : Option Value → Type 0) (g g' : ℕ) (vs : List Value)
 entered_alike R g g' vs None t body body' e h = same_answer tt
 entered_alike R g g' vs (Some firsts) t body body' e h =
     subst (λ g'. Answers R (body (Entry g vs firsts ∷ t)) (body' (Entry g' vs firsts ∷ t))) (sym e)
-        (h (Entry g vs firsts ∷ t))
+    (h (Entry g vs firsts ∷ t))
 
 -- what the start of a function's text asks of it
 pub record Starting (p : Module) (n : ModuleNames) (f : Naming) : Type 0 where
@@ -146,7 +146,7 @@ module _ (p : Module) (f : Naming) (i : ℕ) where
   fewer : local_count (before f i).function ≤ local_count f.function
   fewer =
       let short : min i (length f.function.first_values) ≤ length f.function.first_values =
-          min-le_right i (length f.function.first_values) in
+      min-le_right i (length f.function.first_values) in
       subst (λ k. k ≤ length f.function.first_values) (sym (length-take i f.function.first_values)) short
 
   fixed_before : (x : FixedName) → IsFixedName p (before f i).function x → IsFixedName p f.function x
@@ -366,10 +366,10 @@ module _ (p : Module) (n : ModuleNames) (uses : Bytes → WordUse) (uses_fit : U
               (sym fit.outer) (alike.called g callee e vs h t);
           asking = λ word a. ap (λ o. o word) alike.operates
               ∙ ap is_operation (uses_fit.requests word (no_function word a.1.0)
-                  (ap (λ n. n.vocabulary.is_request word) (sym fit.outer) ∙ a.0));
+              (ap (λ n. n.vocabulary.is_request word) (sym fit.outer) ∙ a.0));
           calling = λ g callee e. ap (λ n'. d.0 (n'.function g)) fit.outer
               ∙ ap (λ o. o (n.function g)) alike.operates
-                  ∙ uses_fit.functions g (callee_number g (numbered_within callees g callee e));
+              ∙ uses_fit.functions g (callee_number g (numbered_within callees g callee e));
         }
 
     argument_same : (i k : ℕ) → FixedKey (ArgumentName i) ≡ FixedKey (ArgumentName k) → i ≡ k
@@ -470,9 +470,9 @@ module _ (p : Module) (n : ModuleNames) (uses : Bytes → WordUse) (uses_fit : U
     start_words : (x : Bytes) → NoName c f.names x → first_names f.names.outer f vs t x ≡ None
     start_words x free =
         variable_other f x f.function.first_values 0 (entries t)
-            (λ a le la q. free.fixed (LocalName a) (omega arith) q) (parameter_names f.names.outer f vs)
+        (λ a le la q. free.fixed (LocalName a) (omega arith) q) (parameter_names f.names.outer f vs)
         ∙ parameter_other f.names.argument x (argument_count f.function) 0
-            (λ a le la q. free.fixed (ArgumentName a) (omega arith) q) vs _
+        (λ a le la q. free.fixed (ArgumentName a) (omega arith) q) vs _
         ∙ parameter_other f.names.outer.constant x (length p.constant_types) 0
         (λ a le la q. let count =
         has_types_length env.parts p.constant_types env.constants environment.constants in
@@ -497,7 +497,7 @@ module _ (p : Module) (n : ModuleNames) (uses : Bytes → WordUse) (uses_fit : U
         Related c f.names (at_start f.function) (first_names n f vs t) (constants_kept f.function env m)
     starts e =
         subst (λ n'. Related c f.names (at_start f.function) (first_names n' f vs t)
-            (constants_kept f.function env m)) fit.outer (starts_own e)
+        (constants_kept f.function env m)) fit.outer (starts_own e)
 
     pub facts : IsTrue (has_types env.parts f.function.argument_types vs) → Facts p c f.names d
     facts k =
@@ -520,7 +520,7 @@ module _ (p : Module) (n : ModuleNames) (uses : Bytes → WordUse) (uses_fit : U
         (used_value c (constants_kept f.function env m) h) t1
     first_value_here k e h u t1 =
         value_here p c f.names d (facts k) (at_start f.function) (first_names n f vs t)
-            (constants_kept f.function env m) (starts e) h u t1
+        (constants_kept f.function env m) (starts e) h u t1
 
   module _ (callees : List Function) (calls : ByNumber) (d : Respond) (alike : AreAlike callees calls d)
       (f : Naming) (start : Starting p n f) (regular : AreRegular p callees f f.function.body)
@@ -542,9 +542,9 @@ module _ (p : Module) (n : ModuleNames) (uses : Bytes → WordUse) (uses_fit : U
     next_names i o e =
         let lt = slice_get_within all i o e in
         let count : length (take i all) + 0 ≡ i = ap (λ k. k + 0) (length-take-le i all (omega (arith, lt)))
-            ∙ add-zero i in
+        ∙ add-zero i in
         ap (λ os. with_variables (variables_from f 0 os) (entries t) 0 (parameter_names n f vs))
-            (take_one_more all i o e)
+        (take_one_more all i o e)
         ∙ one_more_variable f (take i all) o 0 (entries t) (parameter_names n f vs)
         ∙ ap (λ k. bind (names_before i) (f.names.local_ k) (variable_place f (entries t) k)) count
 
@@ -568,7 +568,7 @@ module _ (p : Module) (n : ModuleNames) (uses : Bytes → WordUse) (uses_fit : U
     first_reached k e i (Some h) u names q os rest r t1 =
         let fit1 = starting_before p f i n start in
         let value = first_value_here callees calls d alike (before f i) fit1
-            (typed_before p f i env.parts m typed) vs t k e h u t1 in
+        (typed_before p f i env.parts m typed) vs t k e h u t1 in
         ap (λ z. first_followed (value_of spelled (value_at f (at_start f.function) h) z t1) rest) q
         ∙ ap (λ q. first_followed q rest) value
         ∙ followed_firsts (used_value own kept h) os t1 rest r
@@ -586,10 +586,10 @@ module _ (p : Module) (n : ModuleNames) (uses : Bytes → WordUse) (uses_fit : U
         let there : slice_get all i ≡ Some o = ap (slice_get all) (sym (zero-add i)) ∙ sym (at 0) in
         let next = bind names (f.names.local_ i) (variable_place f (entries t) i) in
         let known : next ≡ names_before (suc i) =
-            ap (λ z. bind z (f.names.local_ i) (variable_place f (entries t) i)) q ∙ sym (next_names i o there) in
+        ap (λ z. bind z (f.names.local_ i) (variable_place f (entries t) i)) q ∙ sym (next_names i o there) in
         let rest = first_of_each spelled (variables_from f (suc i) os) (entries t) (suc i) next in
         first_reached k e i o (and_left here later u) names q (first_used_all own kept os) rest
-            (firsts_reached k e os (suc i) further (and_right here later u) next known) t1
+        (firsts_reached k e os (suc i) further (and_right here later u) next known) t1
       where
         further : (k : ℕ) → slice_get os k ≡ slice_get all (k + suc i)
         further k =
@@ -664,14 +664,14 @@ module _ (p : Module) (n : ModuleNames) (uses : Bytes → WordUse) (uses_fit : U
       let own_name = f.names.outer.function f.names.earlier in
       let place : length (functions_of fs) ≡ length fs = length-functions_of fs in
       let is_name : own_name ≡ n.function (length fs) = ap (λ n. n.function f.names.earlier) fits.0.outer
-          ∙ ap n.function (fits.0.earlier ∙ place) in
+      ∙ ap n.function (fits.0.earlier ∙ place) in
       let fewer : length fs ≤ length p.functions = omega (arith, within) in
       let earlier = calls_alike fs fewer fits.1 typed.1 (λ a b la lb q. one a b (omega arith) (omega arith) q) in
       let within : g < suc (length (functions_of fs)) = numbered_within (functions_of (f ∷ fs)) g callee e in
       let lt : g < suc (length fs) = subst (λ k. g < suc k) place within in
       let test = same_test (n.function g) own_name g (length (functions_of fs))
-          (λ e. one g (length fs) lt (omega arith) (e ∙ is_name) ∙ sym place)
-          (λ e. ap n.function (e ∙ place) ∙ sym is_name) in
+      (λ e. one g (length fs) lt (omega arith) (e ∙ is_name) ∙ sym place)
+      (λ e. ap n.function (e ∙ place) ∙ sym is_name) in
       let calls = run_numbered (functions_of fs) in
       let c = call_over (functions_of fs) calls f vs t in
       let there = length (functions_of fs) in

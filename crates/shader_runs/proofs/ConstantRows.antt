@@ -32,8 +32,13 @@ no_letter a e = cc
 
 free : OperatesOutside pair_module pair_names pair_word
 free =
-    record { asks_nothing = refl; operates = refl; functions = λ g lt. no_letter 102; constants = constants;
-        globals = λ i lt. no_letter 118 }
+    record {
+      asks_nothing = refl;
+      operates = refl;
+      functions = λ g lt. no_letter 102;
+      constants = constants;
+      globals = λ i lt. no_letter 118;
+    }
   where
     constants : (i : ℕ) → i < 3 → pair_names.constant i ≢ pair_word
     constants zero lt = no_letter 80
@@ -55,7 +60,7 @@ initialisers zero e q =
     })
 initialisers (suc zero) e q =
     subst (InitialiserFits pair_module pair_names (λ i. 1 - i) 1) (same_Some _ e q)
-        (record { range = tt; type = refl; words = tt; before = tt })
+    (record { range = tt; type = refl; words = tt; before = tt })
 initialisers (suc (suc i)) e q = absurd (none-some e q)
 
 pub constant_rows_hold : ConstantRowsHold

@@ -90,9 +90,11 @@ module _ (parts : PartTypes) (p : Module) (known : ℕ → Option Value) (m : Me
     trees_typed no_constant r t = ([], refl, refl)
     trees_typed (constant e es) r t =
         let a = tree_typed e r.0 t.0 in
-        let b = trees_typed es r.1 t.1 in
-        (a.0 ∷ b.0, ap (λ o. also o (tree_values known m es)) a.1 ∙ ap (also (Some a.0)) b.1,
-            and_both (has_type parts (constant_type p e) a.0) (has_types parts (constant_types_of p es) b.0) a.2 b.2)
+        let b = trees_typed es r.1 t.1 in (
+          a.0 ∷ b.0,
+          ap (λ o. also o (tree_values known m es)) a.1 ∙ ap (also (Some a.0)) b.1,
+          and_both (has_type parts (constant_type p e) a.0) (has_types parts (constant_types_of p es) b.0) a.2 b.2,
+        )
 
 -- where the same is known of the named constants, a tree has the same value
 module _ (known known' : ℕ → Option Value) (m : Meaning) (P : ℕ → Type 0)
@@ -162,8 +164,11 @@ joined_denoted m j (Some v) q t rest h = by (decides j v)
     undecided (Some z) = refl
 
     by : (b : Bool) →
-        elim b as (λ _. ReachedOrHalted Denotation) [ true ↦ Gives (IsValue v) t | false ↦ undecided_reached m j
-        v (rest t) ] ≡
+        elim b as (λ _. ReachedOrHalted Denotation) [
+          | true ↦ Gives (IsValue v) t
+          | false ↦ undecided_reached m j
+              v (rest t)
+        ] ≡
         denoted (cond b (Some v) (option_map (undecided_value m j v) q)) t
     by true = refl
     by false = ap (undecided_reached m j v) h ∙ undecided q

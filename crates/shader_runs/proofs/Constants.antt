@@ -127,8 +127,8 @@ values_after : (value : ConstantTree → Option Value) (es : List ConstantTree) 
     map Some vs ≡ map value es ++ map Some os → drop (length es) vs ≡ os
 values_after value es os vs e =
     same_Some (drop (length es) vs) os (sym (all_found_some (drop (length es) vs))
-        ∙ ap all_found (sym (drop-map Some (length es) vs) ∙ ap (drop (length es)) e ∙ following es)
-        ∙ all_found_some os)
+    ∙ ap all_found (sym (drop-map Some (length es) vs) ∙ ap (drop (length es)) e ∙ following es)
+    ∙ all_found_some os)
   where
     following : (es : List ConstantTree) → drop (length es) (map value es ++ map Some os) ≡ map Some os
     following [] = refl
@@ -156,7 +156,7 @@ constants_known n value value' [] j b k count os names eb ec each =
 constants_known n value value' (e ∷ es) j b k zero os names eb ec each = absurd (omega (arith, ec))
 constants_known n value value' (e ∷ es) j b k (suc count) os names eb ec each =
     let rest = constants_known n value value' es (suc j) b k count os names (omega (arith, eb))
-        (omega (arith, ec)) (λ i d. each (suc i) d) in
+    (omega (arith, ec)) (λ i d. each (suc i) d) in
     let own = each zero e refl in
     λ i. bind (rest i) (n.constant j) (own i)
 
@@ -166,7 +166,7 @@ no_constant_called : (n : ModuleNames) (word : Bytes) (es : List ConstantTree) (
 no_constant_called n word [] j other = refl
 no_constant_called n word (e ∷ es) j other =
     ap (λ b. b || list_any (λ c. same_bytes word c.name) (constants_from n (suc j) es))
-        (same_bytes_apart word (n.constant j) (λ q. other j (omega arith) (omega arith) (sym q)))
+    (same_bytes_apart word (n.constant j) (λ q. other j (omega arith) (omega arith) (sym q)))
     ∙ no_constant_called n word es (suc j) (λ i le lt. other i (omega (arith, le)) (omega (arith, lt)))
 
 initialised_denoted : (o : Option Value) → initialised_name (denoted o []) ≡ as_denoted o
@@ -191,7 +191,7 @@ module _ (p : Module) (n : ModuleNames) (fits : ConstantsFit p n) (s : Settings)
   may_name i e q =
       let f = fits.initialisers i e q in
       each_both IsLiteral (λ k. k < length p.constant_types)
-          (λ k. k < constant_count p → fits.rank k < fits.rank i) e f.range f.before
+      (λ k. k < constant_count p → fits.rank k < fits.rank i) e f.range f.before
 
   -- it is a constant of an earlier place, or an override
   by_kind : {A : Type 0} (i k : ℕ) → MayName i k →
@@ -205,7 +205,7 @@ module _ (p : Module) (n : ModuleNames) (fits : ConstantsFit p n) (s : Settings)
       settings.overrides
   found_counted (suc r) =
       found_length (tree_value (known_value (found_after p s m r)) m) p.initialisers p.parts p.constant_types
-          s.overrides fits.counted settings.overrides
+      s.overrides fits.counted settings.overrides
 
   -- the overrides have their values from the start
   override_typed : (rounds i : ℕ) → constant_count p ≤ i → i < length p.constant_types →
@@ -214,7 +214,7 @@ module _ (p : Module) (n : ModuleNames) (fits : ConstantsFit p n) (s : Settings)
       le lt settings.overrides
   override_typed (suc r) i le lt =
       override_here (tree_value (known_value (found_after p s m r)) m) p.initialisers p.parts p.constant_types
-          s.overrides i le lt settings.overrides
+      s.overrides i le lt settings.overrides
 
   override_first : (rounds i : ℕ) → constant_count p ≤ i → known_value (found_after p s m rounds) i
       ≡ known_value (found_after p s m 0) i
@@ -231,9 +231,11 @@ module _ (p : Module) (n : ModuleNames) (fits : ConstantsFit p n) (s : Settings)
       let before = known_value (found_after p s m r) in
       let v = tree_typed p.parts p before m (MayName i)
       (λ k may. by_kind i k may (λ d at less. found_typed r k d at (omega (arith, lt, less)))
-      (λ l. override_typed r k l may.0)) e (may_name i e q) (typed.initialisers i e q) in
-      (v.0, found_here (tree_value before m) p.initialisers s.overrides i e q ∙ v.1,
-          ap (λ k. has_type p.parts k v.0) (fits.initialisers i e q).type ∙ v.2)
+      (λ l. override_typed r k l may.0)) e (may_name i e q) (typed.initialisers i e q) in (
+        v.0,
+        found_here (tree_value before m) p.initialisers s.overrides i e q ∙ v.1,
+        ap (λ k. has_type p.parts k v.0) (fits.initialisers i e q).type ∙ v.2,
+      )
 
   -- and stays
   found_same : (rounds more i : ℕ) (e : ConstantTree) → slice_get p.initialisers i ≡ Some e →
@@ -261,7 +263,7 @@ module _ (p : Module) (n : ModuleNames) (fits : ConstantsFit p n) (s : Settings)
       (known_value all_rounds i)
   each_typed i lt =
       by_place p.initialisers i (λ e q l. found_typed (constant_count p) i e q (position_small i e q))
-          (λ l. override_typed (constant_count p) i l lt)
+      (λ l. override_typed (constant_count p) i l lt)
 
   -- the values of all
   values : (vs : List Value) × (all_rounds ≡ map Some vs) × IsTrue (has_types p.parts p.constant_types vs)
@@ -297,15 +299,20 @@ module _ (p : Module) (n : ModuleNames) (fits : ConstantsFit p n) (s : Settings)
   -- the computed constants solve the module's equations
   pub solution : IsSolution p s m env
   solution =
-      record { initialisers = constant_is; overrides = ap (drop (constant_count p)) constants_are
-          ∙ following (constant_count p) refl; globals = refl; parts = refl }
+      record {
+        initialisers = constant_is;
+        overrides = ap (drop (constant_count p)) constants_are
+            ∙ following (constant_count p) refl;
+        globals = refl;
+        parts = refl;
+      }
     where
       following : (rounds : ℕ) → rounds ≡ constant_count p → drop (constant_count p) values.0 ≡ s.overrides
       following zero e = values_after (λ e. None) p.initialisers s.overrides values.0
           (sym values.1 ∙ ap (found_after p s m) (sym e))
       following (suc r) e =
           values_after (tree_value (known_value (found_after p s m r)) m) p.initialisers s.overrides values.0
-              (sym values.1 ∙ ap (found_after p s m) (sym e))
+          (sym values.1 ∙ ap (found_after p s m) (sym e))
 
   -- and nothing else does
   module _ (other : Environment) (solves : IsSolution p s m other) where
@@ -327,7 +334,7 @@ module _ (p : Module) (n : ModuleNames) (fits : ConstantsFit p n) (s : Settings)
     each_agrees : (i : ℕ) → slice_get other.constants i ≡ slice_get env.constants i
     each_agrees i =
         by_place p.initialisers i (λ e q l. constant_agrees (constant_count p) i e q (position_small i e q))
-            (λ l. override_agrees i l)
+        (λ l. override_agrees i l)
 
     pub only_solution : other ≡ env
     only_solution =
@@ -358,15 +365,15 @@ module _ (p : Module) (n : ModuleNames) (fits : ConstantsFit p n) (s : Settings)
         sym (found_length value p.initialisers p.parts p.constant_types s.overrides fits.counted
         settings.overrides) ∙ counted value in
         constants_known n value value' p.initialisers 0 (constant_count p) (length (override_types p))
-            (length p.constant_types) s.overrides outside (omega arith) parted each
+        (length p.constant_types) s.overrides outside (omega arith) parted each
       where
         counted : (value : ConstantTree → Option Value) →
             length (map value p.initialisers ++ map Some s.overrides) ≡ constant_count p + length (override_types p)
         counted value =
             length-append (map value p.initialisers) (map Some s.overrides)
             ∙ ap₂ (λ a b. a + b) (length-map p.initialisers value)
-                (length-map s.overrides Some ∙ has_types_length p.parts (override_types p) s.overrides
-                settings.overrides)
+            (length-map s.overrides Some ∙ has_types_length p.parts (override_types p) s.overrides
+            settings.overrides)
 
     -- where the names stand for what is known, an operator's word is free and gives its value
     module _ (found : List (Option Value)) (counted : length found ≡ length p.constant_types) where
@@ -378,19 +385,19 @@ module _ (p : Module) (n : ModuleNames) (fits : ConstantsFit p n) (s : Settings)
           let at : i ≡ i + 0 = omega arith in
           ap (λ k. here (n.constant k)) at
           ∙ known_at n.constant (length p.constant_types) 0
-              (λ a b la lb e. fits.distinct a b (omega (arith, la)) (omega (arith, lb)) e) found outside counted i lt
+          (λ a b la lb e. fits.distinct a b (omega (arith, la)) (omega (arith, lb)) e) found outside counted i lt
 
       free : (word : Bytes) → OperatesOutside p n word → here word ≡ None
       free word o =
           known_other n.constant word (length p.constant_types) 0
-              (λ i le lt e. o.constants i (omega (arith, lt)) e) found outside
+          (λ i le lt e. o.constants i (omega (arith, lt)) e) found outside
           ∙ globals_other n.global word p.globals 0 (λ i le lt e. o.globals i (omega (arith, lt)) e) s.globals no_names
 
       undeclared : (word : Bytes) → OperatesOutside p n word → is_declared text word ≡ false
       undeclared word o =
           ap (λ b. b || names_function functions word)
-              (no_constant_called n word p.initialisers 0
-              (λ i le lt e. let counted = fits.counted in o.constants i (omega (arith, lt, counted)) e))
+          (no_constant_called n word p.initialisers 0
+          (λ i le lt e. let counted = fits.counted in o.constants i (omega (arith, lt, counted)) e))
           ∙ no_name_among p n functions within all word o.functions
 
       operates : (word : Bytes) → OperatesOutside p n word →
@@ -419,7 +426,7 @@ module _ (p : Module) (n : ModuleNames) (fits : ConstantsFit p n) (s : Settings)
           initialiser_value l here (constant_form n e) ≡ as_denoted (tree_value (known_value found) m e)
       gives e words range =
           ap initialised_name (tree_gives l here n (known_value found) (λ k. k < length p.constant_types)
-              constant_here (OperatesOutside p n) operates e words range [])
+          constant_here (OperatesOutside p n) operates e words range [])
           ∙ initialised_denoted (tree_value (known_value found) m e)
 
     -- each round of the text knows what the module's knows
@@ -443,8 +450,8 @@ module _ (p : Module) (n : ModuleNames) (fits : ConstantsFit p n) (s : Settings)
         ∙ sym (parameters_known names values.0 outside)
         ∙ ap (λ vs. with_parameters names vs outside) (sym constants_are)
         ∙ ap (λ gs. with_parameters names env.constants
-            (with_globals (globals_from n.global 0 p.globals) gs 0 no_names))
-            (sym (held_values p.parts p.globals s.globals settings.globals))
+        (with_globals (globals_from n.global 0 p.globals) gs 0 no_names))
+        (sym (held_values p.parts p.globals s.globals settings.globals))
 
     -- and an initialiser has the module's value
     pub initialiser_is : (e : ConstantTree) → EachWord (OperatesOutside p n) e → ConstantInRange p e →
@@ -460,6 +467,8 @@ module _ (p : Module) (n : ModuleNames) (fits : ConstantsFit p n) (s : Settings)
         denoted_value (Some v) = refl
 
 pub constants_are_computed : ConstantsAreComputed
-constants_are_computed p n fits s settings m typed =
-    (environment_fits p n fits s settings m typed, solution p n fits s settings m typed,
-        only_solution p n fits s settings m typed)
+constants_are_computed p n fits s settings m typed = (
+  environment_fits p n fits s settings m typed,
+  solution p n fits s settings m typed,
+  only_solution p n fits s settings m typed,
+)

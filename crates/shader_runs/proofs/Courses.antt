@@ -243,7 +243,7 @@ none_asked (stops x sound) t i le = refl
 none_asked (makes e c) t i le = none_asked c (e ∷ t) i le
 none_asked (asks parts k r next) t i le =
     let grown : suc (length t) ≤ events_made (filled (next (default_value k)) (r ∷ t)) =
-        filled_grows (next (default_value k)) (r ∷ t) in
+    filled_grows (next (default_value k)) (r ∷ t) in
     ap (λ b. now_or b k (asked (next (default_value k)) (r ∷ t) i)) (nat_apart (length t) i (omega (arith, le, grown)))
     ∙ none_asked (next (default_value k)) (r ∷ t) i le
 none_asked (counts next) t i le = none_asked (next (entries t)) t i le
@@ -263,7 +263,7 @@ is_asked_at (now {k = k} {r = r} {next = next} {t = t}) =
     ap (λ b. now_or b k (asked (next (default_value k)) (r ∷ t) (length t))) (eq-eqb (length t) (length t) refl)
 is_asked_at (answered_then {y = y} {r = r} {next = next} {t = t} {u = u} a) =
     ap (λ b. now_or b y (asked (next (default_value y)) (r ∷ t) (length u)))
-        (nat_apart (length t) (length u) (asks_later a))
+    (nat_apart (length t) (length u) (asks_later a))
     ∙ is_asked_at a
 is_asked_at (made_then a) = is_asked_at a
 is_asked_at (counted_then a) = is_asked_at a

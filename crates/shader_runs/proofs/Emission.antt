@@ -52,7 +52,7 @@ pub agree_update : (s : Handles) (kept : KeptValues) (h : ℕ) (o : Option Value
     (IsTrue (is_present (s h)) → o ≡ kept h) → Agree s kept (update kept h o)
 agree_update s kept h o a k p =
     update_cases (λ z. z ≡ kept k) kept h o k
-        (λ e. a (subst (λ k. IsTrue (is_present (s k))) e p) ∙ ap kept (sym e)) (λ e. refl)
+    (λ e. a (subst (λ k. IsTrue (is_present (s k))) e p) ∙ ap kept (sym e)) (λ e. refl)
 
 -- an event's handle wasn't in scope, and an operator's has the value that it had
 pub new_event : (c : Call) (s : Handles) (names : Scope) (kept : KeptValues) (y : ValueType)
@@ -192,8 +192,8 @@ barred_related c n s names kept h o r a = go (s h) refl
         (update kept h o)
     go Absent e =
         related_new c n s names names kept h Barred o r a
-            (λ p. absurd (true≢false (sym (ap is_present (sym e) ∙ p)))) (λ k. keeps_all names (s k))
-            (λ z here. refl) (λ w k. refl) tt
+        (λ p. absurd (true≢false (sym (ap is_present (sym e) ∙ p)))) (λ k. keeps_all names (s k))
+        (λ z here. refl) (λ w k. refl) tt
     go Barred e = same Barred e
     go Everywhere e = same Everywhere e
     go Inline e = same Inline e
@@ -204,7 +204,7 @@ abbrev pub GoesOn : (c : Call) → Names → (R : Option Value → Type 0) → (
     Handles → KeptValues → Handles → Next KeptValues → Next Scope → Type 0
 GoesOn c n R P Q B s kept s1 f g =
     (kept1 : KeptValues) (names1 : Scope) (t : List Event) → Related c n s1 names1 kept1 → Agree s kept kept1 →
-        Alike R P Q B (f kept1 t) (g names1 t)
+    Alike R P Q B (f kept1 t) (g names1 t)
 
 -- a `let`
 abbrev pub bound_next : ReachedOrHalted Value → Bytes → Scope → Next Scope → Outcome Scope
@@ -296,7 +296,7 @@ module _ (p : Module) (c : Call) (n : Names) (d : Respond) (facts : Facts p c n 
         Alike R P Q B (f (update kept h o) t) (follow_in_loop (words c d) bound tail names t)
     inline_at true u o un v e next =
         next (update kept h o) names t (inline_related c n s names kept h o r un (u refl) (v refl) e)
-            (agree_update s kept h o un)
+        (agree_update s kept h o un)
     inline_at false u o un v e next =
         next (update kept h o) names t (barred_related c n s names kept h o r un) (agree_update s kept h o un)
 
@@ -320,7 +320,7 @@ module _ (p : Module) (c : Call) (n : Names) (d : Respond) (facts : Facts p c n 
         TypedValue c.environment.parts (handle_type c.function h) (computed_value c kept e)
     value_there e q =
         subst (λ e. IsTrue (is_pure e) → IsTrue (usable_all c.function s (operands_of e)) →
-            TypedValue c.environment.parts (handle_type c.function h) (computed_value c kept e)) q value_there_own
+        TypedValue c.environment.parts (handle_type c.function h) (computed_value c kept e)) q value_there_own
 
     unchanged : (e : Option Expression) → expression_of c.function h ≡ e → IsTrue (is_present (s h)) →
         computed_value c kept e ≡ kept h
@@ -354,8 +354,8 @@ module _ (p : Module) (c : Call) (n : Names) (d : Respond) (facts : Facts p c n 
         (handle_type c.function h) e z y l (computed_value c kept e)
         v refl m.0 (all_here p c n d facts s names kept r (operands_of e) m.0) in
         let_at m.1 next (computed_value c kept e) (unchanged e q) v
-            (value_of (words c d) (value_form own) names t)
-            (value_form_gives c d names own (computed_value c kept e) means t)
+        (value_of (words c d) (value_form own) names t)
+        (value_form_gives c d names own (computed_value c kept e) means t)
     emit_pure false e q z y l m next =
         inline_at (usable_all c.function s (operands_of e))
         (λ u. subst (λ e. IsTrue (usable_all c.function s (operands_of e))) (sym q) u)
@@ -498,4 +498,4 @@ emit_alike p c n d facts R P Q B bound f tail k (h ∷ hs) s names kept t r m ne
     (λ kept2 names2 t2 r2 a2. next kept2 names2 t2 r2
     (agree_trans s s1 kept kept1 kept2 x a1 a2))) in
     subst (λ o. Alike R P Q B o (follow_in_loop (words c d) bound (lets (naming c n) k (h ∷ hs) s tail) names
-        t)) (sym (then_assoc (emit_as c h (expression_of c.function h) kept t) (emit c hs) f)) there
+    t)) (sym (then_assoc (emit_as c h (expression_of c.function h) kept t) (emit c hs) f)) there

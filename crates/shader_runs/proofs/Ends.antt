@@ -29,12 +29,12 @@ module _ (c : Call) (n : ℕ) where
   abbrev EndsOf : Statements → Type 0
   EndsOf ss =
       (kept : KeptValues) (t : List Event) → IsTrue (is_early (run_all c n ss kept t)) →
-          EndsAt c n ss kept t (run_all c n ss kept t)
+      EndsAt c n ss kept t (run_all c n ss kept t)
 
   abbrev EndsOne : Statement → Type 0
   EndsOne st =
       (ss : Statements) (kept : KeptValues) (t : List Event) → IsTrue (is_early (run c n st kept t)) →
-          EndsAt c n (then st ss) kept t (run c n st kept t)
+      EndsAt c n (then st ss) kept t (run c n st kept t)
 
   ends_after : (st : Statement) (ss : Statements) (kept kept1 : KeptValues) (t t1 : List Event)
       (o : Outcome KeptValues) → run c n st kept t ≡ Done kept1 t1 → EndsAt c n ss kept1 t1 o →
@@ -113,7 +113,7 @@ module _ (c : Call) (n : ℕ) where
   abbrev OnTo : Cases → KeptValues → List Event → Outcome KeptValues → Type 0
   OnTo cs kept t o =
       (i : ℕ) × (kept1 : KeptValues) × (t1 : List Event) × FallsTo c n cs i kept t kept1 t1
-          × EndsAt c n (body_at cs i) kept1 t1 o
+      × EndsAt c n (body_at cs i) kept1 t1 o
 
   abbrev EndsOn : Cases → Type 0
   EndsOn cs = (kept : KeptValues) (t : List Event) → IsTrue (is_early (run_on c n cs kept t)) →
@@ -123,12 +123,12 @@ module _ (c : Call) (n : ℕ) where
   abbrev ForTo : CaseValue → Cases → KeptValues → List Event → Outcome KeptValues → Type 0
   ForTo x cs kept t o =
       (i : ℕ) × (kept1 : KeptValues) × (t1 : List Event) × ComesToCase c n x cs i kept t kept1 t1
-          × EndsAt c n (body_at cs i) kept1 t1 o
+      × EndsAt c n (body_at cs i) kept1 t1 o
 
   abbrev EndsFor : Cases → Type 0
   EndsFor cs =
       (x : CaseValue) (kept : KeptValues) (t : List Event) → IsTrue (is_early (run_cases c n cs x kept t)) →
-          ForTo x cs kept t (run_cases c n cs x kept t)
+      ForTo x cs kept t (run_cases c n cs x kept t)
 
   abbrev Goes_on : Bool → Cases → Next KeptValues
   Goes_on falls cs kept t = cond falls (run_on c n cs kept t) (Done kept t)
@@ -190,7 +190,7 @@ module _ (c : Call) (n : ℕ) where
           let keeps = switch_keeps (run_cases c n cs x kept t) early in
           let w = cases x kept t keeps.1 in
           subst (λ o. EndsAt c n (then (Switch h cs) ss) kept t o) (sym keeps.0)
-              (ends_inside (Switch h cs) _ ss kept w.1 t w.2 (run_cases c n cs x kept t) (into_case e w.3) w.4)
+          (ends_inside (Switch h cs) _ ss kept w.1 t w.2 (run_cases c n cs x kept t) (into_case e w.3) w.4)
       go _ e early = not_early early
 
   -- what ends a loop early
@@ -203,7 +203,7 @@ module _ (c : Call) (n : ℕ) where
   abbrev LastTurn : Next KeptValues → ℕ → KeptValues → List Event → Outcome KeptValues → Type 0
   LastTurn once m kept t o =
       (j : ℕ) × (kept1 : KeptValues) × (t1 : List Event) × (j < m) × (after_turns once j kept t ≡ Done kept1 t1)
-          × IsTrue (ends_loop (once kept1 t1)) × (o ≡ once kept1 t1)
+      × IsTrue (ends_loop (once kept1 t1)) × (o ≡ once kept1 t1)
 
   last_turn : (once : Next KeptValues) (m : ℕ) (kept : KeptValues) (t : List Event) →
       IsTrue (is_early (turns m once kept t)) → LastTurn once m kept t (turns m once kept t)
@@ -252,10 +252,10 @@ module _ (c : Call) (n : ℕ) where
         go (Broke k1 t3) own early = not_early early
         go (Returned v t3) own early =
             ends_inside (Loop b d e) (Continuing j) ss kept k t t2 (Returned v t3)
-                (into_loop (to_continuing (to_body less done) q)) (own early)
+            (into_loop (to_continuing (to_body less done) q)) (own early)
         go (Stopped x t3) own early =
             ends_inside (Loop b d e) (Continuing j) ss kept k t t2 (Stopped x t3)
-                (into_loop (to_continuing (to_body less done) q)) (own early)
+            (into_loop (to_continuing (to_body less done) q)) (own early)
 
     turn_ends : IsTrue (ends_loop (module_turn c n b d e kept1 t1)) → Ends (module_turn c n b d e kept1 t1)
     turn_ends = go (run_all c n b kept1 t1) refl (in_b kept1 t1)
@@ -270,22 +270,22 @@ module _ (c : Call) (n : ℕ) where
         go (Broke k t2) q own early = not_early early
         go (Returned v t2) q own early =
             ends_inside (Loop b d e) (LoopBody j) ss kept kept1 t t1 (Returned v t2)
-                (into_loop (to_body less done)) (own early)
+            (into_loop (to_body less done)) (own early)
         go (Stopped x t2) q own early =
             ends_inside (Loop b d e) (LoopBody j) ss kept kept1 t t1 (Stopped x t2)
-                (into_loop (to_body less done)) (own early)
+            (into_loop (to_body less done)) (own early)
 
   loop_ends : (b d : Statements) (e : Option ℕ) → EndsOf b → EndsOf d → EndsOne (Loop b d e)
   loop_ends b d e in_b in_d ss kept t early =
       let w = last_turn (module_turn c n b d e) n kept t early in
       subst (λ o. EndsAt c n (then (Loop b d e) ss) kept t o) (sym w.6)
-          (turn_ends b d e ss in_b in_d kept w.1 t w.2 w.0 w.3 w.4 w.5)
+      (turn_ends b d e ss in_b in_d kept w.1 t w.2 w.0 w.3 w.4 w.5)
 
   mutual
     one_ends : (st : Statement) → EndsOne st
     one_ends (Block b) =
         λ ss kept t early. ends_inside (Block b) Inner ss kept kept t t (run_all c n b kept t) into_block
-            (all_ends b kept t early)
+        (all_ends b kept t early)
     one_ends (If h a b) = if_ends h a b (all_ends a) (all_ends b)
     one_ends (Switch h cs) = switch_ends h cs (cases_end cs).1
     one_ends (Loop b d e) = loop_ends b d e (all_ends b) (all_ends d)
@@ -306,7 +306,7 @@ module _ (c : Call) (n : ℕ) where
       ≡ Done kept1 t1 → Passes c n ss (end_of ss) kept t kept1 t1
   end_passed end kept kept1 t t1 e =
       subst (λ k. Passes c n end here kept t k t1) (same_state kept kept1 t t1 e)
-          (subst (λ x. Passes c n end here kept t kept x) (same_events kept kept1 t t1 e) is_here)
+      (subst (λ x. Passes c n end here kept t kept x) (same_events kept kept1 t t1 e) is_here)
   end_passed (then st ss) kept kept1 t t1 e =
       let parts = then_parts (run c n st kept t) (run_all c n ss) kept1 t1 e in
       goes_after parts.2 (end_passed ss parts.0 kept1 parts.1 t1 parts.3)

@@ -125,7 +125,7 @@ module _ (calls : ℕ → List Value → Course) where
     load_enters parts k h kept None t = tt
     load_enters parts k h kept (Some v) t =
         there_enters (place_in v) (λ p. keeping parts k h (Read p) kept)
-            (λ p. keeping_enters parts k h (Read p) kept tt) t
+        (λ p. keeping_enters parts k h (Read p) kept tt) t
 
     ask_enters : (parts : PartTypes) (k : ValueType) (h : ℕ) (word : Bytes) (kept : KeptValues)
         (o : Option (List Value)) → Enters (ask_process parts k h word kept o)
@@ -144,13 +144,13 @@ module _ (calls : ℕ → List Value → Course) where
           let parts = c.environment.parts in
           let k = handle_type c.function h in
           chosen_enters (is_counted c.function h) (load_process parts k h kept (used_value c kept p))
-              (gives (DoneWith kept)) (load_enters parts k h kept (used_value c kept p)) (λ t. tt)
+          (gives (DoneWith kept)) (load_enters parts k h kept (used_value c kept p)) (λ t. tt)
       one_enters h (Some (Request w xs es)) kept =
           let parts = c.environment.parts in
           let k = handle_type c.function h in
           let o = joined_values (used_values c kept xs) (constant_values c.environment c.meaning es) in
           chosen_enters (is_counted c.function h) (ask_process parts k h w kept o) (gives (DoneWith kept))
-              (ask_enters parts k h w kept o) (λ t. tt)
+          (ask_enters parts k h w kept o) (λ t. tt)
       one_enters h _ kept = λ t. tt
 
       emit_enters : (hs : List ℕ) (kept : KeptValues) → Enters (emit_process c callees hs kept)
@@ -226,7 +226,7 @@ module _ (calls : ℕ → List Value → Course) where
               list_enters b kept t,
               then_enters (λ s. if_true falls (on_process c callees ks s) (gives (DoneWith s)))
                   (λ s. chosen_enters falls (on_process c callees ks s) (gives (DoneWith s)) (on_enters ks s)
-                      (λ t. tt)),
+                  (λ t. tt)),
             )) (cases_enter ks x kept)
 
         on_enters : (ks : Cases) (kept : KeptValues) → Enters (on_process c callees ks kept)
@@ -250,7 +250,7 @@ module _ (env : Environment) (m : Meaning) (functions : List Function) (n : ℕ)
   fewer_last : (f : Function) (fs : List Function) → AreLast (f ∷ fs) → AreLast fs
   fewer_last f fs last g lt vs =
       last g (omega (arith, lt)) vs ∙ ap (λ b. if_true b own (call_process env m fs g vs))
-          (ne_eqb g (length fs) (λ e. omega (arith, lt, e)))
+      (ne_eqb g (length fs) (λ e. omega (arith, lt, e)))
     where
       own : Process
       own =
@@ -308,7 +308,7 @@ module _ (env : Environment) (m : Meaning) (functions : List Function) (n : ℕ)
           Entered call_course (course n (if_true b (body t) stuck)) t
       own t true e rest =
           entry t (first_used_all (call t) (constants_kept f env m) f.first_values) refl
-              (begins t ∙ ap (λ b. course n (if_true b (body t) stuck)) e) rest
+          (begins t ∙ ap (λ b. course n (if_true b (body t) stuck)) e) rest
       own t false e rest = tt
 
   -- each entry of a call's course is where a call begins
@@ -338,7 +338,7 @@ call_opens env m (f ∷ fs) n g vs = go (nat_eq g (length fs)) (call_opens env m
         let c = call_alone f fs env m vs frame in
         let kept = constants_kept f env m in
         entry (first_used_all c kept f.first_values)
-            (sequence (list_process c (call_process env m fs) f.body kept) answers_call)
+        (sequence (list_process c (call_process env m fs) f.body kept) answers_call)
     own false frame = tt
 
     go : (b : Bool) → IsOpening (course n (call_process env m fs g vs)) →

@@ -111,7 +111,7 @@ value_forms_give c d names kept operand (x ∷ xs) m t =
     let rest = evaluate_all (words c d) (value_forms operand xs) names in
     ap (λ r. followed_by r rest) (value_form_gives c d names (operand x) (used_value c kept x) m.0 t)
     ∙ followed_reached (used_value c kept x) (used_values c kept xs) t rest
-        (value_forms_give c d names kept operand xs m.1)
+    (value_forms_give c d names kept operand xs m.1)
 
 pub operator_responds : (p : Module) (c : Call) (n : Names) (d : Respond) → Responds p c n d →
     (w : Bytes) → OperatesBy p (naming c n) w → (vs : List Value) (t : List Event) →
@@ -213,7 +213,7 @@ pub index_value : (parts : PartTypes) (m : Meaning) (x y v : Value) → place_in
 index_value parts m x y v n e p rest t q r =
     let same = same_Some (m IndexWord (x ∷ y ∷ [])) v (sym (index_value_is parts m x y n) ∙ e) in
     ap (λ p. index_into parts m p rest) q ∙ ap (λ o. unless o t (index_reached m x (rest t))) n
-        ∙ ap (index_reached m x) r ∙ ap (λ v. Gives (IsValue v) t) same
+    ∙ ap (index_reached m x) r ∙ ap (λ v. Gives (IsValue v) t) same
 
 pub part_picked_value : (parts : PartTypes) (w : World) (m : Meaning) (x : Selector) (b v : Value) → place_in b ≡ None →
     part_value parts m x b ≡ Some v → (p : ReachedOrHalted Denotation) (t : List Event) →
@@ -221,7 +221,7 @@ pub part_picked_value : (parts : PartTypes) (w : World) (m : Meaning) (x : Selec
 part_picked_value parts w m x b v n e p t q =
     let same = same_Some (m (PartWord x) (b ∷ [])) v (sym (part_value_is parts m x b n) ∙ e) in
     ap (part_picked parts w m x) q ∙ ap (λ o. unless o t (Gives (IsValue (m (PartWord x) (b ∷ []))) t)) n
-        ∙ ap (λ v. Gives (IsValue v) t) same
+    ∙ ap (λ v. Gives (IsValue v) t) same
 
 -- the two sides of `&&` and `||`
 pub logical_reached_value : (m : Meaning) (j : ShortCircuit) (l r : Value)
@@ -231,8 +231,11 @@ pub logical_reached_value : (m : Meaning) (j : ShortCircuit) (l r : Value)
 logical_reached_value m j l r p rest t e q = ap (λ p. logical_reached m j p rest) e ∙ go (decides j l)
   where
     go : (b : Bool) →
-        elim b as (λ _. ReachedOrHalted Denotation) [ true ↦ Gives (IsValue l) t | false ↦ undecided_reached m j
-        l (rest t) ] ≡ Gives (IsValue (cond b l (undecided_value m j l r))) t
+        elim b as (λ _. ReachedOrHalted Denotation) [
+          | true ↦ Gives (IsValue l) t
+          | false ↦ undecided_reached m j
+              l (rest t)
+        ] ≡ Gives (IsValue (cond b l (undecided_value m j l r))) t
     go true = refl
     go false = ap (undecided_reached m j l) q
 
@@ -244,7 +247,7 @@ module _ (c : Call) (d : Respond) (names : Scope) where
   index_place pt b i x y v mb mi h e =
       let q = pointer_typed c.environment.parts (PointerType pt) tt x h in
       element q.0 (ap place_in q.1) (option_and_then (place_at c.environment.parts q.0) (integer_in y)) refl
-          (sym (ap (λ x. index_value_of c.environment.parts c.meaning x y) q.1) ∙ e)
+      (sym (ap (λ x. index_value_of c.environment.parts c.meaning x y) q.1) ∙ e)
     where
       element : (p : Place) → place_in x ≡ Some p → (o : Option Place) →
           option_and_then (place_at c.environment.parts p) (integer_in y) ≡ o →
@@ -283,7 +286,7 @@ module _ (c : Call) (d : Respond) (names : Scope) where
   part_place pt x b y v mb h e =
       let q = pointer_typed c.environment.parts (PointerType pt) tt y h in
       part q.0 q.1 (place_to c.environment.parts q.0 x) refl
-          (sym (ap (part_value c.environment.parts c.meaning x) q.1) ∙ e)
+      (sym (ap (part_value c.environment.parts c.meaning x) q.1) ∙ e)
     where
       part : (p : Place) → y ≡ Pointer p → (o : Option Place) → place_to c.environment.parts p x ≡ o →
           option_map Pointer o ≡ Some v → Means c d names (AsPlace (PartOf x (place_form b))) (Some v)
@@ -301,7 +304,7 @@ module _ (c : Call) (d : Respond) (names : Scope) where
       Means c d names (AsValue (PartOf x (value_form b))) (Some v)
   part_value_means x b y v mb h e t =
       part_picked_value c.environment.parts c.world c.meaning x y v h e
-          (evaluate (words c d) (value_form b) names t) t (value_form_denotes c d names b (Some y) mb t)
+      (evaluate (words c d) (value_form b) names t) t (value_form_denotes c d names b (Some y) mb t)
 
   pub part_means : (k : ValueType) (x : Selector) (b : Plain) (y v : Value) →
       Means c d names b (Some y) → IsTrue (has_type c.environment.parts k y) →

@@ -134,14 +134,14 @@ module _ (p : Module) (env : Environment) (fits : EnvironmentFits p env) (m : Me
       TypedValue env.parts (constant_type p e) (constant_value env m e)
   constant_typed =
       tree_typed env.parts p (slice_get env.constants) m (λ i. i < length p.constant_types)
-          (has_type_at env.parts p.constant_types env.constants fits.constants)
+      (has_type_at env.parts p.constant_types env.constants fits.constants)
 
   pub constants_typed : (es : ConstantTrees) → ConstantsInRange p es →
       ConstantsTyped env.parts p m es → (vs : List Value) × (constant_values env m es ≡ Some vs) ×
       IsTrue (has_types env.parts (constant_types_of p es) vs)
   constants_typed =
       trees_typed env.parts p (slice_get env.constants) m (λ i. i < length p.constant_types)
-          (has_type_at env.parts p.constant_types env.constants fits.constants)
+      (has_type_at env.parts p.constant_types env.constants fits.constants)
 
 retyped : (parts : PartTypes) (k k' : ValueType) (o : Option Value) → k ≡ k' → TypedValue parts k' o →
     TypedValue parts k o
@@ -157,7 +157,7 @@ module _ (p : Module) (c : Call)
       IsTrue (usable_as c.function e st) → TypedValue c.environment.parts k (used_value_as c e o)
   used_typed k (Some (Constant e)) l m o st v u =
       retyped c.environment.parts k (constant_type p e) (constant_value c.environment c.meaning e) l.1
-          (constant_typed p c.environment environment c.meaning e l.0 m)
+      (constant_typed p c.environment environment c.meaning e l.0 m)
   used_typed k (Some (Argument i)) l m o st v u =
       retyped c.environment.parts k (type_at c.function.argument_types i) (slice_get c.arguments i)
       l (has_type_at c.environment.parts c.function.argument_types c.arguments arguments i
@@ -166,7 +166,7 @@ module _ (p : Module) (c : Call)
       let pointer = local_pointer c.function i in
       let place = Pointer (Rooted (LocalRoot pointer c.frame i)) in
       retyped c.environment.parts k (PointerType pointer) (Some place) l
-          (place, refl, same_type_self (PointerType pointer))
+      (place, refl, same_type_self (PointerType pointer))
   used_typed k (Some (Global held i)) l m o st v u =
       go (global_at c.environment.parts p.globals c.environment.globals environment.globals i l.0)
     where
@@ -219,9 +219,11 @@ module _ (p : Module) (c : Call) (s : Handles) (kept : KeptValues) (each : UsesT
       (joined_values (used_values c kept xs) (constant_values c.environment c.meaning es) ≡ Some vs)
   request_there environment xs es i k u =
       let a = all_typed xs u in
-      let b = constants_typed p c.environment environment c.meaning es i k in
-      (a.0 ++ b.0, ap (λ o. joined_values o (constant_values c.environment c.meaning es)) a.1
-          ∙ ap (joined_values (Some a.0)) b.1)
+      let b = constants_typed p c.environment environment c.meaning es i k in (
+        a.0 ++ b.0,
+        ap (λ o. joined_values o (constant_values c.environment c.meaning es)) a.1
+            ∙ ap (joined_values (Some a.0)) b.1,
+      )
 
 module _ (p : Module) (c : Call) (n : Names) (d : Respond) (facts : Facts p c n d) (s : Handles) (names : Scope)
     (kept : KeptValues) (r : Related c n s names kept) where
@@ -242,7 +244,7 @@ module _ (p : Module) (c : Call) (n : Names) (d : Respond) (facts : Facts p c n 
       TypedValue c.environment.parts (handle_type c.function h) (used_value c kept h)
   typed_value h u =
       typed_value_as (handle_type c.function h) (expression_of c.function h) (facts.leaves h)
-          (facts.typed.constants h) (kept h) (s h) (r.availability h) u
+      (facts.typed.constants h) (kept h) (s h) (r.availability h) u
 
   pub values_here : (xs : List ℕ) → IsTrue (usable_all c.function s xs) → (vs : List Value)
       × (used_values c kept xs ≡ Some vs) × IsTrue (has_types c.environment.parts (handle_types c.function xs) vs)
@@ -257,9 +259,9 @@ module _ (p : Module) (c : Call) (n : Names) (d : Respond) (facts : Facts p c n 
       ≡ as_denoted (slice_get c.environment.constants i)
   constant_here i lt =
       r.fixed (ConstantName i)
-          (subst (λ k. i
-          < k) (sym (has_types_length c.environment.parts p.constant_types c.environment.constants
-          facts.environment.constants)) lt)
+      (subst (λ k. i
+      < k) (sym (has_types_length c.environment.parts p.constant_types c.environment.constants
+      facts.environment.constants)) lt)
 
   operator_here : (w : Bytes) → OperatesBy p (naming c n) w →
       (os : Option (List Value)) (t : List Event) →
@@ -272,7 +274,7 @@ module _ (p : Module) (c : Call) (n : Names) (d : Respond) (facts : Facts p c n 
       (constant_value c.environment c.meaning e) t
   constant_gives =
       tree_gives (words c d) names n.outer (slice_get c.environment.constants)
-          (λ i. i < length p.constant_types) constant_here (OperatesBy p (naming c n)) operator_here
+      (λ i. i < length p.constant_types) constant_here (OperatesBy p (naming c n)) operator_here
 
   pub constants_give : (es : ConstantTrees) → ConstantsWords p (naming c n) es →
       ConstantsInRange p es →
@@ -280,7 +282,7 @@ module _ (p : Module) (c : Call) (n : Names) (d : Respond) (facts : Facts p c n 
       (constant_values c.environment c.meaning es) t
   constants_give =
       trees_give (words c d) names n.outer (slice_get c.environment.constants)
-          (λ i. i < length p.constant_types) constant_here (OperatesBy p (naming c n)) operator_here
+      (λ i. i < length p.constant_types) constant_here (OperatesBy p (naming c n)) operator_here
 
   joined_none : (o : Option (List Value)) → joined_values (Some []) o ≡ o
   joined_none None = refl
@@ -306,7 +308,7 @@ module _ (p : Module) (c : Call) (n : Names) (d : Respond) (facts : Facts p c n 
       let us = constant_values c.environment c.meaning es in
       ap (λ r. followed_by r rest) (value_form_gives c d names (operand x) (used_value c kept x) m.0 t)
       ∙ followed_reached (used_value c kept x) (joined_values (used_values c kept xs) us) t rest
-          (request_forms_give operand xs es w i m.1)
+      (request_forms_give operand xs es w i m.1)
       ∙ ap (λ o. reach o t) (joined_also (used_value c kept x) (used_values c kept xs) us)
 
   pub request_values : (xs : List ℕ) (es : ConstantTrees) → ConstantsInRange p es →
@@ -323,9 +325,11 @@ module _ (p : Module) (c : Call) (n : Names) (d : Respond) (facts : Facts p c n 
   local_means : (i : ℕ) → IsTrue (nat_lt i (local_count c.function)) →
       Means c d names (AsPlace (Name (n.local_ i)))
       (Some (Pointer (Rooted (LocalRoot (local_pointer c.function i) c.frame i))))
-  local_means i u =
-      (Rooted (LocalRoot (local_pointer c.function i) c.frame i), refl,
-          λ t. ap (λ z. reach z t) (r.fixed (LocalName i) (ltb-true i (local_count c.function) u)))
+  local_means i u = (
+    Rooted (LocalRoot (local_pointer c.function i) c.frame i),
+    refl,
+    λ t. ap (λ z. reach z t) (r.fixed (LocalName i) (ltb-true i (local_count c.function) u)),
+  )
 
   global_as_means : (x : VariableShape) (i : ℕ) (g : GlobalValue) →
       names (n.outer.global i) ≡ stored_denoted i g →
@@ -354,7 +358,7 @@ module _ (p : Module) (c : Call) (n : Names) (d : Respond) (facts : Facts p c n 
       go (global_there g e h) =
           let x = variable_shape_at p.globals i in
           subst (λ b. Means c d names (global_form b (Name (n.outer.global i)))
-              (global_value i (slice_get c.environment.globals i)))
+          (global_value i (slice_get c.environment.globals i)))
           (sym q)
           (subst (λ o. Means c d names (global_form (is_held x) (Name (n.outer.global i))) (global_value i o))
           (sym e) (global_as_means x i g (r.fixed (GlobalName i) here ∙ ap (global_as i) e) h))
@@ -366,7 +370,7 @@ module _ (p : Module) (c : Call) (n : Names) (d : Respond) (facts : Facts p c n 
         Means c d names (own_form (naming c n) operand (Some (Operator w xs))) o
     operator_means w xs f o e m t =
         ap (λ q. as_value (unless (names w) t (word_answer (words c d) w q)))
-            (value_forms_give c d names kept operand xs m t)
+        (value_forms_give c d names kept operand xs m t)
         ∙ applied_reached p c n d facts.responds w f (names w) (free w f.2.1) (used_values c kept xs) t
         ∙ ap (λ o. denoted o t) (applied_gathered (used_values c kept xs) ∙ sym e)
       where
@@ -384,7 +388,7 @@ module _ (p : Module) (c : Call) (n : Names) (d : Respond) (facts : Facts p c n 
     base_typed b x u e =
         let z = typed_value b u in
         subst (λ x. IsTrue (has_type c.environment.parts (handle_type c.function b) x))
-            (same_Some z.0 x (sym z.1 ∙ e)) z.2
+        (same_Some z.0 x (sym z.1 ∙ e)) z.2
 
     index_there : (b i : ℕ) (o : Option Value) (y : ValueType) →
         TypedValue c.environment.parts y o → o ≡ computed_value c kept (Some (Access b i)) →
@@ -392,7 +396,7 @@ module _ (p : Module) (c : Call) (n : Names) (d : Respond) (facts : Facts p c n 
         Means c d names (own_form (naming c n) operand (Some (Access b i))) o
     index_there b i o y v e u m =
         go (two_there c.environment.parts c.meaning (Some (Access b i)) (used_value c kept b)
-            (used_value c kept i) v.0 (sym e ∙ v.1))
+        (used_value c kept i) v.0 (sym e ∙ v.1))
       where
         go : TwoOf c.environment.parts c.meaning (Some (Access b i)) (used_value c kept b)
             (used_value c kept i) v.0 → Means c d names (own_form (naming c n) operand (Some (Access b i))) o
@@ -441,7 +445,7 @@ module _ (p : Module) (c : Call) (n : Names) (d : Respond) (facts : Facts p c n 
         Means c d names (own_form (naming c n) operand (Some (Logical j a b))) o
     logical_there j a b o y v e m =
         go (two_there c.environment.parts c.meaning (Some (Logical j a b)) (used_value c kept a)
-            (used_value c kept b) v.0 (sym e ∙ v.1))
+        (used_value c kept b) v.0 (sym e ∙ v.1))
       where
         go : TwoOf c.environment.parts c.meaning (Some (Logical j a b)) (used_value c kept a)
             (used_value c kept b) v.0 → Means c d names (own_form (naming c n) operand (Some (Logical j a b))) o
@@ -541,9 +545,10 @@ module _ (p : Module) (c : Call) (n : Names) (d : Respond) (facts : Facts p c n 
       (xs : List ℕ) → AllBelow h xs → IsTrue (usable_all c.function s xs) →
       AllMean c d names kept (written_below (naming c n) s bound) xs
   all_below bound h le f [] b u = tt
-  all_below bound h le f (x ∷ xs) b u =
-      (f x (omega (arith, b.0)) (and_left (usable c.function s x) (usable_all c.function s xs) u),
-          all_below bound h le f xs b.1 (and_right (usable c.function s x) (usable_all c.function s xs) u))
+  all_below bound h le f (x ∷ xs) b u = (
+    f x (omega (arith, b.0)) (and_left (usable c.function s x) (usable_all c.function s xs) u),
+    all_below bound h le f xs b.1 (and_right (usable c.function s x) (usable_all c.function s xs) u),
+  )
 
   written_below_means : (bound : ℕ) (h : ℕ) → h < bound → IsTrue (usable c.function s h) →
       Means c d names (written_below (naming c n) s bound h) (used_value c kept h)
@@ -570,9 +575,10 @@ module _ (p : Module) (c : Call) (n : Names) (d : Respond) (facts : Facts p c n 
   pub all_here : (xs : List ℕ) → IsTrue (usable_all c.function s xs) →
       AllMean c d names kept (written_form (naming c n) s) xs
   all_here [] u = tt
-  all_here (x ∷ xs) u =
-      (written_means x (and_left (usable c.function s x) (usable_all c.function s xs) u),
-          all_here xs (and_right (usable c.function s x) (usable_all c.function s xs) u))
+  all_here (x ∷ xs) u = (
+    written_means x (and_left (usable c.function s x) (usable_all c.function s xs) u),
+    all_here xs (and_right (usable c.function s x) (usable_all c.function s xs) u),
+  )
 
   pub value_here : (h : ℕ) → IsTrue (usable c.function s h) → (t : List Event) →
       value_of (words c d) (value_form (written_form (naming c n) s h)) names t ≡ reach (used_value c kept h) t

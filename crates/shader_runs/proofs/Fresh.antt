@@ -112,9 +112,11 @@ module _ (p : Module) (c : Call) (n : Names) (environment : EnvironmentFits p c.
         Sources (naming c n) k s → IsRegular p c.callees (naming c n) st → OnlyEmptyFalls st →
         IsTrue (fits (naming c n) k st s) → Fits p c n k st s
     fits_fresh (Emit first count) k s le d w o m = emit_fresh k (from first count) s le d m
-    fits_fresh (Store q v) k s le d w o m =
-        (and_left (usable c.function s q) (usable c.function s v) m, and_right (usable c.function s q)
-            (usable c.function s v) m)
+    fits_fresh (Store q v) k s le d w o m = (
+      and_left (usable c.function s q) (usable c.function s v) m,
+      and_right (usable c.function s q)
+          (usable c.function s v) m,
+    )
     fits_fresh (Block b) k s le d w o m = all_fresh b k s le d w o m
     fits_fresh (If x a b) k s le d w o m =
         let k1 = named_by_all c.function a k in
@@ -139,9 +141,11 @@ module _ (p : Module) (c : Call) (n : Names) (environment : EnvironmentFits p c.
         let fd = fits_all (naming c n) k1 b2 s1 in
         let u = usable_if c.function (after_all (naming c n) k1 b2 s1) e in
         let more = list_more (naming c n) b2 k1 in
-        let both = and_right fb (fd && u) m in
-        (all_fresh b k s (omega (arith, le, more)) d w.0 o.0 (and_left fb (fd && u) m),
-            all_fresh b2 k1 s1 le (sources_all (naming c n) k b s d) w.1 o.1 (and_left fd u both), and_right fd u both)
+        let both = and_right fb (fd && u) m in (
+          all_fresh b k s (omega (arith, le, more)) d w.0 o.0 (and_left fb (fd && u) m),
+          all_fresh b2 k1 s1 le (sources_all (naming c n) k b s d) w.1 o.1 (and_left fd u both),
+          and_right fd u both,
+        )
     fits_fresh (Jumps (Return v)) k s le d w o m = (m, w)
     fits_fresh (Jumps _) k s le d w o m = tt
     fits_fresh (Barrier bits) k s le d w o m = w
@@ -158,9 +162,10 @@ module _ (p : Module) (c : Call) (n : Names) (environment : EnvironmentFits p c.
         let s1 = after (naming c n) k st s in
         let fa = fits (naming c n) k st s in
         let fb = fits_all (naming c n) k1 ss s1 in
-        let more = list_more (naming c n) ss k1 in
-        (fits_fresh st k s (omega (arith, le, more)) d w.0 o.0 (and_left fa fb m),
-            all_fresh ss k1 s1 le (sources_after (naming c n) k st s d) w.1 o.1 (and_right fa fb m))
+        let more = list_more (naming c n) ss k1 in (
+          fits_fresh st k s (omega (arith, le, more)) d w.0 o.0 (and_left fa fb m),
+          all_fresh ss k1 s1 le (sources_after (naming c n) k st s d) w.1 o.1 (and_right fa fb m),
+        )
 
     cases_fresh : (cs : Cases) (k : ℕ) (s : Handles) → named_by_cases c.function cs k ≤ Total →
         Sources (naming c n) k s → CasesAreRegular p c.callees (naming c n) cs →
@@ -171,10 +176,12 @@ module _ (p : Module) (c : Call) (n : Names) (environment : EnvironmentFits p c.
         let k1 = named_by_all c.function b k in
         let fa = fits_all (naming c n) k b s in
         let fb = fits_cases (naming c n) k1 cs s in
-        let more = cases_more (naming c n) cs k1 in
-        (joins_next falls b cs w.0 o.0, all_fresh b k s (omega (arith, le, more)) d w.1 o.1 (and_left fa fb m),
-            cases_fresh cs k1 s le (sources_more (naming c n) k k1 s (list_more (naming c n) b k) d) w.2 o.2
-            (and_right fa fb m))
+        let more = cases_more (naming c n) cs k1 in (
+          joins_next falls b cs w.0 o.0,
+          all_fresh b k s (omega (arith, le, more)) d w.1 o.1 (and_left fa fb m),
+          cases_fresh cs k1 s le (sources_more (naming c n) k k1 s (list_more (naming c n) b k) d) w.2 o.2
+              (and_right fa fb m),
+        )
 
   pub start_sources : Sources (naming c n) 0 (at_start c.function)
   start_sources = sources.start_sources (naming c n)

@@ -39,7 +39,7 @@ module _ (f : Naming) where
     line_continues k (Block b) s tail only = ap (λ c. c || some_continue tail) (lines_continue k b s only)
     line_continues k (If c a b) s tail only =
         λ i. (lines_continue k a s only.0 i || lines_continue (named_by_all f.function a k) b s only.1 i)
-            || some_continue tail
+        || some_continue tail
     line_continues k (Switch h cs) s tail only = ap (λ c. c || some_continue tail) (groups_continue k [] cs s only)
     line_continues k (Barrier bits) s tail only = performs_continue (barrier_words bits) tail
     line_continues k (Act a xs None) s tail only = refl
@@ -87,7 +87,7 @@ module _ (f : Naming) where
   list_names k l end names = names
   list_names k l (then st ss) names =
       cond (holds_continue st) names (list_names (named_by f.function st k) (lets_by f.function st l) ss
-          (names_by k l st names))
+      (names_by k l st names))
 
   -- ---- what a statement's lines leave
   -- how many `let`s there are
@@ -158,7 +158,7 @@ module _ (f : Naming) where
   lets_leave k l [] s tail names = refl
   lets_leave k l (h ∷ hs) s tail names =
       by (binds f.function h) (λ l1 names1. lets_leave (named_after f.function h k) l1 hs
-          (after_one f k h s) tail names1)
+      (after_one f k h s) tail names1)
     where
       e : Tree
       e = value_form (own_form f (written_form f s) (expression_of f.function h))
@@ -192,15 +192,15 @@ module _ (f : Naming) where
       let k1 = named_by_all f.function a k in
       λ i. cond (lines_continue f k a s only.0 i || lines_continue f k1 b s only.1 i) names
       (names_left ((ap (λ n. lets_following_all n (form_all f k1 b s)) (lines_counted k l a s)
-          ∙ lines_counted k1 (lets_by_all f.function a l) b s) i) tail names)
+      ∙ lines_counted k1 (lets_by_all f.function a l) b s) i) tail names)
   line_leaves k l (Switch h cs) s tail names only =
       λ i. cond (groups_continue f k [] cs s only i) names (names_left (groups_counted k l [] cs s i) tail names)
   line_leaves k l (Loop b d e) s tail names only =
       let k1 = named_by_all f.function b k in
       let s1 = after_all f k b s in
       λ i. names_left
-          ((ap (λ n. lets_following_all n (form_all f k1 d s1)) (lines_counted k l b s)
-          ∙ lines_counted k1 (lets_by_all f.function b l) d s1) i) tail names
+      ((ap (λ n. lets_following_all n (form_all f k1 d s1)) (lines_counted k l b s)
+      ∙ lines_counted k1 (lets_by_all f.function b l) d s1) i) tail names
   line_leaves k l (Jumps Continue) s tail names only = refl
   line_leaves k l (Barrier bits) s tail names only = performs_leave l (barrier_words bits) tail names
   line_leaves k l (Act a xs None) s tail names only = refl
@@ -212,5 +212,5 @@ module _ (f : Naming) where
   lines_leave k l (then st ss) s names only =
       line_leaves k l st s (form_all f (named_by f.function st k) ss (after f k st s)) names only.0
       ∙ ap (cond (holds_continue st) names)
-          (lines_leave (named_by f.function st k) (lets_by f.function st l) ss (after f k st s)
-          (names_by k l st names) only.1)
+      (lines_leave (named_by f.function st k) (lets_by f.function st l) ss (after f k st s)
+      (names_by k l st names) only.1)

@@ -55,7 +55,7 @@ pub family_other : (target : ℕ → Target) (name : ℕ → Bytes) (x : Bytes) 
 family_other target name x zero j other names = refl
 family_other target name x (suc n) j other names =
     bind_other (with_items target (suc j) (names_from name (suc j) n) names) (name j) (Some (target j)) x
-        (λ e. other j (omega arith) (omega arith) (sym e))
+    (λ e. other j (omega arith) (omega arith) (sym e))
     ∙ family_other target name x n (suc j) (λ i le lt. other i (omega arith) (omega arith)) names
 
 pub family_found : (target : ℕ → Target) (name : ℕ → Bytes) (n j : ℕ) → AllDifferent name j n →
@@ -64,10 +64,10 @@ pub family_found : (target : ℕ → Target) (name : ℕ → Bytes) (n j : ℕ) 
 family_found target name zero j one names i le lt = absurd (omega arith)
 family_found target name (suc n) j one names i le lt =
     bind_cases (λ o. o ≡ Some (target i)) (with_items target (suc j) (names_from name (suc j) n) names) (name j)
-        (Some (target j)) (name i)
+    (Some (target j)) (name i)
     (λ e. ap (λ k. Some (target k)) (one j i (omega arith) lt (sym e)))
     (λ other. family_found target name n (suc j) (λ a b la lb e. one a b (omega arith) (omega arith) e) names i
-        (further (λ e. other (ap name e))) (omega arith))
+    (further (λ e. other (ap name e))) (omega arith))
   where
     further : i ≢ j → suc j ≤ i
     further apart = omega arith
@@ -114,7 +114,7 @@ module _ (p : Module) (f : Naming) (distinct : AreDistinct p f) where
 
   pub knows_more : (key : NameKey) → IsName p f.function key → (declared next : ℕ) (target : Target) (names : Lookup)
       → ((y : FixedName) → IsFixedName p f.function y → IsDeclared next y → (FixedKey y ≡ key) →
-          Some target ≡ Some (fixed_target y))
+      Some target ≡ Some (fixed_target y))
       → ((y : FixedName) → IsDeclared next y → (FixedKey y ≡ key → ⊥) → IsDeclared declared y)
       → Knows declared names → Knows next (bind names (name_at f.names key) (Some target))
   knows_more key is declared next target names same earlier knows = record {
@@ -138,7 +138,7 @@ module _ (p : Module) (f : Naming) (distinct : AreDistinct p f) where
       Knows declared (bind names (name_at f.names key) (Some (LetTarget l)))
   let_known key is no_fixed declared l names knows =
       knows_more key is declared declared (LetTarget l) names (λ y here stands e. absurd (no_fixed y e))
-          (λ y stands e. stands) knows
+      (λ y stands e. stands) knows
 
   lets_known : (key : NameKey) → IsName p f.function key →
       (k h l : ℕ) (s : Handles) (numbers : LetNumbers) (names : Lookup) → Sources f k s →
@@ -161,7 +161,7 @@ module _ (p : Module) (f : Naming) (distinct : AreDistinct p f) where
           apart q =
               ⊎_elim (λ own. no_number j (eqb-false j h there) (distinct key (NumberedKey j) is tt (sym q ∙ own)))
               (λ g. let less : g.0 < total = omega (arith, g.1, le) in no_named g.0 g.1
-                  (distinct key (NamedKey g.0) is less (sym q ∙ g.2)))
+              (distinct key (NamedKey g.0) is less (sym q ∙ g.2)))
               (sources j x e)
 
   -- ---- a function, whose words and leaves are such
@@ -172,14 +172,14 @@ module _ (p : Module) (f : Naming) (distinct : AreDistinct p f) where
         tree_targets names (constant_form f.names.outer e) ≡ map Some (constant_targets e)
     constant_named declared names knows =
         constant_resolves f.names.outer names (length p.constant_types)
-            (λ i lt. knows.fixed (ConstantName i) lt tt) (OperatesBy p f) (λ w o. knows.free w o.2)
+        (λ i lt. knows.fixed (ConstantName i) lt tt) (OperatesBy p f) (λ w o. knows.free w o.2)
 
     pub constants_named : (declared : ℕ) (names : Lookup) → Knows declared names →
         (es : ConstantTrees) → ConstantsInRange p es → ConstantsWords p f es →
         trees_targets names (constant_forms f.names.outer es) ≡ map Some (constants_targets es)
     constants_named declared names knows =
         constants_resolve f.names.outer names (length p.constant_types)
-            (λ i lt. knows.fixed (ConstantName i) lt tt) (OperatesBy p f) (λ w o. knows.free w o.2)
+        (λ i lt. knows.fixed (ConstantName i) lt tt) (OperatesBy p f) (λ w o. knows.free w o.2)
 
     -- ---- first values
     -- no handle has a name at the start
@@ -215,18 +215,19 @@ module _ (p : Module) (f : Naming) (distinct : AreDistinct p f) where
       each_constant : (n : ℕ) → ((h : ℕ) → IsTrue (is_constant n h) → AtStart n h) → (xs : List ℕ) →
           IsTrue (all_constant (is_constant n) xs) → EachOf (AtStart n) xs
       each_constant n one [] all = tt
-      each_constant n one (x ∷ xs) all =
-          (one x (and_left (is_constant n x) (all_constant (is_constant n) xs) all),
-              each_constant n one xs (and_right (is_constant n x) (all_constant (is_constant n) xs) all))
+      each_constant n one (x ∷ xs) all = (
+        one x (and_left (is_constant n x) (all_constant (is_constant n) xs) all),
+        each_constant n one xs (and_right (is_constant n x) (all_constant (is_constant n) xs) all),
+      )
 
       -- a tree over constants names nothing but constants
       constant_below : (n h : ℕ) → IsTrue (is_constant n h) → AtStart n h
       constant_below zero h is = refl
       constant_below (suc n) h is =
           let tree = tree_named (is_constant n) (handle_type f.function h) (expression_of f.function h) is
-              (words h) (leaves h) in
+          (words h) (leaves h) in
           one_below f names (at_start f.function) no_numbers (none_at_start names) n h tree.0
-              (each_constant n (constant_below n) (operands_of (expression_of f.function h)) tree.1)
+          (each_constant n (constant_below n) (operands_of (expression_of f.function h)) tree.1)
 
       present_true : (b : Bool) → IsTrue (is_present (start_availability b)) → IsTrue b
       present_true true is = refl
@@ -251,7 +252,7 @@ module _ (p : Module) (f : Naming) (distinct : AreDistinct p f) where
           (knows.fixed (ArgumentName i) (ltb-true i (argument_count f.function) is) tt, refl)
       first_named n k (Some (Local i)) is fits leaf =
           let within = taken_below (Option ℕ) f.function.first_values declared i
-              (ltb-true i (local_count (before_local f.function declared)) is) in
+          (ltb-true i (local_count (before_local f.function declared)) is) in
           (knows.fixed (LocalName i) within.1 within.0, refl)
       first_named n k (Some (Global held i)) is fits leaf = (knows.fixed (GlobalName i) leaf.0 tt, refl)
       first_named n k None is fits leaf = absurd (true≢false (sym is))
@@ -276,7 +277,7 @@ module _ (p : Module) (f : Naming) (distinct : AreDistinct p f) where
       first_below (suc n) h is =
           let first = first_named n (handle_type f.function h) (expression_of f.function h) is (words h) (leaves h) in
           one_below f names (at_start f.function) no_numbers (none_at_start names) n h first.0
-              (each_constant n (constant_below n) (operands_of (expression_of f.function h)) first.1)
+          (each_constant n (constant_below n) (operands_of (expression_of f.function h)) first.1)
 
       pub first_resolves : (o : Option ℕ) →
           IsTrue (usable_if (before_local f.function declared) (at_start f.function) o) →
@@ -285,7 +286,7 @@ module _ (p : Module) (f : Naming) (distinct : AreDistinct p f) where
       first_resolves None is = refl
       first_resolves (Some h) is =
           value_targets_of names (written_form f (at_start f.function) h)
-              ∙ first_below (length f.function.expressions) h is
+          ∙ first_below (length f.function.expressions) h is
 
   -- what is known at a point of the body
   pub record InScope (k : ℕ) (s : Handles) (numbers : LetNumbers) (names : Lookup) : Type 0 where
@@ -326,7 +327,7 @@ module _ (p : Module) (f : Naming) (distinct : AreDistinct p f) where
           named_same k j e in omega (arith, lt, same)) scope.lets
       new_let false le =
           lets_known (NumberedKey h) tt k h l s numbers names scope.sources le
-              (λ j other e. other (sym (numbered_same h j e))) (λ j lt e. numbered_named h j e) scope.lets
+          (λ j other e. other (sym (numbered_same h j e))) (λ j lt e. numbered_named h j e) scope.lets
 
       lets_by_binding : (b o u : Bool) →
           LetsKnown (with_emitted_handle b o u (bound_name f k h) s h)
@@ -335,7 +336,7 @@ module _ (p : Module) (f : Naming) (distinct : AreDistinct p f) where
       lets_by_binding true o u = new_let (is_named f.function h) le
       lets_by_binding false true u = λ j x.
           update_cases (λ z. z ≡ Bound x → names x ≡ Some (LetTarget (numbers j))) s h
-              (availability_without_name u (s h)) j
+          (availability_without_name u (s h)) j
           (λ same e. scope.lets j x (ap s same ∙ nameless_bound u (s h) x e)) (λ other e. scope.lets j x e)
       lets_by_binding false false u = scope.lets
 
@@ -346,7 +347,7 @@ module _ (p : Module) (f : Naming) (distinct : AreDistinct p f) where
   scope_emit k l [] s numbers names le scope = scope
   scope_emit k l (h ∷ hs) s numbers names le scope =
       let here : named_after f.function h k ≤ total =
-          omega (arith, le, named_all_more f hs (named_after f.function h k)) in
+      omega (arith, le, named_all_more f hs (named_after f.function h k)) in
       scope_emit (named_after f.function h k) (lets_after f.function h l) hs (after_one f k h s)
       (numbers_after f.function l h numbers) (names_after f k l h names) le
       (scope_one k l h s numbers names here scope)
@@ -405,6 +406,6 @@ module _ (p : Module) (f : Naming) (distinct : AreDistinct p f) where
       let k1 = named_by f.function st k in
       let here : k1 ≤ total = omega (arith, le, list_more f ss k1) in
       scope_forgotten (holds_continue st) k (named_by_all f.function ss k1) s _ numbers _ names _
-          (list_more f (then st ss) k) scope
+      (list_more f (then st ss) k) scope
       (scope_left k1 (lets_by f.function st l) ss (after f k st s) (numbers_by f.function l st numbers)
-          (names_by f k l st names) le (scope_by k l st s numbers names here scope))
+      (names_by f k l st names) le (scope_by k l st s numbers names here scope))

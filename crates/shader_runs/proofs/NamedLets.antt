@@ -67,12 +67,12 @@ module _ (f : Naming) where
     line_binds k (If c a b) s tail =
         let k1 = named_by_all f.function a k in
         ap (λ xs. xs ++ lines_lets tail) (names_both (statements_named_lets f k a)
-            (statements_named_lets f k1 b) (lines_bind k a s) (lines_bind k1 b s))
+        (statements_named_lets f k1 b) (lines_bind k a s) (lines_bind k1 b s))
     line_binds k (Switch h cs) s tail = ap (λ xs. xs ++ lines_lets tail) (groups_bind k [] cs s)
     line_binds k (Loop b d e) s tail =
         let k1 = named_by_all f.function b k in
         ap (λ xs. xs ++ lines_lets tail) (names_both (statements_named_lets f k b)
-            (statements_named_lets f k1 d) (lines_bind k b s) (lines_bind k1 d (after_all f k b s)))
+        (statements_named_lets f k1 d) (lines_bind k b s) (lines_bind k1 d (after_all f k b s)))
     line_binds k (Barrier bits) s tail = performs_bind (barrier_words bits) tail
     line_binds k (Act a xs r) s tail = act_binds r (word_of f.names a) (value_forms (written_form f s) xs) tail
     line_binds k _ s tail = refl
@@ -84,7 +84,7 @@ module _ (f : Naming) where
         let k1 = named_by f.function st k in
         line_binds k st s (form_all f k1 ss (after f k st s))
         ∙ names_both (statement_named_lets f k st) (statements_named_lets f k1 ss) refl
-            (lines_bind k1 ss (after f k st s))
+        (lines_bind k1 ss (after f k st s))
 
     groups_bind : (k : ℕ) (labels : List CaseValue) (cs : Cases) (s : Handles) →
         groups_lets (form_cases f k labels cs s) ≡ names_of (cases_named_lets f k cs)

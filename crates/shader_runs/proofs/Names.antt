@@ -65,9 +65,9 @@ known_at name (suc n) j one (o ∷ os) names e (suc i) lt =
     let rest = with_known (names_from name (suc j) n) os names in
     ap (λ k. bind rest (name j) (as_denoted o) (name k)) there
     ∙ bind_other rest (name j) (as_denoted o) (name (i + suc j))
-        (λ e. apart (one (i + suc j) j (omega arith) (omega arith) e))
+    (λ e. apart (one (i + suc j) j (omega arith) (omega arith) e))
     ∙ known_at name n (suc j) (λ a b la lb q. one a b (omega arith) (omega arith) q) os names (omega arith) i
-        (omega arith)
+    (omega arith)
 
 -- parameters are names of which all is known
 pub parameters_known : (xs : List Bytes) (vs : List Value) (names : Scope) → with_parameters xs vs names
@@ -85,7 +85,7 @@ pub parameter_other : (name : ℕ → Bytes) (x : Bytes) (n j : ℕ) → NotAmon
     (vs : List Value) (names : Scope) → with_parameters (names_from name j n) vs names x ≡ names x
 parameter_other name x n j f vs names =
     ap (λ scope. scope x) (parameters_known (names_from name j n) vs names)
-        ∙ known_other name x n j f (map Some vs) names
+    ∙ known_other name x n j f (map Some vs) names
 
 pub parameter_at : (name : ℕ → Bytes) (n j : ℕ) → AllDifferent name j n →
     (vs : List Value) (names : Scope) → length vs ≡ n →
@@ -107,7 +107,7 @@ variable_other f x [] j k apart names = refl
 variable_other f x (o ∷ os) j k apart names =
     let name = f.names.local_ in
     variable_other f x os (suc j) k (λ i le lt. apart i (omega arith) (omega arith))
-        (bind names (name j) (variable_place f k j))
+    (bind names (name j) (variable_place f k j))
     ∙ bind_other names (name j) (variable_place f k j) x (λ e. apart j (omega arith) (omega arith) (sym e))
 
 pub variable_at : (f : Naming) (os : List (Option ℕ)) (j k : ℕ) →
@@ -145,7 +145,7 @@ one_more_variable f (x ∷ os) o j k names =
     let first = bind names (f.names.local_ j) (variable_place f k j) in
     one_more_variable f os o (suc j) k first
     ∙ ap (λ m. bind (with_variables (variables_from f (suc j) os) k (suc j) first) (f.names.local_ m)
-        (variable_place f k m)) there
+    (variable_place f k m)) there
 
 pub take_one_more : {A : Type 0} (xs : List A) (i : ℕ) (x : A) → slice_get xs i ≡ Some x → take (suc i) xs
     ≡ take i xs ++ x ∷ []
@@ -225,7 +225,7 @@ globals_at parts name (k ∷ ks) j one (g ∷ gs) names e (suc i) lt =
     ap (λ m. bind rest (name j) denoted (name m)) there
     ∙ bind_other rest (name j) denoted (name (i + suc j)) (λ e. apart (one (i + suc j) j (omega arith) (omega arith) e))
     ∙ globals_at parts name ks (suc j) (λ a b la lb q. one a b (omega arith) (omega arith) q) gs names
-        (and_right (global_fits parts k g) (globals_fit parts ks gs) e) i (omega arith)
+    (and_right (global_fits parts k g) (globals_fit parts ks gs) e) i (omega arith)
     ∙ ap (λ b. global_as b (slice_get gs i)) (sym there)
 
 pub globals_other : (name : ℕ → Bytes) (x : Bytes) (ks : List VariableShape) (j : ℕ) →
@@ -235,7 +235,7 @@ globals_other name x [] j f gs names = refl
 globals_other name x (k ∷ ks) j f [] names = refl
 globals_other name x (k ∷ ks) j f (g ∷ gs) names =
     bind_other (with_globals (globals_from name (suc j) ks) gs (suc j) names) (name j)
-        (global_denoted (pointer_to k) j g) x (λ e. f j (omega arith) (omega arith) (sym e))
+    (global_denoted (pointer_to k) j g) x (λ e. f j (omega arith) (omega arith) (sym e))
     ∙ globals_other name x ks (suc j) (λ i le lt. f i (omega arith) (omega arith)) gs names
 
 pub length-names_from : (name : ℕ → Bytes) (j n : ℕ) → length (names_from name j n) ≡ n
@@ -246,7 +246,7 @@ length-names_from name j (suc n) = ap suc (length-names_from name (suc j) n)
 abbrev pub module_names_in_scope : Module → ModuleNames → Environment → Scope
 module_names_in_scope p n env =
     with_parameters (names_from n.constant 0 (length p.constant_types)) env.constants
-        (with_globals (globals_from n.global 0 p.globals) (map held env.globals) 0 no_names)
+    (with_globals (globals_from n.global 0 p.globals) (map held env.globals) 0 no_names)
 
 pub length-functions_of : (fs : List Naming) → length (functions_of fs) ≡ length fs
 length-functions_of [] = refl
@@ -261,9 +261,10 @@ pub forms_named : (p : Module) (n : ModuleNames) (fs : List Naming) → AllFit p
 forms_named p n [] fits = tt
 forms_named p n (f ∷ fs) fits =
     let count : length (functions_of fs) ≡ length (form_functions fs) = length-functions_of fs
-        ∙ sym (length-form_functions fs) in
-    (ap (λ m. m.function f.names.earlier) fits.0.outer ∙ ap n.function (fits.0.earlier ∙ count),
-        forms_named p n fs fits.1)
+    ∙ sym (length-form_functions fs) in (
+      ap (λ m. m.function f.names.earlier) fits.0.outer ∙ ap n.function (fits.0.earlier ∙ count),
+      forms_named p n fs fits.1,
+    )
 
 -- what is asked of a module whose functions fit is asked of its items
 pub items_fit : (p : Module) (n : ModuleNames) (fs : List Naming) → ModuleFits p n fs → ItemsFit p n (form_functions fs)
@@ -283,6 +284,6 @@ pub no_name_among : (p : Module) (n : ModuleNames) (fs : List TextFunction) →
 no_name_among p n [] within named word other = refl
 no_name_among p n (f ∷ fs) within named word other =
     let apart : same_bytes word f.name ≡ false =
-        same_bytes_apart word f.name (λ e. other (length fs) (omega (arith, within)) (sym (e ∙ named.0))) in
+    same_bytes_apart word f.name (λ e. other (length fs) (omega (arith, within)) (sym (e ∙ named.0))) in
     let fewer : length fs ≤ length p.functions = omega (arith, within) in
     ap (λ b. b || names_function fs word) apart ∙ no_name_among p n fs fewer named.1 word other

@@ -72,7 +72,7 @@ module _ (env : Environment) (m : Meaning) (functions : List Function) where
   event_leaves i (Entry g vs firsts) c t begins le =
       let call = call_to i g vs in
       let same : filled call t ≡ filled c (Entry g vs firsts ∷ t) = sym (opened_filled call t)
-          ∙ ap (λ c. filled c t) begins in
+      ∙ ap (λ c. filled c t) begins in
       ap (λ o. or_else o (wanted i t)) (none_asked call t i (omega (arith, le, ap (λ q. events_made q) same)))
   event_leaves i _ c t begins le = refl
 
@@ -84,7 +84,7 @@ module _ (env : Environment) (m : Meaning) (functions : List Function) where
   leaves_wanted i (asks parts k r next) t (apart, en) =
       let v = default_value k in
       from_before i t (r ∷ t) (filled (next v) (r ∷ t)) (λ le. no_entry i r t apart)
-          (leaves_wanted i (next v) (r ∷ t) (en v))
+      (leaves_wanted i (next v) (r ∷ t) (en v))
   leaves_wanted i (counts next) t en = leaves_wanted i (next (entries t)) t en
   leaves_wanted i (joins c next) t (en, rest) =
       go (filled c t) (leaves_wanted i c t en) (λ x e. leaves_wanted i (next x) e (rest x e))
@@ -123,7 +123,7 @@ module _ (env : Environment) (m : Meaning) (functions : List Function) where
   asks_wanted (inside a) (en, rest) h = asks_wanted a en h
   asks_wanted (following {c = c} {t = t} {u = u} {e = e} {x = x} given a) (en, rest) h =
       asks_wanted a (rest x e) (subst (LeavesWanted (length u) t) given (leaves_wanted (length u) c t en)
-          (asks_later a) ∙ h)
+      (asks_later a) ∙ h)
 
   -- nothing need be so before a call
   opening_wanted : {c : Course} {t u : List Event} {k : ValueType} → AsksAt c t u k →
@@ -144,7 +144,7 @@ module _ (env : Environment) (m : Meaning) (functions : List Function) where
       AsksAt (call_to (length u) g vs) t u k → wanted (length u) u ≡ Some k
   call_wanted g vs {t} {u} a =
       opening_wanted a (call_enters env m functions (suc (length u)) g vs t)
-          (call_opens env m functions (suc (length u)) g vs)
+      (call_opens env m functions (suc (length u)) g vs)
 
 call_events : (q : ReachedOrHalted Pause) → events_made (call_outcome q) ≡ events_made q
 call_events (Gives x e) = refl
@@ -171,7 +171,7 @@ module _ (p : Module) (n : ModuleNames) (fs : List Naming) (fits : ModuleFits p 
     run_is_filled =
         call_performed env w m j p.functions g vs past
         ∙ ap call_outcome (process_runs w j (call_process env m p.functions g vs) past
-            ∙ run_filled w (call j) past right)
+        ∙ run_filled w (call j) past right)
 
     run_keeps : KeepsTypes (run_module p settings w m j g vs past)
     run_keeps = subst KeepsTypes (sym run_is_filled) (right_keeps (filled (call j) past) (filled_right (call j) past))

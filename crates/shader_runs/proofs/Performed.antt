@@ -163,7 +163,7 @@ module _ (w : World) (n : ℕ) where
   load_performed parts k h kept t None = refl
   load_performed parts k h kept t (Some v) =
       there_performed (place_in v) (place_in v) t _ (λ p. keeping parts k h (Read p) kept) refl
-          (λ p. keeping_performed parts k h (Read p) kept t)
+      (λ p. keeping_performed parts k h (Read p) kept t)
 
   ask_performed : (parts : PartTypes) (k : ValueType) (h : ℕ) (word : Bytes) (kept : KeptValues)
       (t : List Event) (o : Option (List Value)) →
@@ -282,7 +282,7 @@ module _ (w : World) (n : ℕ) where
     return_performed None kept t = refl
     return_performed (Some h) kept t =
         there_performed (used_value c kept h) (used_value alone kept h) t (λ v. Returned (Some v) t)
-            (λ v. gives (ReturnedWith (Some v))) (used_alone kept h) (λ v. refl)
+        (λ v. gives (ReturnedWith (Some v))) (used_alone kept h) (λ v. refl)
 
     mutual
       statement_performed : (st : Statement) → NextPerformed (run c n st) (statement_process alone callees st)
@@ -353,7 +353,7 @@ module _ (w : World) (n : ℕ) where
       list_performed end kept t = refl
       list_performed (then st ss) kept t =
           then_performed (run c n st kept t) (statement_process alone callees st kept) t (run_all c n ss)
-              (list_process alone callees ss) (statement_performed st kept t) (list_performed ss)
+          (list_process alone callees ss) (statement_performed st kept t) (list_performed ss)
 
       cases_performed : (ks : Cases) (x : CaseValue) →
           NextPerformed (run_cases c n ks x) (cases_process alone callees ks x)

@@ -30,7 +30,7 @@ from_split zero count first le = ap₂ (λ a b. from a b) (omega arith) (omega a
 from_split (suc i) zero first le = absurd (omega arith)
 from_split (suc i) (suc count) first le =
     ap (λ hs. first ∷ hs) (from_split i count (suc first) (omega arith)
-        ∙ ap₂ (λ a b. from (suc first) i ++ from a b) (omega arith) (omega arith))
+    ∙ ap₂ (λ a b. from (suc first) i ++ from a b) (omega arith) (omega arith))
 
 module _ (f : Naming) where
   let_after : (b : Bool) (x : Bytes) (e : Tree) (tail : Lines) (m : ℕ) (q : Point) →
@@ -46,7 +46,7 @@ module _ (f : Naming) where
       let s1 = after_one f k h s in
       let_after (binds f.function h) (bound_name f k h)
       (value_form (own_form f (written_form f s) (expression_of f.function h))) (lets f k1 hs s1 tail)
-          (let_count f.function hs) q
+      (let_count f.function hs) q
       ∙ lets_following hs k1 s1 tail q
 
   -- after some first handles of an Emit
@@ -65,7 +65,7 @@ module _ (f : Naming) where
       let hs = xs ++ ys in
       let rest = lets f k1 hs s1 (form_all f (named_after_all f.function hs k1) ss (after_emit f k1 hs s1)) in
       let_after (binds f.function h) (bound_name f k h)
-          (value_form (own_form f (written_form f s) (expression_of f.function h))) rest (let_count f.function xs) here
+      (value_form (own_form f (written_form f s) (expression_of f.function h))) rest (let_count f.function xs) here
       ∙ some_after xs ys k1 s1 ss
 
   performs_after : (ws : List Bytes) (tail : Lines) (q : Point) →
@@ -120,7 +120,7 @@ module _ (f : Naming) where
         ∙ lines_there rest (named_in f.function st g k) (handles_in f k st g s) apart.1
     lines_there (emits {first = first} {count = count} {i = i} {ss = ss} less there) k s e =
         let f_lines = λ (hs : List ℕ). lets f k hs s (form_all f (named_after_all f.function hs k) ss
-            (after_emit f k hs s)) in
+        (after_emit f k hs s)) in
         ap (λ hs. lines_after (f_lines hs) (after_lines (let_count f.function (from first i)) here))
-            (from_split i count first less)
+        (from_split i count first less)
         ∙ some_after (from first i) (from (first + i) (count - i)) k s ss

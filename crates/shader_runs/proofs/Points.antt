@@ -95,7 +95,7 @@ points_agree p n later f fs fits s settings m typed vs h w turns before_entry t 
         let known = uses_fit p n (form_functions every) items.counted items.named in
         let fit = fit_after p n later (f ∷ fs) fits.all in
         let all = typed_after env.parts p m later (f ∷ fs)
-            (subst (λ l. AllTypedIn env.parts p m l) (sym fits.functions) typed.functions) in
+        (subst (λ l. AllTypedIn env.parts p m l) (sym fits.functions) typed.functions) in
         let earlier = calls_alike p n uses known env environment w m turns fs within fit.1 all.1 one in
         let l = words_of p.parts (module_names_in_scope p n env) n every w m turns fs in
         let d : Respond = (l.operates, l.respond) in
@@ -104,12 +104,15 @@ points_agree p n later f fs fits s settings m typed vs h w turns before_entry t 
         let calls = run_call env w m turns callees in
         let first = starting p n callees f fit.0 in
         let facts = facts p n uses known env environment w m turns callees calls d alike f first all.0 vs
-            before_entry h in
+        before_entry h in
         let start = starts p n uses known env environment w m turns callees calls d alike f first all.0 vs
-            before_entry (has_types_length env.parts f.function.argument_types vs h) in
+        before_entry (has_types_length env.parts f.function.argument_types vs h) in
         let body = body_fits p n uses known env environment w m turns callees calls d alike f first
-            fit.0.regular fit.0.cases fit.0.scope all.0 vs before_entry in
-        let there = passes p c f.names d facts turns passed 0 (at_start f.function) _ start body in
-        (there.0, there.1, (λ e. lines_there f c turns passed 0 (at_start f.function) e),
-            facts_hold p c f.names d facts (handles_at f 0 f.function.body q (at_start f.function)) there.0 kept
-            there.2)
+        fit.0.regular fit.0.cases fit.0.scope all.0 vs before_entry in
+        let there = passes p c f.names d facts turns passed 0 (at_start f.function) _ start body in (
+          there.0,
+          there.1,
+          (λ e. lines_there f c turns passed 0 (at_start f.function) e),
+          facts_hold p c f.names d facts (handles_at f 0 f.function.body q (at_start f.function)) there.0 kept
+              there.2,
+        )

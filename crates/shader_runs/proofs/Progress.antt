@@ -83,19 +83,19 @@ module _ (c : Call) (n : Names) where
       Rooted c (update s h st)
   rooted_update s h st i e r k =
       update_cases (λ z. z ≡ Everywhere →
-          IsTrue (usable_all c.function (update s h st) (operands_of (expression_of c.function k)))) s h st k
-          (λ same q. more (ap s same ∙ e q)) (λ other q. more q)
+      IsTrue (usable_all c.function (update s h st) (operands_of (expression_of c.function k)))) s h st k
+      (λ same q. more (ap s same ∙ e q)) (λ other q. more q)
     where
       more : s k ≡ Everywhere →
           IsTrue (usable_all c.function (update s h st) (operands_of (expression_of c.function k)))
       more q =
           usable_all_more c.function s (update s h st) (extends_update s h st i)
-              (operands_of (expression_of c.function k)) (r k q)
+          (operands_of (expression_of c.function k)) (r k q)
 
   rooted_one : (k h : ℕ) (s : Handles) → Rooted c s → Rooted c (after_one (naming c n) k h s)
   rooted_one k h s r =
       go (bound_name (naming c n) k h) (is_counted_as h) (is_pure (expression_of c.function h))
-          (usable_all c.function s (operands_of (expression_of c.function h)))
+      (usable_all c.function s (operands_of (expression_of c.function h)))
     where
       is_counted_as : ℕ → Bool
       is_counted_as h = binds_as c.function h (expression_of c.function h)
@@ -121,7 +121,7 @@ module _ (c : Call) (n : Names) where
   rooted_if : (b : Bool) (s s2 : Handles) → Rooted c s → Rooted c s2 → Rooted c (forgotten_if b s s2)
   rooted_if true s s2 r r2 h e =
       usable_all_more c.function s (forgotten_handles s s2) (extends_forgotten s s2)
-          (operands_of (expression_of c.function h)) (r h (everywhere_forgotten (s h) (s2 h) e))
+      (operands_of (expression_of c.function h)) (r h (everywhere_forgotten (s h) (s2 h) e))
   rooted_if false s s2 r r2 h e = r2 h e
 
   rooted_all : (k : ℕ) (ss : Statements) (s : Handles) → Rooted c s → Rooted c (after_all (naming c n) k ss s)
@@ -144,7 +144,7 @@ module _ (p : Module) (c : Call) (n : Names) (sound : Sound p c) where
   uses : (s : Handles) (kept : KeptValues) → Typed c s kept → UsesTyped c s kept
   uses s kept y h u =
       used_typed p c sound.arguments sound.environment (handle_type c.function h) (expression_of c.function h)
-          (sound.leaves h) (sound.typed.constants h) (kept h) (s h) (y h) u
+      (sound.leaves h) (sound.typed.constants h) (kept h) (s h) (y h) u
 
   -- what a run from an Emit is, where it leaves this scope
   abbrev Emits : Handles → Outcome KeptValues → Type 0
@@ -168,10 +168,10 @@ module _ (p : Module) (c : Call) (n : Names) (sound : Sound p c) where
         (used_value c kept q)) kept t)
     emit_load true u q l m =
         let place = pointer_there c.environment.parts (handle_type c.function q) l (used_value c kept q)
-            (uses s kept y q (and_left (usable c.function s q) true m.0)) in
+        (uses s kept y q (and_left (usable c.function s q) true m.0)) in
         subst (λ o. Emits (update s h (Bound x))
-            (after_load c.environment.parts (handle_type c.function h) c.world h o kept t)) (sym place.1)
-            (answer_kept (c.world t (Read place.0)) (Read place.0))
+        (after_load c.environment.parts (handle_type c.function h) c.world h o kept t)) (sym place.1)
+        (answer_kept (c.world t (Read place.0)) (Read place.0))
     emit_load false u q l m = done y
 
     emit_request : (b u : Bool) (w : Bytes) (xs : List ℕ) (es : ConstantTrees) →
@@ -184,8 +184,8 @@ module _ (p : Module) (c : Call) (n : Names) (sound : Sound p c) where
     emit_request true u w xs es i k m =
         let vs = request_there p c s kept (uses s kept y) sound.environment xs es i k m.0 in
         subst (λ os. Emits (update s h (Bound x))
-            (after_request c.environment.parts (handle_type c.function h) c.world h w os kept t)) (sym vs.1)
-            (answer_kept (c.world t (Ask w vs.0)) (Ask w vs.0))
+        (after_request c.environment.parts (handle_type c.function h) c.world h w os kept t)) (sym vs.1)
+        (answer_kept (c.world t (Ask w vs.0)) (Ask w vs.0))
     emit_request false u w xs es i k m = done y
 
     value : (e : Option Expression) → expression_of c.function h ≡ e → IsTrue (is_pure e) →
@@ -213,7 +213,7 @@ module _ (p : Module) (c : Call) (n : Names) (sound : Sound p c) where
         go true k = done (typed_update c s kept h Inline (computed_value c kept e) (λ i. value e q z k) y)
         go false k =
             done (typed_update c s kept h (availability_without_name false (s h)) (computed_value c kept e)
-                (λ i. value e q z (operands_here i)) y)
+            (λ i. value e q z (operands_here i)) y)
 
     emit_as_proceeds : (e : Option Expression) → expression_of c.function h ≡ e →
         LoadFits c.function e → LeafFits p c.function (handle_type c.function h) e →
@@ -252,7 +252,7 @@ module _ (p : Module) (c : Call) (n : Names) (sound : Sound p c) (bound : ℕ) w
   abbrev Runs : (s s2 at_continue : Handles) → (breaks continues held : Bool) → Outcome KeptValues → Type 0
   Runs s s2 at_continue breaks continues held =
       Proceeds (Returns c.environment.parts c.function) (Typed c s2)
-          (λ k. Typed c at_continue k × IsTrue held × IsTrue continues) (λ k. Typed c s k × IsTrue breaks)
+      (λ k. Typed c at_continue k × IsTrue held × IsTrue continues) (λ k. Typed c s k × IsTrue breaks)
 
   -- a statement, and a list
   abbrev Line : Handles → Handles → (breaks continues held : Bool) → Outcome KeptValues → Type 0
@@ -366,7 +366,7 @@ module _ (p : Module) (c : Call) (n : Names) (sound : Sound p c) (bound : ℕ) w
       (λ i. (v, refl, z)) y))
   result_proceeds s breaks continues (Called g) xs (Some h) m kept y (Gives (Some v) t) k =
       done (typed_update c s kept h (Bound (n.numbered h)) (Some v)
-          (λ i. (v, refl, called_typed c.environment.parts c.function (function_numbered c.callees g) xs h v m.2 k)) y)
+      (λ i. (v, refl, called_typed c.environment.parts c.function (function_numbered c.callees g) xs h v m.2 k)) y)
   result_proceeds s breaks continues a xs (Some h) m kept y (Halts x t) k = stops k
 
   act_proceeds : (s : Handles) (breaks continues : Bool) (a : Action) (xs : List ℕ) (r : Option ℕ) →
@@ -418,7 +418,7 @@ module _ (p : Module) (c : Call) (n : Names) (sound : Sound p c) (bound : ℕ) w
   abbrev In_case : Handles → (continues held : Bool) → Outcome KeptValues → Type 0
   In_case s continues held =
       Proceeds (Returns c.environment.parts c.function) (Typed c s)
-          (λ k. Typed c s k × IsTrue held × IsTrue continues) (Typed c s)
+      (λ k. Typed c s k × IsTrue held × IsTrue continues) (Typed c s)
 
   switch_line : (s : Handles) (breaks continues held : Bool) (h : ℕ) (cs : Cases) →
       IsTrue (usable c.function s h) → IsInteger (handle_type c.function h) →
@@ -440,7 +440,7 @@ module _ (p : Module) (c : Call) (n : Names) (sound : Sound p c) (bound : ℕ) w
       (and_then o (λ kept1 t1. cond falls (on kept1 t1) (Done kept1 t1)))
   case_proceeds s s1 continues held held2 falls x o on body next =
       then_proceeds {P = Typed c s1} (λ k t y. go falls k t (typed_less c s s1 k x y))
-          (weaker (λ k y. y) (λ k q. (typed_less c s s1 k x q.0, or_left held held2 q.1, q.2)) (λ k b. b.0) body)
+      (weaker (λ k y. y) (λ k q. (typed_less c s s1 k x q.0, or_left held held2 q.1, q.2)) (λ k b. b.0) body)
     where
       go : (b : Bool) (k : KeptValues) (t : List Event) → Typed c s k →
           In_case s continues (held || held2) (cond b (on k t) (Done k t))
@@ -460,12 +460,12 @@ module _ (p : Module) (c : Call) (n : Names) (sound : Sound p c) (bound : ℕ) w
         (run c bound st kept t)
     line_proceeds (Emit first count) k s breaks continues r m w kept t y =
         weaker (λ k y. y) (λ k q. absurd q) (λ k b. absurd b)
-            (emit_proceeds p c n sound k (from first count) s kept t r y m)
+        (emit_proceeds p c n sound k (from first count) s kept t r y m)
     line_proceeds (Store q v) k s breaks continues r m w kept t y =
         store_proceeds s breaks continues q v m.0 m.1 w kept t y
     line_proceeds (Block b) k s breaks continues r m w kept t y =
         block_proceeds s (after_all (naming c n) k b s) breaks continues (any_continue b)
-            (extends_all c n k b s) _ (body_proceeds b k s breaks continues r m w kept t y)
+        (extends_all c n k b s) _ (body_proceeds b k s breaks continues r m w kept t y)
     line_proceeds (If h a b) k s breaks continues r m w kept t y =
         let k1 = named_by_all c.function a k in
         if_proceeds s (after_all (naming c n) k a s) (after_all (naming c n) k1 b s) breaks
@@ -475,7 +475,7 @@ module _ (p : Module) (c : Call) (n : Names) (sound : Sound p c) (bound : ℕ) w
         (body_proceeds b k1 s breaks continues r m.2 w.2 kept t y)
     line_proceeds (Switch h cs) k s breaks continues r m w kept t y =
         switch_line s breaks continues (some_case_continues cs) h cs m.0 w.0 kept t y
-            (λ x. cases_proceed cs k s continues r m.1 w.1 x kept t y)
+        (λ x. cases_proceed cs k s continues r m.1 w.1 x kept t y)
     line_proceeds (Loop b d e) k s breaks continues r m w kept t y =
         let k1 = named_by_all c.function b k in
         let s1 = after_all (naming c n) k b s in
@@ -613,7 +613,7 @@ module _ (p : Module) (n : ModuleNames) (env : Environment) (environment : Envir
     start_rooted : Rooted c start
     start_rooted h =
         start_operands c start no_names kept (handle_type f.function h) (expression_of f.function h) (kept h) _
-            (stands h)
+        (stands h)
 
     firsts_there : (i : ℕ) (os : List (Option ℕ)) → IsTrue (first_values_fit f.function i os) →
         (firsts : List (Option Value)) × (first_used_all c kept os ≡ Some firsts)
@@ -625,17 +625,19 @@ module _ (p : Module) (n : ModuleNames) (env : Environment) (environment : Envir
         let here = usable_if (before_local f.function i) start (Some h) in
         let more = first_values_fit f.function (suc i) os in
         let v = uses p c f.names sound start kept start_typed h
-            (usable_sooner f.function i (expression_of f.function h) (start h) (and_left here more u)) in
-        let rest = firsts_there (suc i) os (and_right here more u) in
-        (Some v.0 ∷ rest.0, ap (λ o. with_first (option_map Some o) (first_used_all c kept os)) v.1
-            ∙ ap (with_first (Some (Some v.0))) rest.1)
+        (usable_sooner f.function i (expression_of f.function h) (start h) (and_left here more u)) in
+        let rest = firsts_there (suc i) os (and_right here more u) in (
+          Some v.0 ∷ rest.0,
+          ap (λ o. with_first (option_map Some o) (first_used_all c kept os)) v.1
+              ∙ ap (with_first (Some (Some v.0))) rest.1,
+        )
 
     own_proceeds : (g : ℕ) →
         Answered (Returns env.parts f.function)
         (run_if_arguments_fit (nat_eq (length vs) (argument_count f.function)) (run_body c bound g vs t) t)
     own_proceeds g =
         let count = eq-eqb (length vs) (argument_count f.function)
-            (has_types_length env.parts f.function.argument_types vs arguments) in
+        (has_types_length env.parts f.function.argument_types vs arguments) in
         let firsts_fit = first_values_fit f.function 0 f.function.first_values in
         let body_fits = fits_all f 0 f.function.body start in
         let firsts = firsts_there 0 f.function.first_values (and_left firsts_fit body_fits fit.scope) in
@@ -660,7 +662,7 @@ module _ (p : Module) (n : ModuleNames) (env : Environment) (environment : Envir
       own_call : ReachedOrHalted (Option Value)
       own_call =
           run_if_arguments_fit (nat_eq (length vs) (argument_count f.function))
-              (run_body (call_of env w m bound f fs vs t) bound (length (functions_of fs)) vs t) t
+          (run_body (call_of env w m bound f fs vs t) bound (length (functions_of fs)) vs t) t
 
       go : (b : Bool) → cond b (Some f.function) (function_numbered (functions_of fs) g) ≡
           Some callee → Calls_proceed fs →
@@ -670,7 +672,7 @@ module _ (p : Module) (n : ModuleNames) (env : Environment) (environment : Envir
           let same = same_Some f.function callee e in
           let typed_here = subst (λ k. IsTrue (has_types env.parts k.argument_types vs)) (sym same) h in
           subst (λ k. Answered (Returns env.parts k) own_call) same
-              (own_proceeds fs earlier f fits.0 typed.0 well.0 vs typed_here t (length (functions_of fs)))
+          (own_proceeds fs earlier f fits.0 typed.0 well.0 vs typed_here t (length (functions_of fs)))
       go false e earlier = earlier g callee e vs h t
 
 not_stuck : (R : Option Value → Type 0) (q : ReachedOrHalted (Option Value)) → Answered R q → IsNotStuck q
@@ -682,9 +684,11 @@ runs_are_not_stuck p n fs fits well s settings m typed g f e vs h w turns t =
     let proceeds = there (subst (λ l. function_numbered l g ≡ Some f) (sym fits.functions) e)
     (subst (λ l. AllTypedIn env.parts p m l) (sym fits.functions)
     (subst (λ parts. AllTypedIn parts p m p.functions) (sym environment.parts) typed.functions))
-    (subst (λ l. AllWellFormed l) (sym fits.functions) well) in
-    (proceeds, λ keeps. subst (λ q. IsNotStuck q)
-        (sym (runs_alike p n fs fits s settings m typed g f e vs h w turns t keeps)) proceeds)
+    (subst (λ l. AllWellFormed l) (sym fits.functions) well) in (
+      proceeds,
+      λ keeps. subst (λ q. IsNotStuck q)
+          (sym (runs_alike p n fs fits s settings m typed g f e vs h w turns t keeps)) proceeds,
+    )
   where
     env : Environment
     env = environment_of p s m

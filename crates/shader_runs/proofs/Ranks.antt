@@ -70,7 +70,7 @@ count_misses rank (suc n) k lt = go (nat_eq k n) refl (λ less. count_misses ran
         let same : k ≡ n = eqb-true k n e in
         let all = count_bounded rank n (rank k) in
         counted rank n (rank k) (λ a. a < suc n) (λ l. absurd (itself (subst (λ k. rank n < rank k) same l)))
-            (λ l. omega (arith, all))
+        (λ l. omega (arith, all))
       where
         itself : rank n < rank n → ⊥
         itself l = omega (arith, l)

@@ -163,13 +163,19 @@ pub stands_on : (c : Call) (s s' : Handles) (names names' : Scope) (kept kept' :
 stands_on c s s' names names' kept kept' x a y e o o' Absent w n d = tt
 stands_on c s s' names names' kept kept' x a y e o o' Barred w n d = tt
 stands_on c s s' names names' kept kept' x a y e o o' Inline w n d =
-    let same = w refl in
-    (usable_all_more c.function s s' x (operands_of e) d.0, (d.1.0, same ∙ d.1.1, d.1.2), same ∙ d.2
-        ∙ sym (computed_agree c s kept kept' a e d.0))
+    let same = w refl in (
+      usable_all_more c.function s s' x (operands_of e) d.0,
+      (d.1.0, same ∙ d.1.1, d.1.2),
+      same ∙ d.2
+          ∙ sym (computed_agree c s kept kept' a e d.0),
+    )
 stands_on c s s' names names' kept kept' x a y e o o' Everywhere w n d =
-    let same = w refl in
-    (usable_all_more c.function s s' x (operands_of e) d.0, (d.1.0, same ∙ d.1.1, d.1.2), same ∙ d.2
-        ∙ sym (computed_agree c s kept kept' a e d.0))
+    let same = w refl in (
+      usable_all_more c.function s s' x (operands_of e) d.0,
+      (d.1.0, same ∙ d.1.1, d.1.2),
+      same ∙ d.2
+          ∙ sym (computed_agree c s kept kept' a e d.0),
+    )
 stands_on c s s' names names' kept kept' x a y e o o' (Bound z) w n d =
     let same = ap (used_value_as c e) (w refl) in
     ((d.0.0, same ∙ d.0.1, d.0.2), n ∙ d.1 ∙ ap as_denoted (sym same))

@@ -79,9 +79,11 @@ module _ (p : Module) (f : Naming) (distinct : AreDistinct p f) where
     leaf_named names knows k (Some (Local i)) fits leaf stands = knows.fixed (LocalName i) stands stands
     leaf_named names knows k (Some (Global held i)) fits leaf stands = knows.fixed (GlobalName i) leaf.0 tt
     leaf_named names knows k (Some (Operator word xs)) fits leaf stands = knows.free word fits.2
-    leaf_named names knows k (Some (Request word xs es)) fits leaf stands =
-        (knows.free word fits.0.1, constants_named p f distinct words leaves (local_count f.function) names
-            knows es leaf fits.1)
+    leaf_named names knows k (Some (Request word xs es)) fits leaf stands = (
+      knows.free word fits.0.1,
+      constants_named p f distinct words leaves (local_count f.function) names
+          knows es leaf fits.1,
+    )
     leaf_named names knows k _ fits leaf stands = tt
 
     all_named : (names : Lookup) → Knows p f distinct (local_count f.function) names → (h : ℕ) →
@@ -97,7 +99,7 @@ module _ (p : Module) (f : Naming) (distinct : AreDistinct p f) where
     lets_resolve k l [] s numbers names tail le scope = refl
     lets_resolve k l (h ∷ hs) s numbers names tail le scope =
         let here : named_after f.function h k ≤ total p f distinct =
-            omega (arith, le, named_all_more f hs (named_after f.function h k)) in
+        omega (arith, le, named_all_more f hs (named_after f.function h k)) in
         by (binds f.function h)
         (let_resolves f names s numbers scope.lets (all_named names scope.items) h)
         (lets_resolve (named_after f.function h k) (lets_after f.function h l) hs
@@ -136,7 +138,7 @@ module _ (p : Module) (f : Naming) (distinct : AreDistinct p f) where
             ((λ i. one i ++ more_of i)
             ∙ (sym (append_assoc (map Some own) _ _)
             ∙ ap (λ ts. ts ++ following (suc l) (bind names (bound_name f k h) (Some (LetTarget l))))
-                (sym (map-append Some own (after_it (update numbers h l) (suc l))))))
+            (sym (map-append Some own (after_it (update numbers h l) (suc l))))))
         by false one more_of = more_of
 
     performs_resolve : (l : ℕ) (names : Lookup) →
@@ -177,7 +179,7 @@ module _ (p : Module) (f : Naming) (distinct : AreDistinct p f) where
             (value_resolves f names s numbers scope.lets all v))
         line_resolves k l (Block b) s numbers names tail le regular only scope =
             λ i. lines_resolve k l b s numbers names le regular only scope i ++ lines_targets
-                (lines_counted f k l b s i) names tail
+            (lines_counted f k l b s i) names tail
         line_resolves k l (If c a b) s numbers names tail le regular only scope =
             let k1 = named_by_all f.function a k in
             let l1 = lets_by_all f.function a l in
@@ -188,14 +190,14 @@ module _ (p : Module) (f : Naming) (distinct : AreDistinct p f) where
             (lines_counted f k l a s) ∙ lines_resolve k1 l1 b s numbers names le regular.1 only.1
             (scope_more p f distinct k k1 s numbers names (list_more f a k) scope) in
             let one = both (value_targets f.function s numbers c) _ value
-                (both (statements_targets f k l a s numbers) (statements_targets f k1 l1 b s numbers) accept reject) in
+            (both (statements_targets f k l a s numbers) (statements_targets f k1 l1 b s numbers) accept reject) in
             let counted = ap (λ n. lets_following_all n (form_all f k1 b s)) (lines_counted f k l a s)
-                ∙ lines_counted f k1 l1 b s in
+            ∙ lines_counted f k1 l1 b s in
             λ i. one i ++ lines_targets (counted i) names tail
         line_resolves k l (Switch h cs) s numbers names tail le regular only scope =
             let value = value_resolves f names s numbers scope.lets (all_named names scope.items) h in
             let one = both (value_targets f.function s numbers h) (cases_targets f k l cs s numbers) value
-                (groups_resolve k l [] cs s numbers names le regular only scope) in
+            (groups_resolve k l [] cs s numbers names le regular only scope) in
             λ i. one i ++ lines_targets (groups_counted f k l [] cs s i) names tail
         line_resolves k l (Loop b d e) s numbers names tail le regular only scope =
             let k1 = named_by_all f.function b k in
@@ -210,9 +212,9 @@ module _ (p : Module) (f : Naming) (distinct : AreDistinct p f) where
             let left : names_left l (form_all f k b s) names ≡ names1 = lines_leave f k l b s names only.0 in
             let body = lines_resolve k l b s numbers names k1_le regular.0 only.0 scope in
             let rest = (λ i. lines_targets (lines_counted f k l b s i) (left i) (form_all f k1 d s1))
-                ∙ lines_resolve k1 l1 d s1 numbers1 names1 le regular.1 only.1 inside in
+            ∙ lines_resolve k1 l1 d s1 numbers1 names1 le regular.1 only.1 inside in
             let end_names = (λ i. names_left (lines_counted f k l b s i) (form_all f k1 d s1) (left i))
-                ∙ lines_leave f k1 l1 d s1 names1 only.1 in
+            ∙ lines_leave f k1 l1 d s1 names1 only.1 in
             let break_if =
             ap (λ n. tree_targets_if n (value_if f (after_all f k1 d s1) e)) end_names
             ∙ value_if_resolves f names2 (after_all f k1 d s1)
@@ -223,11 +225,11 @@ module _ (p : Module) (f : Naming) (distinct : AreDistinct p f) where
             (value_targets_if f.function (after_all f k1 d s1)
             (numbers_left f.function l1 d numbers1) e) rest break_if) in
             let counted = ap (λ n. lets_following_all n (form_all f k1 d s1)) (lines_counted f k l b s)
-                ∙ lines_counted f k1 l1 d s1 in
+            ∙ lines_counted f k1 l1 d s1 in
             λ i. one i ++ lines_targets (counted i) names tail
         line_resolves k l (Jumps (Return v)) s numbers names tail le regular only scope =
             ap (λ ts. ts ++ lines_targets l names tail)
-                (value_if_resolves f names s numbers scope.lets (all_named names scope.items) v)
+            (value_if_resolves f names s numbers scope.lets (all_named names scope.items) v)
         line_resolves k l (Jumps _) s numbers names tail le regular only scope = refl
         line_resolves k l (Barrier bits) s numbers names tail le regular only scope =
             performs_resolve l names scope.items (barrier_words bits) regular tail
@@ -263,9 +265,9 @@ module _ (p : Module) (f : Naming) (distinct : AreDistinct p f) where
             let here : k1 ≤ total p f distinct = omega (arith, le, list_more f ss k1) in
             line_resolves k l st s numbers names (form_all f k1 ss (after f k st s)) here regular.0 only.0 scope
             ∙ both (statement_targets f k l st s numbers)
-                (statements_targets f k1 l1 ss (after f k st s) (numbers_by f.function l st numbers)) refl
+            (statements_targets f k1 l1 ss (after f k st s) (numbers_by f.function l st numbers)) refl
             (lines_resolve k1 l1 ss (after f k st s) (numbers_by f.function l st numbers)
-                (names_by f k l st names) le regular.1 only.1 (scope_by p f distinct k l st s numbers names here scope))
+            (names_by f k l st names) le regular.1 only.1 (scope_by p f distinct k l st s numbers names here scope))
 
         groups_resolve : (k l : ℕ) (labels : List CaseValue) (cs : Cases) (s : Handles)
             (numbers : LetNumbers) (names : Lookup) →
@@ -278,7 +280,7 @@ module _ (p : Module) (f : Naming) (distinct : AreDistinct p f) where
         groups_resolve k l labels (case label b true cs) s numbers names le regular only scope =
             let k1 = named_by_all f.function b k in
             groups_resolve k1 l (labels ++ label ∷ []) cs s numbers names le regular.2 only.2
-                (scope_more p f distinct k k1 s numbers names (list_more f b k) scope)
+            (scope_more p f distinct k k1 s numbers names (list_more f b k) scope)
         groups_resolve k l labels (case label b false cs) s numbers names le regular only scope =
             let k1 = named_by_all f.function b k in
             let l1 = lets_by_all f.function b l in
@@ -292,7 +294,7 @@ module _ (p : Module) (f : Naming) (distinct : AreDistinct p f) where
       -- ---- variables
       variables_resolve : (i : ℕ) (os : List (Option ℕ)) → i + length os ≡ local_count f.function →
           IsTrue (first_values_fit f.function i os) → AreRegular p callees f f.function.body →
-              OnlyEmptyFallIn f.function.body →
+          OnlyEmptyFallIn f.function.body →
           (names : Lookup) → Knows p f distinct i names
           → variables_targets i names (variables_from f i os)
           (form_all f 0 f.function.body (at_start f.function)) ≡ map Some
@@ -301,8 +303,11 @@ module _ (p : Module) (f : Naming) (distinct : AreDistinct p f) where
       variables_resolve i [] size fit regular only names knows =
           let all : i ≡ local_count f.function = omega (arith, size) in
           lines_resolve 0 0 f.function.body (at_start f.function) no_numbers names (omega arith) regular only
-          (record { items = subst (λ n. Knows p f distinct n names) all knows;
-              lets = none_at_start p f distinct words leaves names; sources = start_sources f })
+          (record {
+            items = subst (λ n. Knows p f distinct n names) all knows;
+            lets = none_at_start p f distinct words leaves names;
+            sources = start_sources f;
+          })
       variables_resolve i (o ∷ os) size fit regular only names knows =
           let usable = usable_if (before_local f.function i) (at_start f.function) o in
           let later = first_values_fit f.function (suc i) os in
@@ -311,12 +316,12 @@ module _ (p : Module) (f : Naming) (distinct : AreDistinct p f) where
           both (value_targets_if f.function (at_start f.function) no_numbers o) _
           (first_resolves p f distinct words leaves i names knows o (and_left usable later fit))
           (variables_resolve (suc i) os next (and_right usable later fit) regular only
-              (bind names (f.names.local_ i) (Some (LocalTarget i)))
+          (bind names (f.names.local_ i) (Some (LocalTarget i)))
           (knows_more p f distinct (FixedKey (LocalName i)) within i (suc i) (LocalTarget i) names
-              (λ y here stands e. same_target y e) declared_before knows))
+          (λ y here stands e. same_target y e) declared_before knows))
           ∙ ap (map Some)
-              (sym (append_assoc (value_targets_if f.function (at_start f.function) no_numbers o)
-              (first_values_targets f.function os) _))
+          (sym (append_assoc (value_targets_if f.function (at_start f.function) no_numbers o)
+          (first_values_targets f.function os) _))
         where
           same_target : (y : FixedName) → FixedKey y ≡ FixedKey (LocalName i) → Some (LocalTarget i)
               ≡ Some (fixed_target p f distinct y)
@@ -336,7 +341,7 @@ module _ (p : Module) (f : Naming) (distinct : AreDistinct p f) where
         past : (w : Bytes) → IsNoName p f w → entry p f distinct items w ≡ items w
         past w no_name =
             family_other ArgumentTarget f.names.argument w (argument_count f.function) 0
-                (λ i le lt. no_name (FixedKey (ArgumentName i)) (omega (arith, lt))) items
+            (λ i le lt. no_name (FixedKey (ArgumentName i)) (omega (arith, lt))) items
 
         entry_fixed : (y : FixedName) → IsFixedName p f.function y → IsDeclared p f distinct 0 y →
             entry p f distinct items (fixed_name f.names y) ≡ Some (fixed_target p f distinct y)
@@ -374,8 +379,8 @@ module _ (p : Module) (f : Naming) (distinct : AreDistinct p f) where
         function_resolves scope regular only =
             let first = first_values_fit f.function 0 f.function.first_values in
             variables_resolve 0 f.function.first_values (omega arith)
-                (and_left first (fits_all f 0 f.function.body (at_start f.function)) scope) regular only
-                (entry p f distinct items)
+            (and_left first (fits_all f 0 f.function.body (at_start f.function)) scope) regular only
+            (entry p f distinct items)
             (record {
               fixed = entry_fixed;
               functions = λ g lt no_name. past (f.names.outer.function g) no_name ∙ knows_items.functions g lt no_name;
@@ -408,11 +413,11 @@ module _ (p : Module) (n : ModuleNames) (distinct : ModuleNamesAreDistinct p n) 
   function_found [] named within g lt = absurd (omega (arith, lt))
   function_found (f ∷ fs) named within g lt =
       bind_cases (λ o. o ≡ Some (FunctionTarget g)) (with_functions fs) f.name
-          (Some (FunctionTarget (length fs))) (n.function g)
+      (Some (FunctionTarget (length fs))) (n.function g)
       (λ e. ap (λ k. Some (FunctionTarget k))
-          (distinct.functions (length fs) g (omega (arith, within)) (omega (arith, lt, within)) (sym (e ∙ named.0))))
+      (distinct.functions (length fs) g (omega (arith, within)) (omega (arith, lt, within)) (sym (e ∙ named.0))))
       (λ other. function_found fs named.1 (omega (arith, within)) g
-          (before_it (λ e. other (ap n.function e ∙ sym named.0))))
+      (before_it (λ e. other (ap n.function e ∙ sym named.0))))
     where
       before_it : (g ≡ length fs → ⊥) → g < length fs
       before_it apart = omega (arith, lt, apart)
@@ -439,8 +444,8 @@ module _ (p : Module) (n : ModuleNames) (fs : List TextFunction) (fits : ItemsFi
   constant_found : (i : ℕ) → i < length p.constant_types → items_of p n fs (n.constant i) ≡ Some (ConstantTarget i)
   constant_found i lt =
       family_found ConstantTarget n.constant (length p.constant_types) 0
-          (λ a b la lb e. fits.constants.distinct a b (omega (arith, la)) (omega (arith, lb)) e) _ i
-          (omega arith) (omega (arith, lt))
+      (λ a b la lb e. fits.constants.distinct a b (omega (arith, la)) (omega (arith, lb)) e) _ i
+      (omega arith) (omega (arith, lt))
 
   -- a word that is no constant and no variable is what it is among the functions
   among_functions : (w : Bytes) → ((i : ℕ) → i < length p.constant_types → n.constant i ≢ w) →
@@ -448,7 +453,7 @@ module _ (p : Module) (n : ModuleNames) (fs : List TextFunction) (fits : ItemsFi
       items_of p n fs w ≡ with_functions fs w
   among_functions w constants globals =
       family_other ConstantTarget n.constant w (length p.constant_types) 0
-          (λ i le lt. constants i (omega (arith, lt))) _
+      (λ i le lt. constants i (omega (arith, lt))) _
       ∙ family_other GlobalTarget n.global w (length p.globals) 0 (λ i le lt. globals i (omega (arith, lt))) _
 
   knows_items : (f : Naming) (d : AreDistinct p f) → f.names.outer ≡ n → KnowsItems p f d (items_of p n fs)
@@ -472,12 +477,12 @@ module _ (p : Module) (n : ModuleNames) (fs : List TextFunction) (fits : ItemsFi
         (λ i li e. no_name (FixedKey (GlobalName i)) li (ap (λ m. m.global i) outer ∙ e))
         ∙ ap (with_functions fs) same
         ∙ function_found p n fits.distinct fs fits.named (omega (arith, counted_functions)) g
-            (omega (arith, lt, counted_functions));
+        (omega (arith, lt, counted_functions));
     free = λ w stands.
         among_functions w (λ i li e. stands.1 (FixedKey (ConstantName i)) li (ap (λ m. m.constant i) outer ∙ e))
-            (λ i li e. stands.1 (FixedKey (GlobalName i)) li (ap (λ m. m.global i) outer ∙ e))
+        (λ i li e. stands.1 (FixedKey (GlobalName i)) li (ap (λ m. m.global i) outer ∙ e))
         ∙ function_none p n fits.distinct fs fits.named (omega (arith, counted_functions)) w
-            (λ g lt e. stands.0 g lt (ap (λ m. m.function g) outer ∙ e));
+        (λ g lt e. stands.0 g lt (ap (λ m. m.function g) outer ∙ e));
   }
     where
       no_constant : (j i : ℕ) → FixedKey (ConstantName j) ≡ FixedKey (GlobalName i) → ⊥
@@ -492,7 +497,7 @@ module _ (p : Module) (n : ModuleNames) (fs : List TextFunction) (fits : ItemsFi
       text_function_targets (items_of p n fs) (form_function f) ≡ map Some (function_targets f)
   one_resolves callees within f one stand =
       function_resolves p f one.distinct callees one.words one.leaves stand within one.earlier (items_of p n fs)
-          (knows_items f one.distinct one.outer) one.scope one.regular one.cases
+      (knows_items f one.distinct one.outer) one.scope one.regular one.cases
 
   functions_resolve : (gs : List Naming) → AllFit p n gs → LeavesStand gs →
       length gs ≤ length p.functions →
@@ -523,7 +528,7 @@ module _ (p : Module) (n : ModuleNames) (fs : List TextFunction) (fits : ItemsFi
       let own = each 0 e refl in
       let here = outside_resolves e own.range own.words in
       let rest = initialisers_resolve (suc j) es
-          (λ i x at. subst (λ k. InitialiserFits p n fits.constants.rank k x) (moved i) (each (suc i) x at)) in
+      (λ i x at. subst (λ k. InitialiserFits p n fits.constants.rank k x) (moved i) (each (suc i) x at)) in
       λ i. here i ∷ rest i
     where
       moved : (i : ℕ) → j + suc i ≡ suc j + i
@@ -533,7 +538,7 @@ module _ (p : Module) (n : ModuleNames) (fs : List TextFunction) (fits : ItemsFi
   names_are : text_names (form_module_with p n fs) ≡ items_of p n fs
   names_are =
       λ i. with_items ConstantTarget 0 (constants i)
-          (with_items GlobalTarget 0 (globals_named n.global 0 p.globals i) (with_functions fs))
+      (with_items GlobalTarget 0 (globals_named n.global 0 p.globals i) (with_functions fs))
     where
       overrides_counted : constant_count p + length (override_types p) ≡ length p.constant_types
       overrides_counted = let dropped = length-drop (constant_count p) p.constant_types in
@@ -543,7 +548,7 @@ module _ (p : Module) (n : ModuleNames) (fs : List TextFunction) (fits : ItemsFi
           (constant_count p) (length (override_types p)) ≡ names_from n.constant 0 (length p.constant_types)
       constants =
           (λ i. constants_named_from n 0 p.initialisers i ++ names_from n.constant (constant_count p)
-              (length (override_types p)))
+          (length (override_types p)))
           ∙ (names_joined n.constant 0 (constant_count p) (length (override_types p)) (constant_count p) (omega arith)
           ∙ ap (names_from n.constant 0) overrides_counted)
 
@@ -586,7 +591,7 @@ resolves_as_meant p n fs whole stand =
     (let counted = length-form_functions fs in omega (arith, fits.counted, counted)) in
     let t = form_module p n fs in
     ap (λ names. map (λ c. tree_targets names c.initialiser) t.constants
-        ++ map (text_function_targets names) t.functions) (names_are p n functions fits)
+    ++ map (text_function_targets names) t.functions) (names_are p n functions fits)
     ∙ ((λ i. initialisers_resolve p n functions fits 0 p.initialisers
     (λ i e at. subst (λ k. InitialiserFits p n fits.constants.rank k e) (from_none i)
     (fits.constants.initialisers i e at)) i ++ functions_resolve p n functions fits fs whole.all stand

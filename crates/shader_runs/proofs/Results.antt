@@ -176,7 +176,7 @@ module _ (k : Option ValueType) where
   emit_leads c [] kept t = refl
   emit_leads c (h ∷ hs) kept t =
       then_leads true true false false (emit_as c h (expression_of c.function h) kept t) (emit c hs)
-          (emit_as_leads c h (expression_of c.function h) kept t) (emit_leads c hs)
+      (emit_as_leads c h (expression_of c.function h) kept t) (emit_leads c hs)
 
   asks_lead : (ws : List Bytes) (kept : KeptValues) (t : List Event) → Leads k true false (ask_each ws kept t)
   asks_lead [] kept t = refl
@@ -236,7 +236,7 @@ module _ (p : Module) (c : Call) (f : Naming) (complete : (g : ℕ) (callee : Fu
       go None e w = absurd w
       go (Some callee) e w =
           result_leads c.environment.parts k c.function callee.result (Called g) r kept (c.calls g vs t)
-              (wanted r w) (complete g callee e vs t)
+          (wanted r w) (complete g callee e vs t)
         where
           wanted : (r : Option ℕ) → CallFits f.function (Some callee) xs r → (h : ℕ) → r ≡ Some h →
               (z : ValueType) × (callee.result ≡ Some z)
@@ -250,7 +250,7 @@ module _ (p : Module) (c : Call) (f : Naming) (complete : (g : ℕ) (callee : Fu
   ends_later : (b : Statements) (falls : Bool) (cs : Cases) → IsTrue (some_case_ends cs) → IsTrue (Ends b falls cs)
   ends_later b falls cs h =
       or_right (any_break b) ((not falls && may_end_all b) || some_case_ends cs)
-          (or_right (not falls && may_end_all b) (some_case_ends cs) h)
+      (or_right (not falls && may_end_all b) (some_case_ends cs) h)
 
   case_leads : (b : Statements) (falls : Bool) (cs : Cases) (on : Next KeptValues)
       (kept : KeptValues) (t : List Event) →
@@ -265,11 +265,11 @@ module _ (p : Module) (c : Call) (f : Naming) (complete : (g : ℕ) (callee : Fu
           Leads k (Ends b falls cs) (Ends b falls cs) (cond z (on kept t) (Done kept t))
       on_from true q e kept t =
           more k (some_case_ends cs) (Ends b falls cs) (some_case_ends cs) (Ends b falls cs) (on kept t)
-              (ends_later b falls cs) (ends_later b falls cs) (next q kept t)
+          (ends_later b falls cs) (ends_later b falls cs) (next q kept t)
       on_from false q e kept t =
           or_right (any_break b) ((not falls && may_end_all b) || some_case_ends cs)
-              (or_left (not falls && may_end_all b) (some_case_ends cs)
-              (and_both (not falls) (may_end_all b) (ap not q) e))
+          (or_left (not falls && may_end_all b) (some_case_ends cs)
+          (and_both (not falls) (may_end_all b) (ap not q) e))
 
       go : (o : Outcome KeptValues) → Leads k (may_end_all b) (any_break b) o →
           Leads k (Ends b falls cs) (Ends b falls cs)
@@ -310,16 +310,16 @@ module _ (p : Module) (c : Call) (f : Naming) (complete : (g : ℕ) (callee : Fu
           Leads k (may_end (Switch 0 cs)) false (after_switch (run_cases c bound cs (case_value_if b z) kept t))
       go true q =
           let up = λ (h : IsTrue (some_case_ends cs)). or_right (not (has_case_value Default cs))
-              (some_case_ends cs) h in
+          (some_case_ends cs) h in
           let there = subst (λ b. Leads k (not b || some_case_ends cs) (some_case_ends cs)
-              (run_cases c bound cs (Numbered z) kept t)) q (each (Numbered z) kept t) in
+          (run_cases c bound cs (Numbered z) kept t)) q (each (Numbered z) kept t) in
           switch_leads k (may_end (Switch 0 cs)) (some_case_ends cs)
           (run_cases c bound cs (Numbered z) kept t) up
           (more k (some_case_ends cs) (may_end (Switch 0 cs)) (some_case_ends cs)
           (some_case_ends cs) (run_cases c bound cs (Numbered z) kept t) up (λ h. h) there)
       go false q =
           switch_leads k (may_end (Switch 0 cs)) (some_case_ends cs) (run_cases c bound cs Default kept t)
-              (λ h. or_right (not (has_case_value Default cs)) (some_case_ends cs) h) (each Default kept t)
+          (λ h. or_right (not (has_case_value Default cs)) (some_case_ends cs) h) (each Default kept t)
 
   mutual
     line_leads : (st : Statement) → IsRegular p c.callees f st → Where k (has_values st) →
@@ -327,7 +327,7 @@ module _ (p : Module) (c : Call) (f : Naming) (complete : (g : ℕ) (callee : Fu
     line_leads (Emit first count) m w kept t = emit_leads k c (from first count) kept t
     line_leads (Store q v) m w kept t =
         there_leads k true false (option_and_then place_in (used_value c kept q)) t _
-            (λ place. there_leads k true false (used_value c kept v) t _ (λ value. refl))
+        (λ place. there_leads k true false (used_value c kept v) t _ (λ value. refl))
     line_leads (Block b) m w kept t = body_leads b m w kept t
     line_leads (If h a b) m w kept t =
         there_leads k (may_end_all a || may_end_all b) (any_break a || any_break b)
@@ -391,7 +391,7 @@ module _ (p : Module) (c : Call) (f : Naming) (complete : (g : ℕ) (callee : Fu
         let body = body_leads b m.1 (where_left k (all_have_values b) (cases_have_values cs) w) kept t in
         let later = where_right k (all_have_values b) (cases_have_values cs) w in
         case_leads b falls cs (run_on c bound cs) kept t body
-            (λ q kept t. on_lead cs (falls_to_case falls cs m.0 q) m.2 later kept t)
+        (λ q kept t. on_lead cs (falls_to_case falls cs m.0 q) m.2 later kept t)
 
 -- a body's end, where it is reached, gives nothing
 answer_complete : (k : Option ValueType) (e b : Bool) (o : Outcome KeptValues) →
@@ -477,4 +477,4 @@ results_are_returned p fs same regular gives settings m g f e vs w turns t =
         IsComplete f.result (run_call env w m turns p.functions g vs t)
     there e gives =
         subst (λ l. IsComplete f.result (run_call env w m turns l g vs t)) same
-            (calls_complete p env w m turns fs regular gives g f e vs t)
+        (calls_complete p env w m turns fs regular gives g f e vs t)

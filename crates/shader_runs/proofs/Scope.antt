@@ -33,7 +33,7 @@ lets_continue f k [] s tail = refl
 lets_continue f k (h ∷ hs) s tail =
     let rest = lets f (named_after f.function h k) hs (after_one f k h s) tail in
     let_continue (binds f.function h) (bound_name f k h)
-        (value_form (own_form f (written_form f s) (expression_of f.function h))) rest
+    (value_form (own_form f (written_form f s) (expression_of f.function h))) rest
     ∙ lets_continue f (named_after f.function h k) hs (after_one f k h s) tail
 
 pub performs_continue : (ws : List Bytes) (tail : Lines) → some_continue (perform_each ws tail) ≡ some_continue tail
@@ -80,7 +80,7 @@ mutual
   continue_all p c n k (then st ss) s m =
       let rest = form_all (naming c n) (named_by c.function st k) ss (after (naming c n) k st s) in
       continue_one p c n k st s rest m.0 ∙ ap (λ x. holds_continue st || x)
-          (continue_all p c n (named_by c.function st k) ss (after (naming c n) k st s) m.1)
+      (continue_all p c n (named_by c.function st k) ss (after (naming c n) k st s) m.1)
 
   pub continue_cases : (p : Module) (c : Call) (n : Names) (k : ℕ) (labels : List CaseValue)
       (cs : Cases) (s : Handles) → FitsCases p c n k cs s →
@@ -88,7 +88,7 @@ mutual
   continue_cases p c n k labels no_case s m = refl
   continue_cases p c n k labels (case l b false cs) s m =
       ap₂ (λ x y. x || y) (continue_all p c n k b s m.1)
-          (continue_cases p c n (named_by_all c.function b k) [] cs s m.2)
+      (continue_cases p c n (named_by_all c.function b k) [] cs s m.2)
   continue_cases p c n k labels (case l end true cs) s m = continue_cases p c n k (labels ++ l ∷ []) cs s m.2
   continue_cases p c n k labels (case l (then st ss) true cs) s m = absurd m.0
 
@@ -101,7 +101,7 @@ pub among_append : (x : CaseValue) (labels : List CaseValue) (l : CaseValue) →
 among_append x [] l = or-false (same_case_value x l)
 among_append x (y ∷ ys) l =
     ap (λ b. same_case_value x y || b) (among_append x ys l)
-        ∙ sym (or_assoc (same_case_value x y) (among x ys) (same_case_value x l))
+    ∙ sym (or_assoc (same_case_value x y) (among x ys) (same_case_value x l))
 
 pub first_followed_by : (cs : Cases) → IsFollowed [] cs
 first_followed_by no_case = tt
@@ -116,7 +116,7 @@ has_cases p c n k [] no_case s m w x = refl
 has_cases p c n k (y ∷ ys) no_case s m w x = absurd w
 has_cases p c n k labels (case l b false cs) s m w x =
     ap₂ (λ p q. p || q) (among_append x labels l)
-        (has_cases p c n (named_by_all c.function b k) [] cs s m.2 (first_followed_by cs) x)
+    (has_cases p c n (named_by_all c.function b k) [] cs s m.2 (first_followed_by cs) x)
     ∙ or_assoc (among x labels) (same_case_value x l) (has_case_value x cs)
 has_cases p c n k labels (case l end true cs) s m w x =
     has_cases p c n k (labels ++ l ∷ []) cs s m.2 (falls_followed (labels ++ l ∷ []) cs m.0) x

@@ -364,7 +364,7 @@ module _ (f : Function) (h : ℕ) (at : Point) (s : Handles) (t : Tracks f at s)
       let here = inline_used f at s h t p b Usable refl in
       let new = inline_introduced f at s h t p b Usable refl in
       tracks_introduced f (Emitted h) (availability_without_name Usable (s h)) at s t
-          (λ i. here.0 (sym same ∙ i), λ d. same ∙ here.1 d) new
+      (λ i. here.0 (sym same ∙ i), λ d. same ∙ here.1 d) new
   tracks_kind false false b p = t
 
   pub tracks_emitted : Tracks f (following_one f h at)
@@ -693,8 +693,10 @@ module _ (f : Function) (ordered : (h : ℕ) → AllBelow h (operands_at f h)) w
   tracks_start =
       record {
         used = λ h. (used_at_start h (expression_of f h) refl, in_scope_at_start h);
-        introduced = λ h. (λ i. absurd (true≢false (sym (start_new (Tested h)) ∙ i)),
-            λ g. absurd (nothing_introduced h g));
+        introduced = λ h. (
+          λ i. absurd (true≢false (sym (start_new (Tested h)) ∙ i)),
+          λ g. absurd (nothing_introduced h g),
+        );
         trees = λ h e. tested_trees h (start_everywhere (Tested h) e);
         passed = λ h a. a;
       }

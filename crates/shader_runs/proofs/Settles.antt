@@ -192,7 +192,7 @@ module _ (k : ℕ) where
       let first : turns j once s e ≡ Stopped OutOfTurns e = silent j once s e (ap (once s) (sym q) ∙ p) in
       let second : turns n once' s e ≡ Stopped OutOfTurns e = silent n once' s e (ap (once' s) (sym q) ∙ p') in
       subst (λ o. Settles outcome_ends (suc j) t (turns j once s e) o) (first ∙ sym second)
-          (same (subst (λ o. Later t (events_of o)) (sym first) (subst (λ e. Later t e) q here)))
+      (same (subst (λ o. Later t (events_of o)) (sym first) (subst (λ e. Later t e) q here)))
 
   -- a loop whose turns put the state back
   turns_settle : {S : Type 0} (turn turn' : Next S) → SettlesNext turn turn' →
@@ -202,7 +202,7 @@ module _ (k : ℕ) where
   turns_settle turn turn' each (suc j) zero le lk s t = absurd (omega (arith, le))
   turns_settle {S} turn turn' each (suc j) (suc n) le lk s t =
       go (turn s t) (turn' s t) refl refl (each s t)
-          (turns_settle turn turn' each j n (omega (arith, le)) (omega (arith, lk)) s)
+      (turns_settle turn turn' each j n (omega (arith, le)) (omega (arith, lk)) s)
     where
       settled : (o : Outcome S) → turn s t ≡ o → turn' s t ≡ o → Later t (events_of o) →
           ((e : List Event) → Settles outcome_ends j e (turns j (putting_back turn) s e)
@@ -216,7 +216,7 @@ module _ (k : ℕ) where
               Settles outcome_ends (suc j) t (turns j (putting_back turn) s e) (turns n (putting_back turn') s e)
           grown (inl q) =
               quiet (putting_back turn) (putting_back turn') j n s t e (no_later l q) (ap (closed_outcome s) p)
-                  (ap (closed_outcome s) p')
+              (ap (closed_outcome s) p')
           grown (inr lt) = one_more l lt (rest e)
       settled (Continued s1 e) p p' l rest = same l
       settled (Broke s1 e) p p' l rest = same l
@@ -412,11 +412,11 @@ module _ (k : ℕ) where
           (tree_settles a names t)
       tree_settles (Index a i) names t =
           indexed_settles parts m (λ e. read_value w (evaluate l i names e))
-              (λ e. read_value w (evaluate l' i names e)) (λ e. valued_settles w (tree_settles i names e))
-              (tree_settles a names t)
+          (λ e. read_value w (evaluate l' i names e)) (λ e. valued_settles w (tree_settles i names e))
+          (tree_settles a names t)
       tree_settles (PartOf x a) names t =
           onward (part_picked parts w m x) (part_picked parts w m x) (λ e. refl) (picked_next x)
-              (tree_settles a names t)
+          (tree_settles a names t)
       tree_settles (LogicalOf j a b) names t =
           logical_settles m j (λ e. read_value w (evaluate l b names e))
           (λ e. read_value w (evaluate l' b names e))
@@ -428,7 +428,7 @@ module _ (k : ℕ) where
       trees_settle no_more names t = same here
       trees_settle (more a es) names t =
           followed_settles (evaluate_all l es names) (evaluate_all l' es names) (trees_settle es names)
-              (valued_settles w (tree_settles a names t))
+          (valued_settles w (tree_settles a names t))
 
     value_settles : (a : Tree) (names : Scope) (t : List Event) →
         SettlesReached t (value_of l a names t) (value_of l' a names t)
@@ -452,14 +452,14 @@ module _ (k : ℕ) where
     return_settles None names t = same here
     return_settles (Some a) names t =
         with_value_settles (λ v e. Returned (Some v) e) (λ v e. Returned (Some v) e) (λ v e. same here)
-            (value_settles a names t)
+        (value_settles a names t)
 
     module _ (n : ℕ) (less : k ≤ n) where
       mutual
         line_settles : (x : Line) → SettlesNext (follow l k x) (follow l' n x)
         line_settles (Let x a) names t =
             with_value_settles (λ v e. Done (bind names x (Some (IsValue v))) e)
-                (λ v e. Done (bind names x (Some (IsValue v))) e) (λ v e. same here) (value_settles a names t)
+            (λ v e. Done (bind names x (Some (IsValue v))) e) (λ v e. same here) (value_settles a names t)
         line_settles (Assign p a) names t =
             with_place_settles
             (λ place t1. with_value (value_of l a names t1)
@@ -514,7 +514,7 @@ module _ (k : ℕ) where
         line_settles (JumpLine _) names t = same (later here)
         line_settles (Perform word es) names t =
             onward (perform_outcome (operates word) names) (perform_outcome (operates word) names) (λ e. refl)
-                (performed_next (operates word) names) (word_settles word names (trees_settle es names t))
+            (performed_next (operates word) names) (word_settles word names (trees_settle es names t))
 
         lines_settle : (ls : Lines) → SettlesNext (follow_all l k ls) (follow_all l' n ls)
         lines_settle last names t = same here
@@ -525,8 +525,8 @@ module _ (k : ℕ) where
         looped_settle last names t = same here
         looped_settle (before x ls) names t =
             closed_if_settles (has_continue x) names
-                (and_then_settles (follow_in_loop l k ls) (follow_in_loop l' n ls) (looped_settle ls)
-                (line_settles x names t))
+            (and_then_settles (follow_in_loop l k ls) (follow_in_loop l' n ls) (looped_settle ls)
+            (line_settles x names t))
 
         groups_settle : (gs : Groups) (x : CaseValue) → SettlesNext (follow_groups l k gs x) (follow_groups l' n gs x)
         groups_settle no_group x names t = same here
@@ -612,7 +612,7 @@ module _ (k : ℕ) where
       cond_settles (same_bytes word f.name)
       _ _ _ _ (called_settles (nat_eq (length vs) (length f.parameters)) t
       _ _ (body_settles parts w m (λ word. is_operation (uses word)) (follow_call parts outer w m uses k fs)
-          (follow_call parts outer w m uses n fs)
+      (follow_call parts outer w m uses n fs)
       callee n less (length fs) f vs (with_parameters f.parameters vs outer) t))
       (callee word vs t)
 

@@ -78,7 +78,7 @@ module _ (f : Naming) where
       ((x : Bytes) → st ≡ Bound x → Source k h x) → Sources k s → Sources k (update s h st)
   sources_update k s h st new d h1 x =
       update_cases (λ z. z ≡ Bound x → Source k h1 x) s h st h1
-          (λ e z. subst (λ h. Source k h x) (sym e) (new x z)) (λ e z. d h1 x z)
+      (λ e z. subst (λ h. Source k h x) (sym e) (new x z)) (λ e z. d h1 x z)
 
   source_bound : (k h : ℕ) → Source (named_after f.function h k) h (bound_name f k h)
   source_bound k h = by (is_named f.function h)
@@ -120,7 +120,7 @@ module _ (f : Naming) where
   pub sources_one : (k h : ℕ) (s : Handles) → Sources k s → Sources (named_after f.function h k) (after_one f k h s)
   sources_one k h s d =
       by (binds f.function h) (is_pure (expression_of f.function h))
-          (usable_all f.function s (operands_of (expression_of f.function h)))
+      (usable_all f.function s (operands_of (expression_of f.function h)))
     where
       more : Sources (named_after f.function h k) s
       more = sources_more k (named_after f.function h k) s (named_after_more h k) d
@@ -166,4 +166,4 @@ module _ (f : Naming) where
   sources_all k end s d = d
   sources_all k (then st ss) s d =
       sources_if (holds_continue st) k _ s _ (list_more (then st ss) k) d
-          (sources_all (named_by f.function st k) ss (after f k st s) (sources_after k st s d))
+      (sources_all (named_by f.function st k) ss (after f k st s) (sources_after k st s d))

@@ -56,9 +56,11 @@ module _ (p : Module) (env : Environment) (fits : EnvironmentFits p env) (f : Fu
   typed_list value test h each [] b t = ([], refl, refl)
   typed_list value test h each (x ∷ xs) b t =
       let v = each x b.0 (and_left (test x) (all_constant test xs) t) in
-      let vs = typed_list value test h each xs b.1 (and_right (test x) (all_constant test xs) t) in
-      (v.0 ∷ vs.0, ap (λ o. also o (all_of value xs)) v.1 ∙ ap (also (Some v.0)) vs.1,
-          and_both (has_type env.parts (handle_type f x) v.0) (has_types env.parts (handle_types f xs) vs.0) v.2 vs.2)
+      let vs = typed_list value test h each xs b.1 (and_right (test x) (all_constant test xs) t) in (
+        v.0 ∷ vs.0,
+        ap (λ o. also o (all_of value xs)) v.1 ∙ ap (also (Some v.0)) vs.1,
+        and_both (has_type env.parts (handle_type f x) v.0) (has_types env.parts (handle_types f xs) vs.0) v.2 vs.2,
+      )
 
   constant_has_type : (n h : ℕ) → IsTrue (is_constant_below f n h) →
       TypedValue env.parts (handle_type f h) (constant_below f env m n h)
@@ -96,7 +98,7 @@ module _ (p : Module) (env : Environment) (fits : EnvironmentFits p env) (f : Fu
   same_bound (suc n) zero h ln lk = absurd (omega arith)
   same_bound (suc n) (suc k) h ln lk =
       same_as (constant_below f env m n) (constant_below f env m k) h
-          (λ x lt. same_bound n k x (omega arith) (omega arith)) (expression_of f h) (below h)
+      (λ x lt. same_bound n k x (omega arith) (omega arith)) (expression_of f h) (below h)
 
   same_test_list : (a b : ℕ → Bool) (h : ℕ) → ((x : ℕ) → x < h → a x ≡ b x) → (xs : List ℕ) → AllBelow h xs →
       all_constant a xs ≡ all_constant b xs
@@ -113,20 +115,20 @@ module _ (p : Module) (env : Environment) (fits : EnvironmentFits p env) (f : Fu
   same_test_bound (suc n) zero h ln lk = absurd (omega arith)
   same_test_bound (suc n) (suc k) h ln lk =
       same_test_as (is_constant_below f n) (is_constant_below f k) h
-          (λ x lt. same_test_bound n k x (omega arith) (omega arith)) (expression_of f h) (below h)
+      (λ x lt. same_test_bound n k x (omega arith) (omega arith)) (expression_of f h) (below h)
 
   unfold_value : (n h : ℕ) → h < n → constant_below f env m n h ≡ constant_as env m (constant_below f env m n)
       (expression_of f h)
   unfold_value zero h lt = absurd (omega arith)
   unfold_value (suc n) h lt =
       same_as (constant_below f env m n) (constant_below f env m (suc n)) h
-          (λ x l. same_bound n (suc n) x (omega arith) (omega arith)) (expression_of f h) (below h)
+      (λ x l. same_bound n (suc n) x (omega arith) (omega arith)) (expression_of f h) (below h)
 
   unfold_test : (n h : ℕ) → h < n → is_constant_below f n h ≡ constant_test (is_constant_below f n) (expression_of f h)
   unfold_test zero h lt = absurd (omega arith)
   unfold_test (suc n) h lt =
       same_test_as (is_constant_below f n) (is_constant_below f (suc n)) h
-          (λ x l. same_test_bound n (suc n) x (omega arith) (omega arith)) (expression_of f h) (below h)
+      (λ x l. same_test_bound n (suc n) x (omega arith) (omega arith)) (expression_of f h) (below h)
 
   -- a constant handle lies in the list
   constant_within : (n h : ℕ) → IsTrue (is_constant_below f n h) → h < length f.expressions
@@ -170,7 +172,7 @@ kind_of_constant : (test : ℕ → Bool) (e : Option Expression) → IsTrue (con
     IsTrue (is_constant_leaf e) ⊎ IsTrue (is_pure e)
 kind_of_constant test e t =
     or_cases (is_constant_leaf e) (is_pure e && all_constant test (operands_of e)) t (λ l. inl l)
-        (λ u. inr (and_left (is_pure e) (all_constant test (operands_of e)) u))
+    (λ u. inr (and_left (is_pure e) (all_constant test (operands_of e)) u))
 
 pure_no_leaf : (e : Option Expression) → IsTrue (is_pure e) → IsTrue (is_constant_leaf e) → ⊥
 pure_no_leaf (Some (Constant e)) p l = true≢false (sym p)
@@ -181,7 +183,7 @@ pure_test : (test : ℕ → Bool) (e : Option Expression) → IsTrue (is_pure e)
     IsTrue (all_constant test (operands_of e))
 pure_test test e p t =
     or_cases (is_constant_leaf e) (is_pure e && all_constant test (operands_of e)) t
-        (λ l. absurd (pure_no_leaf e p l)) (λ u. and_right (is_pure e) (all_constant test (operands_of e)) u)
+    (λ l. absurd (pure_no_leaf e p l)) (λ u. and_right (is_pure e) (all_constant test (operands_of e)) u)
 
 module _ (p : Module) (c : Call) (fits : EnvironmentFits p c.environment) (below : (h : ℕ) →
     AllBelow h (operands_of (expression_of c.function h))) (leaves : (h : ℕ) →
@@ -204,7 +206,7 @@ module _ (p : Module) (c : Call) (fits : EnvironmentFits p c.environment) (below
       IsTrue (usable c.function (at_start c.function) x)
   each_usable x t =
       usable_start c.function (expression_of c.function x) (is_constant_below c.function Top x) t
-          (kind_of_constant (is_constant_below c.function Top) (expression_of c.function x) (tested x t))
+      (kind_of_constant (is_constant_below c.function Top) (expression_of c.function x) (tested x t))
 
   each_used : (x : ℕ) → IsTrue (is_constant_below c.function Top x) → used_value c values x ≡ values x
   each_used x t =
@@ -229,7 +231,7 @@ module _ (p : Module) (c : Call) (fits : EnvironmentFits p c.environment) (below
   list_used (x ∷ xs) t =
       let test = is_constant_below c.function Top in
       ap₂ also (each_used x (and_left (test x) (all_constant test xs) t))
-          (list_used xs (and_right (test x) (all_constant test xs) t))
+      (list_used xs (and_right (test x) (all_constant test xs) t))
 
   pub start_stands : (names : Scope) (h : ℕ) → Stands c (at_start c.function) names values
       (handle_type c.function h) (expression_of c.function h) (values h) (at_start c.function h)

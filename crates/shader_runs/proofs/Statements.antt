@@ -59,13 +59,13 @@ use Rattle.shader_runs.proofs.Scope.{extends_all, told_continues}
 abbrev pub Same : Call → Names → Handles → KeptValues → Handles → Bool → Outcome KeptValues → Outcome Scope → Type 0
 Same c n s kept s2 held =
     Alike (Returns c.environment.parts c.function) (λ k l. Related c n s2 l k × Agree s kept k)
-        (λ k l. Related c n s2 l k × Agree s kept k × IsTrue held) (λ k l. Agree s kept k)
+    (λ k l. Related c n s2 l k × Agree s kept k × IsTrue held) (λ k l. Agree s kept k)
 
 -- the same for one statement, which gives no name
 abbrev pub SameLine : Call → Names → Handles → KeptValues → Bool → Outcome KeptValues → Outcome Scope → Type 0
 SameLine c n s kept held =
     Alike (Returns c.environment.parts c.function) (λ k l. Related c n s l k × Agree s kept k)
-        (λ k l. Agree s kept k × IsTrue held) (λ k l. Agree s kept k)
+    (λ k l. Agree s kept k × IsTrue held) (λ k l. Agree s kept k)
 
 -- the same for the body of a case, whose names are forgotten
 abbrev pub SameBody : Call → Handles → KeptValues → Bool → Outcome KeptValues → Outcome Scope → Type 0
@@ -96,7 +96,7 @@ row c n s names kept r true held2 s2 o o' f g line next =
     (weaker (λ k l p. p) (λ k l q. q.0) (λ k l b. b) line))
 row c n s names kept r false held2 s2 o o' f g line next =
     then_alike {P = λ k l. Related c n s l k × Agree s kept k} (λ k l t p. next k l t p.0 p.1)
-        (weaker (λ k l p. p) (λ k l q. absurd (true≢false (sym q.1))) (λ k l b. b) line)
+    (weaker (λ k l p. p) (λ k l q. absurd (true≢false (sym q.1))) (λ k l b. b) line)
 
 pub or_left : (a b : Bool) → IsTrue a → IsTrue (a || b)
 or_left true b e = refl
@@ -114,7 +114,7 @@ module _ (p : Module) (c : Call) (n : Names) (d : Respond) (facts : Facts p c n 
       SameBody c s kept held o (follow_all (words c d) bound ls names t)
   same_body s s1 kept held o ls names t same =
       alike_ends (list_ends (words c d) bound ls names t)
-          (weaker (λ k l p. p.1) (λ k l q. (q.1, q.2)) (λ k l b. b) same)
+      (weaker (λ k l p. p.1) (λ k l q. (q.1, q.2)) (λ k l b. b) same)
 
   -- a block leaves the scope as it was
   block_line : (s : Handles) (names : Scope) (kept : KeptValues) (held : Bool)
@@ -132,7 +132,7 @@ module _ (p : Module) (c : Call) (n : Names) (d : Respond) (facts : Facts p c n 
   leave_alike s s2 kept0 None u kept names t r a = done a
   leave_alike s s2 kept0 (Some h) u kept names t r a =
       used_alike _ _ (used_value c kept h) t (value_of (words c d) (value_at (naming c n) s2 h) names t)
-          (value_here p c n d facts s2 names kept r h u t) (λ v. chosen_alike v t (broke a) (done a))
+      (value_here p c n d facts s2 names kept r h u t) (λ v. chosen_alike v t (broke a) (done a))
 
   return_alike : (s : Handles) (names : Scope) (kept : KeptValues) (t : List Event) (e : Option ℕ) →
       IsTrue (usable_if c.function s e) → ReturnFits c.function e → Related c n s names kept →
@@ -143,7 +143,7 @@ module _ (p : Module) (c : Call) (n : Names) (d : Respond) (facts : Facts p c n 
       let v = typed_value p c n d facts s names kept r h u in
       let there = value_here p c n d facts s names kept r h u t ∙ ap (λ o. reach o t) v.1 in
       let typed : Returns c.environment.parts c.function (Some v.0) =
-          subst (λ k. ResultTyped c.environment.parts (Some v.0) k) (sym w) v.2 in
+      subst (λ k. ResultTyped c.environment.parts (Some v.0) k) (sym w) v.2 in
       subst (λ o. SameLine c n s kept false (or_stuck o t (λ v. Returned (Some v) t))
       (return_line (words c d) (value_if (naming c n) s (Some h)) names t)) (sym v.1)
       (subst (λ q. SameLine c n s kept false (Returned (Some v.0) t)
@@ -183,8 +183,8 @@ module _ (p : Module) (c : Call) (n : Names) (d : Respond) (facts : Facts p c n 
         (break_line (words c d) (value_if (naming c n) s2 e)))
     tail_alike k1 k2 l2 t2 r2 a =
         then_alike {P = λ k l. Related c n s2 l k × Agree s1 k2 k}
-            (λ k l t p. leave_alike s s2 k1 e u k l t p.0 (agree_trans s s1 k1 k2 k x a p.1))
-            (within_alike (same_d k2 l2 t2 r2))
+        (λ k l t p. leave_alike s s2 k1 e u k l t p.0 (agree_trans s s1 k1 k2 k x a p.1))
+        (within_alike (same_d k2 l2 t2 r2))
 
     turn_alike : (k1 : KeptValues) (l1 : Scope) (t1 : List Event) → Related c n s l1 k1 →
         Alike (Returns c.environment.parts c.function) (λ k l. Agree s k1 k) (λ k l. Agree s k1 k)
@@ -192,7 +192,7 @@ module _ (p : Module) (c : Call) (n : Names) (d : Respond) (facts : Facts p c n 
         (turn body' continuing' (break_line (words c d) (value_if (naming c n) s2 e)) l1 t1)
     turn_alike k1 l1 t1 r1 =
         continue_alike {P = λ k l. Related c n s1 l k × Agree s k1 k} (λ k l t p. tail_alike k1 k l t p.0 p.1)
-            (weaker (λ k l p. p) (λ k l q. (q.0, q.1)) (λ k l b. b) (same_b k1 l1 t1 r1))
+        (weaker (λ k l p. p) (λ k l q. (q.0, q.1)) (λ k l b. b) (same_b k1 l1 t1 r1))
 
     pub turns_keep : (kept : KeptValues) →
         Steps (Returns c.environment.parts c.function) (λ k l. Related c n s l k × Agree s kept k)
@@ -214,7 +214,7 @@ module _ (p : Module) (c : Call) (n : Names) (d : Respond) (facts : Facts p c n 
         names t)
     loop_line names kept t r =
         turns_alike {I = λ k l. Related c n s l k × Agree s kept k}
-            {P = λ k l. Related c n s l k × Agree s kept k} (turns_keep kept) bound kept names t (r, agree_refl s kept)
+        {P = λ k l. Related c n s l k × Agree s kept k} (turns_keep kept) bound kept names t (r, agree_refl s kept)
 
 -- what an action gives
 abbrev pub ReturnsOf : PartTypes → Option Function → Option Value → Type 0
@@ -293,7 +293,7 @@ module _ (p : Module) (c : Call) (n : Names) (d : Respond) (facts : Facts p c n 
       (row c n s names kept r (any_continue b) held2 s2 (run_all c bound b kept t) o' f
       (Follow tail) (block_line p c n d facts bound s names kept (any_continue b) _ _ r
       (same_body p c n d facts bound s _ kept (any_continue b) _ (form_all (naming c n) k b s) names t
-          (same names kept t r m))) next)
+      (same names kept t r m))) next)
 
   if_row : (k h : ℕ) (a b : Statements) (s : Handles) → List_row k a s →
       List_row (named_by_all c.function a k) b s → Row k (If h a b) s
@@ -303,9 +303,9 @@ module _ (p : Module) (c : Call) (n : Names) (d : Respond) (facts : Facts p c n 
       let b' = Inside (form_all (naming c n) k1 b s) names in
       let held = any_continue a || any_continue b in
       let o = or_stuck (used_value c kept h) t
-          (λ v. branch_by v t (run_all c bound a kept t) (run_all c bound b kept t)) in
+      (λ v. branch_by v t (run_all c bound a kept t) (run_all c bound b kept t)) in
       let o' = with_value (value_of (words c d) (value_at (naming c n) s h) names t)
-          (λ v t1. closed_outcome names (branch_by v t1 (a' t1) (b' t1))) in
+      (λ v t1. closed_outcome names (branch_by v t1 (a' t1) (b' t1))) in
       subst (λ x. Same c n s kept (forgotten_if held s s2) (held || held2) (and_then o f)
       (closed_if x names (and_then o' (Follow tail))))
       (sym (ap₂ (λ x y. x || y) (continue_all p c n k a s m.1) (continue_all p c n k1 b s m.2)))
@@ -313,9 +313,9 @@ module _ (p : Module) (c : Call) (n : Names) (d : Respond) (facts : Facts p c n 
       (if_line p c n d facts bound s names kept t h (any_continue a) (any_continue b) _ _ a'
       b' r m.0
       (same_body p c n d facts bound s _ kept (any_continue a) _ (form_all (naming c n) k a s) names t
-          (same_a names kept t r m.1))
+      (same_a names kept t r m.1))
       (same_body p c n d facts bound s _ kept (any_continue b) _ (form_all (naming c n) k1 b s) names t
-          (same_b names kept t r m.2))) next)
+      (same_b names kept t r m.2))) next)
 
   loop_row : (k : ℕ) (b b2 : Statements) (e : Option ℕ) (s : Handles) → List_row k b s →
       List_row (named_by_all c.function b k) b2 (after_all (naming c n) k b s) → Row k (Loop b b2 e) s
@@ -369,7 +369,7 @@ module _ (p : Module) (c : Call) (n : Names) (d : Respond) (facts : Facts p c n 
   barrier_row : (k : ℕ) (bits : BarrierBits) (s : Handles) → Row k (Barrier bits) s
   barrier_row k bits s names kept t held2 s2 f tail r m next =
       asks_alike s s2 names kept r held2 f tail (barrier_words bits) m
-          (λ t1. next kept names t1 r (agree_refl s kept)) t
+      (λ t1. next kept names t1 r (agree_refl s kept)) t
 
   as_answer : (q q' : ReachedOrHalted (Option Value)) → q' ≡ q → HoldsOf (λ o. Unit {0}) q →
       Answers (λ o. Unit {0}) q q'
@@ -416,7 +416,7 @@ module _ (p : Module) (c : Call) (n : Names) (d : Respond) (facts : Facts p c n 
       (evaluate_all (words c d) (value_forms (written_form (naming c n) s) xs) names t))
   responded_written s names kept r a xs result m u vs e h t =
       let there = value_forms_give c d names kept (written_form (naming c n) s) xs
-          (all_here p c n d facts s names kept r xs u) t ∙ ap (λ os. reach os t) e in
+      (all_here p c n d facts s names kept r xs u) t ∙ ap (λ os. reach os t) e in
       subst (λ q. Answers (ActionReturns c a) (action_answer c a vs t)
       (word_reached (words c d) (word_of n a) names t q)) (sym there)
       (subst (λ o. Answers (ActionReturns c a) (action_answer c a vs t)
@@ -443,14 +443,14 @@ module _ (p : Module) (c : Call) (n : Names) (d : Respond) (facts : Facts p c n 
   perform_row k a xs s names kept t held2 s2 f tail r m next =
       let v = values_here p c n d facts s names kept r xs m.0 in
       let q' = word_reached (words c d) (word_of n a) names t
-          (evaluate_all (words c d) (value_forms (written_form (naming c n) s) xs) names t) in
+      (evaluate_all (words c d) (value_forms (written_form (naming c n) s) xs) names t) in
       row c n s names kept r false held2 s2 _ _ f (Follow tail)
       (subst (λ os. SameLine c n s kept false
       (or_stuck os t (λ vs. with_result c.environment.parts c.function a None kept
       (action_answer c a vs t))) (perform_outcome (d.0 (word_of n a)) names q')) (sym v.1)
       (subst (λ b. SameLine c n s kept false
-          (with_result c.environment.parts c.function a None kept (action_answer c a v.0 t))
-          (perform_outcome b names q'))
+      (with_result c.environment.parts c.function a None kept (action_answer c a v.0 t))
+      (perform_outcome b names q'))
       (sym (action_is_line a xs None m.1))
       (performed_alike s names kept a (action_answer c a v.0 t) q'
       (responded_written s names kept r a xs None m.1 m.0 v.0 v.1 v.2 t) r))) next
@@ -462,8 +462,8 @@ module _ (p : Module) (c : Call) (n : Names) (d : Respond) (facts : Facts p c n 
   abbrev ResultNext : Handles → KeptValues → Handles → Bool → ℕ → Next KeptValues → Next Scope → Type 0
   ResultNext s kept s2 held2 h f g =
       (kept1 : KeptValues) (names1 : Scope) (t1 : List Event) →
-          Related c n (update s h (Bound (n.numbered h))) names1 kept1 → Agree s kept kept1 →
-          Same c n s kept s2 held2 (f kept1 t1) (g names1 t1)
+      Related c n (update s h (Bound (n.numbered h))) names1 kept1 → Agree s kept kept1 →
+      Same c n s kept s2 held2 (f kept1 t1) (g names1 t1)
 
   -- a result that is kept
   result_kept : (s s2 : Handles) (names : Scope) (kept : KeptValues) (held2 : Bool) (h : ℕ)
@@ -493,10 +493,10 @@ module _ (p : Module) (c : Call) (n : Names) (d : Respond) (facts : Facts p c n 
   result_same s s2 names kept held2 a xs h f g r w m next (Gives None t) q = stopped
   result_same s s2 names kept held2 (Asked word) xs h f g r w m next (Gives (Some v) t) q =
       typed_alike (has_type c.environment.parts (handle_type c.function h) v) t
-          (Done (update kept h (Some v)) t) f (λ y. result_kept s s2 names kept held2 h f g r m next v t y)
+      (Done (update kept h (Some v)) t) f (λ y. result_kept s s2 names kept held2 h f g r m next v t y)
   result_same s s2 names kept held2 (Called callee) xs h f g r w m next (Gives (Some v) t) q =
       result_kept s s2 names kept held2 h f g r m next v t
-          (called_typed c.environment.parts c.function (function_numbered c.callees callee) xs h v w.2 q)
+      (called_typed c.environment.parts c.function (function_numbered c.callees callee) xs h v w.2 q)
   result_same s s2 names kept held2 a xs h f g r w m next (Halts x t) q = stopped
 
   result_alike : (s s2 : Handles) (names : Scope) (kept : KeptValues) (held2 : Bool) (a : Action)
@@ -515,7 +515,7 @@ module _ (p : Module) (c : Call) (n : Names) (d : Respond) (facts : Facts p c n 
   result_row k a xs h s names kept t held2 s2 f tail r m next =
       let v = values_here p c n d facts s names kept r xs m.0 in
       let q' = word_reached (words c d) (word_of n a) names t
-          (evaluate_all (words c d) (value_forms (written_form (naming c n) s) xs) names t) in
+      (evaluate_all (words c d) (value_forms (written_form (naming c n) s) xs) names t) in
       subst (λ os. Same c n s kept s2 held2
       (and_then (or_stuck os t (λ vs. with_result c.environment.parts c.function a (Some h) kept
       (action_answer c a vs t))) f) (bound_to names (n.numbered h) (Follow tail) q')) (sym v.1)
@@ -575,7 +575,7 @@ module _ (p : Module) (c : Call) (n : Names) (d : Respond) (facts : Facts p c n 
         (On_from false kept t) (Inside (form_all (naming c n) k b s) names t)
     body_alone names kept t r m =
         stays (same_body p c n d facts bound s _ kept (any_continue b) _ (form_all (naming c n) k b s) names t
-            (same names kept t r m))
+        (same names kept t r m))
       where
         stays : {o : Outcome KeptValues} {o' : Outcome Scope} →
             SameBody c s kept (any_continue b) o o' →
@@ -606,7 +606,7 @@ module _ (p : Module) (c : Call) (n : Names) (d : Respond) (facts : Facts p c n 
         (Groups_at labels false x names t)
     here_stays labels x e names kept t r m =
         let others = follow_groups (words c d) bound
-            (form_cases (naming c n) (named_by_all c.function b k) [] cs s) x names t in
+        (form_cases (naming c n) (named_by_all c.function b k) [] cs s) x names t in
         subst (λ z. SameBody c s kept (any_continue b || some_case_continues cs)
         (On_from false kept t) (cond z (Inside (form_all (naming c n) k b s) names t) others))
         (sym e) (body_alone names kept t r m.1)
@@ -619,7 +619,7 @@ module _ (p : Module) (c : Call) (n : Names) (d : Respond) (facts : Facts p c n 
         (Groups_at labels false x names t)
     past_stays labels x e names kept t r m =
         let others = follow_groups (words c d) bound
-            (form_cases (naming c n) (named_by_all c.function b k) [] cs s) x names t in
+        (form_cases (naming c n) (named_by_all c.function b k) [] cs s) x names t in
         subst (λ z. SameBody c s kept (any_continue b || some_case_continues cs)
         (run_cases c bound cs x kept t)
         (cond z (Inside (form_all (naming c n) k b s) names t) others)) (sym e)
@@ -707,8 +707,8 @@ module _ (p : Module) (c : Call) (n : Names) (d : Respond) (facts : Facts p c n 
       let groups = form_cases (naming c n) k [] cs s in
       let held = some_case_continues cs in
       let o = or_stuck (used_value c kept h) t
-          (λ v. with_integer v t
-          (λ z. after_switch (run_cases c bound cs (case_value_if (has_case_value (Numbered z) cs) z) kept t))) in
+      (λ v. with_integer v t
+      (λ z. after_switch (run_cases c bound cs (case_value_if (has_case_value (Numbered z) cs) z) kept t))) in
       let o' = with_value (value_of (words c d) (value_at (naming c n) s h) names t)
       (λ v t1. closed_outcome names
       (with_integer v t1

@@ -84,20 +84,20 @@ module _ (n : ModuleNames) (names : Lookup) (count : ℕ) (found : (i : ℕ) →
         word_resolves names word (free word words.0) (constants_resolve es range words.1)
     constant_resolves (Indexing ty b i) range words =
         both (constant_targets b) (constant_targets i) (constant_resolves b range.0 words.0)
-            (constant_resolves i range.1 words.1)
+        (constant_resolves i range.1 words.1)
     constant_resolves (Picking x ty b) range words =
         following (PartTarget x) (constant_resolves b range words)
     constant_resolves (Joining j ty l r) range words =
         following (LogicTarget j)
         (both (constant_targets l) (constant_targets r) (constant_resolves l range.0 words.0)
-            (constant_resolves r range.1 words.1))
+        (constant_resolves r range.1 words.1))
 
     pub constants_resolve : (es : ConstantTrees) → EachLeafOf IsLiteral (λ i. i < count) es →
         EachWordOf IsWord es → trees_targets names (constant_forms n es) ≡ map Some (constants_targets es)
     constants_resolve no_constant range words = refl
     constants_resolve (constant e es) range words =
         both (constant_targets e) (constants_targets es) (constant_resolves e range.0 words.0)
-            (constants_resolve es range.1 words.1)
+        (constants_resolve es range.1 words.1)
 
 -- all of these handles
 abbrev pub EachOf : (ℕ → Type 0) → List ℕ → Type 0
@@ -130,7 +130,7 @@ module _ (f : Naming) (names : Lookup) where
     operands_resolve [] same = refl
     operands_resolve (x ∷ xs) same =
         both (like x) (operands_targets like xs) (value_targets_of names (operand x) ∙ same.0)
-            (operands_resolve xs same.1)
+        (operands_resolve xs same.1)
 
     operands_then : (xs : List ℕ) (tail : Trees) (more_meant : List Target) → EachOf Same xs →
         trees_targets names tail ≡ map Some more_meant →
@@ -139,7 +139,7 @@ module _ (f : Naming) (names : Lookup) where
     operands_then [] tail more_meant same rest = rest
     operands_then (x ∷ xs) tail more_meant same rest =
         both (like x) (operands_targets_then like xs more_meant) (value_targets_of names (operand x) ∙ same.0)
-            (operands_then xs tail more_meant same.1 rest)
+        (operands_then xs tail more_meant same.1 rest)
 
     own_resolves : (e : Option Expression) → IsNamed e → EachOf Same (operands_of e) →
         plain_targets names (own_form f operand e) ≡ map Some (own_targets like e)
@@ -158,7 +158,7 @@ module _ (f : Naming) (names : Lookup) where
     own_resolves (Some (Logical j a b)) named same =
         following (LogicTarget j)
         (both (like a) (like b) (value_targets_of names (operand a) ∙ same.0)
-            (value_targets_of names (operand b) ∙ same.1.0))
+        (value_targets_of names (operand b) ∙ same.1.0))
     own_resolves (Some (Swizzle letters v)) named same =
         following (PartTarget (MemberNamed letters)) (value_targets_of names (operand v) ∙ same.0)
     own_resolves (Some (Request word xs es)) named same =
@@ -188,7 +188,7 @@ module _ (f : Naming) (names : Lookup) where
         (own_form f (written_below f s n) (expression_of f.function h))
         (own_targets (targets_below f.function s numbers n) (expression_of f.function h))
         (own_resolves (written_below f s n) (targets_below f.function s numbers n) (expression_of f.function h)
-            named same)
+        named same)
 
     module _ (all : (h : ℕ) → IsNamed (expression_of f.function h)) where
       below_resolves : (n h : ℕ) → Below n h
@@ -214,7 +214,7 @@ module _ (f : Naming) (names : Lookup) where
       values_resolve xs =
           operands_resolve (written_form f s) (value_targets f.function s numbers) xs
           (each_of (λ x. plain_targets names (written_form f s x)
-              ≡ map Some (value_targets f.function s numbers x)) (below_resolves (length f.function.expressions)) xs)
+          ≡ map Some (value_targets f.function s numbers x)) (below_resolves (length f.function.expressions)) xs)
 
       -- what a `let` binds
       pub let_resolves : (h : ℕ) →

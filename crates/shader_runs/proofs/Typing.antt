@@ -93,7 +93,7 @@ same_types_true [] (y ∷ ys) e = absurd (true≢false (sym e))
 same_types_true (x ∷ xs) [] e = absurd (true≢false (sym e))
 same_types_true (x ∷ xs) (y ∷ ys) e =
     ap₂ ◌∷◌ (same_type_true x y (and_left (same_type x y) (same_types xs ys) e))
-        (same_types_true xs ys (and_right (same_type x y) (same_types xs ys) e))
+    (same_types_true xs ys (and_right (same_type x y) (same_types xs ys) e))
 
 same_types_self : (a : List ValueType) → IsTrue (same_types a a)
 same_types_self [] = refl
@@ -110,7 +110,7 @@ types_of_typed parts [] (v ∷ vs) e = absurd (true≢false (sym e))
 types_of_typed parts (t ∷ ts) [] e = absurd (true≢false (sym e))
 types_of_typed parts (t ∷ ts) (v ∷ vs) e =
     ap₂ ◌∷◌ (sym (same_type_true t (type_of parts v) (and_left (has_type parts t v) (has_types parts ts vs) e)))
-        (types_of_typed parts ts vs (and_right (has_type parts t v) (has_types parts ts vs) e))
+    (types_of_typed parts ts vs (and_right (has_type parts t v) (has_types parts ts vs) e))
 
 -- the result's type of the first operator that is spelled so over such operands
 abbrev result_in : List Signature → Word → List ValueType → ValueType
@@ -131,7 +131,7 @@ result_found (y ∷ xs) x same m = go (same_word y.word x.word && same_types y.o
     itself : IsTrue (same_word x.word x.word && same_types x.operands x.operands)
     itself =
         and_both (same_word x.word x.word) (same_types x.operands x.operands) (same_word_self x.word)
-            (same_types_self x.operands)
+        (same_types_self x.operands)
 
     first_alike : {y : Signature} {xs : List Signature} →
         (same_word y.word x.word && same_types y.operands x.operands) ≡ false → IsOneOf x (y ∷ xs) → IsOneOf x xs
@@ -209,7 +209,7 @@ spelled_there : (p : Module) (fs : List Function) (i : ℕ) (f : Function) → s
 spelled_there p [] i f e h x m = absurd (none-some f e)
 spelled_there p (g ∷ fs) zero f e h x m =
     one_of_left x (signatures_below p g (length g.expressions)) (signatures_in p fs)
-        (below_there p g (length g.expressions) h x (within_list p g h x there) there)
+    (below_there p g (length g.expressions) h x (within_list p g h x there) there)
   where
     there : IsOneOf x (at_handle p g h)
     there = subst (λ f. IsOneOf x (at_handle p f h)) (sym (same_Some g f e)) m
@@ -249,7 +249,7 @@ spelled_in : (p : Module) (fs : List Function) (shift : ℕ) → StandsFrom p.fu
 spelled_in p [] shift at x m = absurd (no_signature x m)
 spelled_in p (f ∷ fs) shift at x m =
     go (one_of_either x (signatures_below p f (length f.expressions)) (signatures_in p fs) m)
-        (λ k. spelled_in p fs (suc shift) (stands_following p.functions f fs shift at) x k)
+    (λ k. spelled_in p fs (suc shift) (stands_following p.functions f fs shift at) x k)
   where
     go : IsOneOf x (signatures_below p f (length f.expressions)) ⊎ IsOneOf x (signatures_in p fs) →
         (IsOneOf x (signatures_in p fs) → IsSpelled p x) → IsSpelled p x
@@ -269,7 +269,7 @@ initialiser_there : (p : Module) (es : List ConstantTree) (i : ℕ) (e : Constan
 initialiser_there p [] i e q x k = absurd (none-some e q)
 initialiser_there p (d ∷ es) zero e q x k =
     one_of_left x (constant_signatures p d) (initialiser_signatures p es)
-        (subst (λ e. IsOneOf x (constant_signatures p e)) (sym (same_Some d e q)) k)
+    (subst (λ e. IsOneOf x (constant_signatures p e)) (sym (same_Some d e q)) k)
 initialiser_there p (d ∷ es) (suc i) e q x k =
     one_of_right x (constant_signatures p d) (initialiser_signatures p es) (initialiser_there p es i e q x k)
 
@@ -279,7 +279,7 @@ initialiser_spelled : (p : Module) (es : List ConstantTree) (shift : ℕ) → St
 initialiser_spelled p [] shift at x k = absurd (no_signature x k)
 initialiser_spelled p (d ∷ es) shift at x k =
     go (one_of_either x (constant_signatures p d) (initialiser_signatures p es) k)
-        (λ k. initialiser_spelled p es (suc shift) (stands_following p.initialisers d es shift at) x k)
+    (λ k. initialiser_spelled p es (suc shift) (stands_following p.initialisers d es shift at) x k)
   where
     go : IsOneOf x (constant_signatures p d) ⊎ IsOneOf x (initialiser_signatures p es) →
         (IsOneOf x (initialiser_signatures p es) → IsSpelled p x) → IsSpelled p x
@@ -304,10 +304,10 @@ module _ (p : Module) (consistent : IsConsistent p) where
   there : (x : Signature) → IsSpelled p x → IsOneOf x All
   there x (in_function place f here h k) =
       one_of_left x (signatures_in p p.functions) (initialiser_signatures p p.initialisers)
-          (spelled_there p p.functions place f here h x k)
+      (spelled_there p p.functions place f here h x k)
   there x (in_initialiser i e here k) =
       one_of_right x (signatures_in p p.functions) (initialiser_signatures p p.initialisers)
-          (initialiser_there p p.initialisers i e here x k)
+      (initialiser_there p p.initialisers i e here x k)
 
   -- a spelled operator gives a value of its result's type
   spelled_typed : (x : Signature) → IsSpelled p x → (vs : List Value) →
@@ -377,8 +377,11 @@ module _ (p : Module) (consistent : IsConsistent p) where
         let x : Signature = record { word = Spelled w; operands = constant_types_of p es; result = ty } in
         (λ vs k. spelled_typed x (at x first_of) vs k, constants_fit es fit (λ y k. at y (later_of k)))
     constant_fits (Indexing ty b i) fit at =
-        let x : Signature = record { word = IndexWord; operands = constant_type p b ∷ constant_type p i ∷ [];
-            result = ty } in (
+        let x : Signature = record {
+          word = IndexWord;
+          operands = constant_type p b ∷ constant_type p i ∷ [];
+          result = ty;
+        } in (
           λ v z h k. (
             m IndexWord (v ∷ z ∷ []),
             no_part (constant_type p b) fit.0 IndexWord v (v ∷ z ∷ []) h,
@@ -401,8 +404,12 @@ module _ (p : Module) (consistent : IsConsistent p) where
           constant_fits b fit.1 (λ y k. at y (later_of k)),
         )
     constant_fits (Joining j ty l r) fit at =
-        let x : Signature = record { word = Spelled (short_circuit_word j); operands = constant_type p l
-            ∷ constant_type p r ∷ []; result = ty } in (
+        let x : Signature = record {
+          word = Spelled (short_circuit_word j);
+          operands = constant_type p l
+              ∷ constant_type p r ∷ [];
+          result = ty;
+        } in (
           λ a b h k. (
             cond (decides j a) a (undecided_value m j a b),
             some_either (decides j a) a (undecided_value m j a b),
@@ -456,7 +463,7 @@ module _ (p : Module) (consistent : IsConsistent p) where
     by_pair k a b e g (x ∷ y ∷ []) h =
         let rest = and_right (has_type p.parts a x) (has_types p.parts (b ∷ []) (y ∷ [])) h in
         g x y (and_left (has_type p.parts a x) (has_types p.parts (b ∷ []) (y ∷ [])) h)
-            (and_left (has_type p.parts b y) true rest)
+        (and_left (has_type p.parts b y) true rest)
     by_pair k a b e g (x ∷ y ∷ z ∷ vs) h =
         let rest = and_right (has_type p.parts a x) (has_types p.parts (b ∷ []) (y ∷ z ∷ vs)) h in
         absurd (true≢false (sym (and_right (has_type p.parts b y) (has_types p.parts [] (z ∷ vs)) rest)))
@@ -494,7 +501,7 @@ module _ (p : Module) (consistent : IsConsistent p) where
         let q = pointer_typed p.parts (PointerType whole) tt x h in
         let z = integer_typed p.parts (IntegerType s) tt y l in
         let fits = subst (λ s. IsPart (p.parts s) (step_at (p.parts s) z.0) k) (place_typed whole x q.0 q.1 h)
-            (w z.0) in
+        (w z.0) in
         let v = part_has_type k q.0 (step_at (p.parts (place_type p.parts q.0)) z.0) fits in (
           v.0,
           ap (λ x. index_value_of p.parts m x y) q.1
@@ -509,9 +516,11 @@ module _ (p : Module) (consistent : IsConsistent p) where
         IsTrue (has_type p.parts k (m IndexWord vs))) → (b j : ℕ) (x y : Value) →
         IsTrue (has_type p.parts a x) → IsTrue (has_type p.parts i y) →
         Gives_typed k (Some (Access b j)) (x ∷ y ∷ [])
-    access_other a i k n g b j x y h l =
-        (m IndexWord (x ∷ y ∷ []), index_value_is p.parts m x y (typed_not_pointer p.parts a x n h),
-            g (x ∷ y ∷ []) (pair_typed a i x y h l))
+    access_other a i k n g b j x y h l = (
+      m IndexWord (x ∷ y ∷ []),
+      index_value_is p.parts m x y (typed_not_pointer p.parts a x n h),
+      g (x ∷ y ∷ []) (pair_typed a i x y h l),
+    )
 
     access_typed : (a i k : ValueType) → AccessFits p.parts a i k →
         ((vs : List Value) → IsTrue (has_types p.parts (a ∷ i ∷ []) vs) →
@@ -525,9 +534,11 @@ module _ (p : Module) (consistent : IsConsistent p) where
         ((vs : List Value) → IsTrue (has_types p.parts (a ∷ []) vs) →
         IsTrue (has_type p.parts k (m (PartWord x) vs))) → (b : ℕ) (y : Value) →
         IsTrue (has_type p.parts a y) → Gives_typed k (Some (AccessIndex x b)) (y ∷ [])
-    part_other x a k n g b y h =
-        (m (PartWord x) (y ∷ []), part_value_is p.parts m x y (typed_not_pointer p.parts a y n h),
-            g (y ∷ []) (and_both (has_type p.parts a y) true h refl))
+    part_other x a k n g b y h = (
+      m (PartWord x) (y ∷ []),
+      part_value_is p.parts m x y (typed_not_pointer p.parts a y n h),
+      g (y ∷ []) (and_both (has_type p.parts a y) true h refl),
+    )
 
     part_of_pointer : (whole : Bytes) (x : Selector) (k : ValueType) →
         IsPart (p.parts whole) (step_to (p.parts whole) x) k → (b : ℕ) (y : Value) →
@@ -555,20 +566,29 @@ module _ (p : Module) (consistent : IsConsistent p) where
         let x : Signature = record { word = Spelled w; operands = handle_types f xs; result = handle_type f h } in
         (m (Spelled w) vs, refl, spelled_typed x (spelled h x (at x first_of)) vs t)
     operator_fits h (Some (Access b i)) fit at q vs t =
-        let x : Signature = record { word = IndexWord; operands = handle_types f (b ∷ i ∷ []);
-            result = handle_type f h } in
+        let x : Signature = record {
+          word = IndexWord;
+          operands = handle_types f (b ∷ i ∷ []);
+          result = handle_type f h;
+        } in
         by_pair (handle_type f h) (handle_type f b) (handle_type f i) (Some (Access b i))
         (access_typed (handle_type f b) (handle_type f i) (handle_type f h) fit
         (λ vs k. spelled_typed x (spelled h x (at x first_of)) vs k) b i) vs t
     operator_fits h (Some (AccessIndex s b)) fit at q vs t =
-        let x : Signature = record { word = PartWord s; operands = handle_types f (b ∷ []);
-            result = handle_type f h } in
+        let x : Signature = record {
+          word = PartWord s;
+          operands = handle_types f (b ∷ []);
+          result = handle_type f h;
+        } in
         by_one (handle_type f h) (handle_type f b) (Some (AccessIndex s b))
-            (part_typed s (handle_type f b) (handle_type f h) fit
-            (λ vs k. spelled_typed x (spelled h x (at x first_of)) vs k) b) vs t
+        (part_typed s (handle_type f b) (handle_type f h) fit
+        (λ vs k. spelled_typed x (spelled h x (at x first_of)) vs k) b) vs t
     operator_fits h (Some (Logical j l r)) fit at q vs t =
-        let x : Signature = record { word = Spelled (short_circuit_word j);
-            operands = handle_types f (l ∷ r ∷ []); result = handle_type f h } in
+        let x : Signature = record {
+          word = Spelled (short_circuit_word j);
+          operands = handle_types f (l ∷ r ∷ []);
+          result = handle_type f h;
+        } in
         by_pair (handle_type f h) (handle_type f l) (handle_type f r) (Some (Logical j l r))
         (λ a b ta tb. (
           cond (decides j a) a (undecided_value m j a b),
@@ -577,8 +597,11 @@ module _ (p : Module) (consistent : IsConsistent p) where
               (λ vs k. spelled_typed x (spelled h x (at x first_of)) vs k) a b ta tb,
         )) vs t
     operator_fits h (Some (Swizzle s v)) fit at q vs t =
-        let x : Signature = record { word = PartWord (MemberNamed s); operands = handle_types f (v ∷ []);
-            result = handle_type f h } in
+        let x : Signature = record {
+          word = PartWord (MemberNamed s);
+          operands = handle_types f (v ∷ []);
+          result = handle_type f h;
+        } in
         by_one (handle_type f h) (handle_type f v) (Some (Swizzle s v))
         (λ y k. (
           m (PartWord (MemberNamed s)) (y ∷ []),
@@ -599,11 +622,17 @@ module _ (p : Module) (consistent : IsConsistent p) where
 
   all_typed : (fs : List Function) (shift : ℕ) → StandsFrom p.functions fs shift → AllTypedIn p.parts p m fs
   all_typed [] shift at = tt
-  all_typed (f ∷ fs) shift at = (function_typed (0 + shift) f (at 0 f refl),
-      all_typed fs (suc shift) (stands_following p.functions f fs shift at))
+  all_typed (f ∷ fs) shift at = (
+    function_typed (0 + shift) f (at 0 f refl),
+    all_typed fs (suc shift) (stands_following p.functions f fs shift at),
+  )
 
 pub has_typed_meaning : HasTypedMeaning
-has_typed_meaning p consistent =
-    (m p consistent, record { functions = all_typed p consistent p.functions 0 (stands_at_start p.functions);
-        initialisers = λ i e q. constant_fits p consistent e (consistent.initialisers i e q)
-        (λ x k. in_initialiser i e q k) })
+has_typed_meaning p consistent = (
+  m p consistent,
+  record {
+    functions = all_typed p consistent p.functions 0 (stands_at_start p.functions);
+    initialisers = λ i e q. constant_fits p consistent e (consistent.initialisers i e q)
+        (λ x k. in_initialiser i e q k);
+  },
+)

@@ -27,7 +27,7 @@ same_bytes_true [] (y ∷ ys) e = absurd (true≢false (sym e))
 same_bytes_true (x ∷ xs) [] e = absurd (true≢false (sym e))
 same_bytes_true (x ∷ xs) (y ∷ ys) e =
     ap₂ ◌∷◌ (eqb-true x y (and_left (nat_eq x y) (same_bytes xs ys) e))
-        (same_bytes_true xs ys (and_right (nat_eq x y) (same_bytes xs ys) e))
+    (same_bytes_true xs ys (and_right (nat_eq x y) (same_bytes xs ys) e))
 
 pub same_bytes_self : (a : Bytes) → IsTrue (same_bytes a a)
 same_bytes_self [] = refl

@@ -87,9 +87,10 @@ found_concerns b found (k ∷ more) it is =
 pub fault_stands : (ks : List Placed) (it : Misplaced) → first_fault None None ks ≡ Some it →
     (is_concerned ks ≡ true) × StandsAmong it ks
 fault_stands [] it is = absurd (grind (arith, is))
-fault_stands (k ∷ more) it is =
-    (and_from (are_apart (k ∷ more)) _ concerns.0 concerns.1,
-        by (own_fault None k) refl (found_stands k (own_fault None k) more it is))
+fault_stands (k ∷ more) it is = (
+  and_from (are_apart (k ∷ more)) _ concerns.0 concerns.1,
+  by (own_fault None k) refl (found_stands k (own_fault None k) more it is),
+)
   where
     concerns : (list_all (λ k. not (k.offset == 0)) more ≡ true) × (has_own_sizes (k ∷ more) ≡ true)
     concerns = found_concerns k (own_fault None k) more it is

@@ -72,7 +72,7 @@ end_is end k s p a has at =
 -- so the next one begins where the module has it
 next_begins : (k next : Placed) (is : Follows k next) → IsAlignment next.layout.alignment →
     next_multiple_of (k.offset + unwrap_or (gap_size k.offset (Some is.size) next.offset next.layout.alignment)
-        is.size) next.layout.alignment ≡ next.offset
+    is.size) next.layout.alignment ≡ next.offset
 next_begins k next is aligned =
     begins_at next.layout.alignment k.offset is.size next.offset aligned is.within is.multiple
 
@@ -96,11 +96,11 @@ offsets_left whole span end k (next ∷ more) aligned kept at =
     ap (λ e. next_multiple_of end k.layout.alignment ∷ offsets_from e left)
     (end_is end k is.size next.offset next.layout.alignment is.has at)
     ∙ (ap (λ o. o ∷ offsets_from
-        (Some (k.offset + unwrap_or (gap_size k.offset (Some is.size) next.offset next.layout.alignment)
-        is.size)) left) at
+    (Some (k.offset + unwrap_or (gap_size k.offset (Some is.size) next.offset next.layout.alignment)
+    is.size)) left) at
     ∙ ap (λ os. k.offset ∷ os)
     (offsets_left whole span (k.offset
-        + unwrap_or (gap_size k.offset (Some is.size) next.offset next.layout.alignment) is.size)
+    + unwrap_or (gap_size k.offset (Some is.size) next.offset next.layout.alignment) is.size)
     next more aligned.1 here.1 (next_begins k next is aligned.1.0)))
 
 -- the end of the last of them, which is given a size where the struct has room after it
@@ -116,7 +116,7 @@ end_left whole span end k [] aligned kept at = by k.layout.size refl
         option_map (λ s. k.offset + unwrap_or (gap_size k.offset (Some s) span whole) s) k.layout.size
     by None is =
         ap (λ own. option_map (λ n. begins end (sized k span whole) + n)
-            (option_or (gap_size k.offset own span whole) own)) is
+        (option_or (gap_size k.offset own span whole) own)) is
         ∙ sym (ap (option_map (λ s. k.offset + unwrap_or (gap_size k.offset (Some s) span whole) s)) is)
     by (Some s) is =
         end_is end k s span whole is at
@@ -127,7 +127,7 @@ end_left whole span end k (next ∷ more) aligned kept at =
     let left = sized_members whole span (next ∷ more) in
     ap (λ e. end_of e left) (end_is end k is.size next.offset next.layout.alignment is.has at)
     ∙ end_left whole span (k.offset
-        + unwrap_or (gap_size k.offset (Some is.size) next.offset next.layout.alignment) is.size)
+    + unwrap_or (gap_size k.offset (Some is.size) next.offset next.layout.alignment) is.size)
     next more aligned.1 here.1 (next_begins k next is aligned.1.0)
 
 -- each of them but the last has a size
@@ -141,7 +141,7 @@ sizes_left whole span k (next ∷ third ∷ more) kept =
     let here = step k next (third ∷ more) kept in
     let is = here.0 in
     ap (λ o. is_some o && has_sizes (sized_members whole span (next ∷ third ∷ more)))
-        (taken_is k is.size next.offset next.layout.alignment is.has)
+    (taken_is k is.size next.offset next.layout.alignment is.has)
     ∙ sizes_left whole span next (third ∷ more) here.1
 
 -- sizes change no alignment
@@ -215,7 +215,7 @@ module _ (span : ℕ) (k : Placed) (more : List Placed) (aligned : AllAligned (k
       let some = some_sized whole span k more in
       struct_of (written_members span (k ∷ more)) some.0 some.1 some.2 (sizes_left whole span k more first.1)
       ∙ (ap (λ a. Some (closed a (end_of (Some 0) (written_members span (k ∷ more)))))
-          (same_greatest whole span 0 (k ∷ more))
+      (same_greatest whole span 0 (k ∷ more))
       ∙ ap (λ e. Some (closed whole e))
       (end_left whole span 0 k more aligned first.1 (first_begins k aligned.0 first.0)))
 
@@ -236,8 +236,8 @@ module _ (span : ℕ) (k : Placed) (more : List Placed) (aligned : AllAligned (k
           (false≢true (sym (ap (λ o. option_map_or (λ s. nat_le (last.offset + s) span) o false) is) ∙ parts.1))
       by (Some s) is =
           ap (λ o. option_map (λ end. next_multiple_of end whole)
-              (option_map (λ s. last.offset + unwrap_or (gap_size last.offset (Some s) span whole) s) o)) is
+          (option_map (λ s. last.offset + unwrap_or (gap_size last.offset (Some s) span whole) s) o)) is
           ∙ ap (λ n. Some n) (begins_at whole last.offset s span whole_is
           (leb-true (last.offset + s) span
-              (sym (ap (λ o. option_map_or (λ s. nat_le (last.offset + s) span) o false) is) ∙ parts.1))
+          (sym (ap (λ o. option_map_or (λ s. nat_le (last.offset + s) span) o false) is) ∙ parts.1))
           (eqb-true (span % whole) 0 parts.0))

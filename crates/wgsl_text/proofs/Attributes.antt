@@ -160,14 +160,14 @@ attribute_closed (Numbered a n) is = sign (λ _. refl) $ tok (numbered_word a) (
     size is (λ _. refl) $ sign (λ _. refl) $ gap none
 attribute_closed (Worded a w) is =
     sign (λ _. refl) $ tok (worded_word a) (λ _. refl) $ sign (λ _. refl) $ free (attribute_word a w is)
-        (λ _. refl) $ sign (λ _. refl) $ gap none
+    (λ _. refl) $ sign (λ _. refl) $ gap none
 attribute_closed (Interpolated i s) is =
     sign (λ _. refl) $ tok interpolate_word (λ _. refl) $ sign (λ _. refl) $
-        free (table_word interpolation_words i interpolations_free is.0) (λ _. refl) $ sign (λ _. refl) $ gap $
+    free (table_word interpolation_words i interpolations_free is.0) (λ _. refl) $ sign (λ _. refl) $ gap $
     free (table_word sampling_words s samplings_free is.1) (λ _. refl) $ sign (λ _. refl) $ gap none
 attribute_closed (WorkgroupSize x y z) is =
     sign (λ _. refl) $ tok size_word (λ _. refl) $ sign (λ _. refl) $ size is.0 (λ _. refl) $ sign (λ _. refl) $
-        gap $ size is.1 (λ _. refl) $ sign (λ _. refl) $ gap $
+    gap $ size is.1 (λ _. refl) $ sign (λ _. refl) $ gap $
     size is.2 (λ _. refl) $ sign (λ _. refl) $ gap none
 
 pub attributes_closed : (list : List Attribute) → IsAttributes list → Closed (attributes_pieces list)

@@ -46,8 +46,10 @@ in_front (v ∷ ws) vs w e = by (bytes_eq v w) refl (in_front ws vs w)
 
 -- a word of the types of one word
 pub plain_is : (w : List ℕ) → stands_in plain_type_words w ≡ true → IsType (Named w)
-plain_is w plain = record { part = table_word plain_type_words w plain_free plain;
-    whole = ap (λ b. b || not (is_builtin w)) plain }
+plain_is w plain = record {
+  part = table_word plain_type_words w plain_free plain;
+  whole = ap (λ b. b || not (is_builtin w)) plain;
+}
 
 pub scalar_word_is : (w : List ℕ) → stands_in scalar_words w ≡ true → IsType (Named w)
 scalar_word_is w scalar =
@@ -80,12 +82,23 @@ sized_is word t n rule is number = record { part = (rw rule is.whole, (is.part, 
 pub pointer_to_is : (a : List ℕ) (t : TypeSpecifier) → stands_in address_space_words a ≡ true → IsType t →
     IsType (Template (codes "ptr") (TypeArgument (Named a) (TypeArgument t NoTemplateArguments)))
 pointer_to_is a t known is =
-    record { part = (and_from (stands_in address_space_words a) (is_type t) known is.whole,
-        (table_word address_space_words a address_spaces_free known, (is.part, tt))); whole = refl }
+    record {
+      part = (
+        and_from (stands_in address_space_words a) (is_type t) known is.whole,
+        (table_word address_space_words a address_spaces_free known, (is.part, tt)),
+      );
+      whole = refl;
+    }
 
 pub words_are_types : WordsAreTypes
-words_are_types = record { plain = plain_is; struct_name = name_is; of_scalar = of_scalar_word_is;
-    dynamic_array = dynamic_is; sized_array = sized_is; pointer = pointer_to_is }
+words_are_types = record {
+  plain = plain_is;
+  struct_name = name_is;
+  of_scalar = of_scalar_word_is;
+  dynamic_array = dynamic_is;
+  sized_array = sized_is;
+  pointer = pointer_to_is;
+}
 
 operands_are : (es : List Expression) → Each IsExpression es → IsArguments (operands es)
 operands_are [] is = tt
@@ -169,5 +182,12 @@ taking_type_is : (w : List ℕ) (t : TypeSpecifier) → stands_in type_taking_wo
 taking_type_is w t taking is = (rw taking is.whole, (is.part, tt))
 
 pub called_words : CalledWordsAreExpressions
-called_words = record { builtin = builtin_is_word; type = type_called; taking_type = taking_type_is;
-    expression = call_is; statement = call_statement_is; gather = gather_is; level = level_is }
+called_words = record {
+  builtin = builtin_is_word;
+  type = type_called;
+  taking_type = taking_type_is;
+  expression = call_is;
+  statement = call_statement_is;
+  gather = gather_is;
+  level = level_is;
+}

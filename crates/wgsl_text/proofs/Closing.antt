@@ -53,13 +53,17 @@ angle a b = tok tt a.at b
 
 pub part : {ps qs : List Piece} → Spaced ps → ((more : List Piece) → ends_word (text (qs ++ more)) ≡ true) →
     Closed qs → Closed (ps ++ qs)
-part {ps} {qs} a front b = record { by = λ more h. subst Apart (sym (append_assoc ps qs more))
-    (a.by (qs ++ more) (b.by more h) (front more)) }
+part {ps} {qs} a front b = record {
+  by = λ more h. subst Apart (sym (append_assoc ps qs more))
+      (a.by (qs ++ more) (b.by more h) (front more));
+}
 
 infixr 10 ◌then◌
 pub ◌then◌ : {ps qs : List Piece} → Closed ps → Closed qs → Closed (ps ++ qs)
-◌then◌ {ps} {qs} a b = record { by = λ more h. subst Apart (sym (append_assoc ps qs more))
-    (a.by (qs ++ more) (b.by more h)) }
+◌then◌ {ps} {qs} a b = record {
+  by = λ more h. subst Apart (sym (append_assoc ps qs more))
+      (a.by (qs ++ more) (b.by more h));
+}
 
 pub stop : Closed line_end
 stop = sign (λ _. refl) (line none)

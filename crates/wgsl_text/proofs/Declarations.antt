@@ -70,9 +70,9 @@ members_run : (ms : List StructMember) → Each IsMember ms →
 members_run [] is w done s = at_end
 members_run (m ∷ more) is w done s =
     over_indent $ member_attributes_run m.attributes w done [] s onward reads $ reads $ over_gap $
-        type_runs m.type is.0.type.part _ onward reads $
+    type_runs m.type is.0.type.part _ onward reads $
     as_state (ap (λ v. ExpectMemberName (InMembers w (record m { attributes = v } ∷ done) [] s))
-        (turned_back m.attributes [])) $
+    (turned_back m.attributes [])) $
     over_line $ members_run more is.1 w (m ∷ done) s
 
 structs_run : (list : List Struct) → Each IsStruct list → (p : Program) →
@@ -81,9 +81,9 @@ structs_run : (list : List Struct) → Each IsStruct list → (p : Program) →
 structs_run [] is p = at_end
 structs_run (d ∷ more) is p =
     reads $ over_gap $ reads $ over_gap $ reads $ over_line $
-        members_run d.members is.0.members d.name [] _ onward reads $
+    members_run d.members is.0.members d.name [] _ onward reads $
     as_state (ap (λ v. Expect (InProgram [] (record p { structs = record d { members = v } ∷ p.structs })))
-        (turned_back d.members [])) $
+    (turned_back d.members [])) $
     over_line $ over_line $ structs_run more is.1 (record p { structs = d ∷ p.structs })
 
 constants_run : (list : List NamedConstant) → Each IsNamedConstant list →
@@ -92,7 +92,7 @@ constants_run : (list : List NamedConstant) → Each IsNamedConstant list →
 constants_run [] is p = at_end
 constants_run (d ∷ more) is p =
     reads $ over_gap $ reads $ reads $ over_gap $ type_runs d.type is.0.type.part _ onward over_gap $ reads $
-        over_gap $ expression_runs d.value is.0.value _ onward reads $ over_line $
+    over_gap $ expression_runs d.value is.0.value _ onward reads $ over_line $
     constants_run more is.1 (record p { constants = d ∷ p.constants })
 
 override_value_runs : (value : Option Expression) → IsValue value →
@@ -107,7 +107,7 @@ overrides_run : (list : List Override) → Each IsOverride list →
 overrides_run [] is p = at_end
 overrides_run (d ∷ more) is p =
     attributes_run d.attributes [] p onward reads $ over_gap $ reads $ reads $ over_gap $
-        type_runs d.type is.0.type.part _ onward
+    type_runs d.type is.0.type.part _ onward
     to_state (override_value_runs d.value is.0.value d.name d.type _)
     (ap (λ v. Expect
     (InProgram [] (record p { overrides = record d { attributes = v } ∷ p.overrides })))
@@ -132,7 +132,7 @@ globals_run : (list : List Global) → Each IsGlobal list → (p : Program) →
 globals_run [] is p = at_end
 globals_run (d ∷ more) is p =
     global_attributes_run d.attributes [] p onward reads $ space_runs d.space d.name $ reads $ over_gap $
-        type_runs d.type is.0.type.part _ onward
+    type_runs d.type is.0.type.part _ onward
     to_state (global_value_runs d.value is.0.value d.space d.name d.type _)
     (ap (λ v. Expect
     (InProgram [] (record p { globals = record d { attributes = v } ∷ p.globals })))
@@ -190,10 +190,13 @@ newest_twice p =
       entry_points =
           (newest_first (newest_first p)).entry_points;
     }) (turned_back p.overrides [])
-    ∙ ap (λ v. record p { globals = v; functions = (newest_first (newest_first p)).functions;
-        entry_points = (newest_first (newest_first p)).entry_points }) (turned_back p.globals [])
+    ∙ ap (λ v. record p {
+      globals = v;
+      functions = (newest_first (newest_first p)).functions;
+      entry_points = (newest_first (newest_first p)).entry_points;
+    }) (turned_back p.globals [])
     ∙ ap (λ v. record p { functions = v; entry_points = (newest_first (newest_first p)).entry_points })
-        (turned_back p.functions [])
+    (turned_back p.functions [])
     ∙ ap (λ v. record p { entry_points = v }) (turned_back p.entry_points [])
 
 -- In their pieces no token runs into the next.
@@ -219,27 +222,27 @@ members_closed : (ms : List StructMember) → Each IsMember ms → Closed (membe
 members_closed [] is = none
 members_closed (m ∷ more) is =
     indent $ attributes_closed m.attributes is.0.attributes then free is.0.name (λ _. refl) $ sign (λ _. refl) $
-        gap $ part (type_spaced m.type is.0.type.part) (λ _. refl) $
+    gap $ part (type_spaced m.type is.0.type.part) (λ _. refl) $
     sign (λ _. refl) $ line $ members_closed more is.1
 
 structs_closed : (list : List Struct) → Each IsStruct list → Closed (structs_pieces list)
 structs_closed [] is = none
 structs_closed (d ∷ more) is =
     sign (λ _. refl) $ gap $ free is.0.name.word (λ _. refl) $ gap $ sign (λ _. refl) $ line $
-        members_closed d.members is.0.members then sign (λ _. refl) $ line $ line $ structs_closed more is.1
+    members_closed d.members is.0.members then sign (λ _. refl) $ line $ line $ structs_closed more is.1
 
 constants_closed : (list : List NamedConstant) → Each IsNamedConstant list → Closed (constants_pieces list)
 constants_closed [] is = none
 constants_closed (d ∷ more) is =
     sign (λ _. refl) $ gap $ free is.0.name.word (λ _. refl) $ sign (λ _. refl) $ gap $
-        part (type_spaced d.type is.0.type.part) (λ _. refl) $ gap $ sign (λ _. refl) $ gap $
+    part (type_spaced d.type is.0.type.part) (λ _. refl) $ gap $ sign (λ _. refl) $ gap $
     part (expression_spaced d.value is.0.value) (λ _. refl) $ sign (λ _. refl) $ line $ constants_closed more is.1
 
 overrides_closed : (list : List Override) → Each IsOverride list → Closed (overrides_pieces list)
 overrides_closed [] is = none
 overrides_closed (d ∷ more) is =
     attributes_closed d.attributes is.0.attributes then sign (λ _. refl) $ gap $
-        free is.0.name.word (λ _. refl) $ sign (λ _. refl) $ gap $
+    free is.0.name.word (λ _. refl) $ sign (λ _. refl) $ gap $
     value_after d.type is.0.type d.value is.0.value $ overrides_closed more is.1
 
 storage_free : all_words is_free (codes "storage" ∷ []) ≡ true
@@ -256,13 +259,13 @@ var_closed (SpaceAndAccess a m) is b =
     let h = and_parts (bytes_eq (codes "storage") a) (stands_in access_words m) is in
     let w = table_word (codes "storage" ∷ []) a storage_free (ap (λ c. c || false) h.0) in
     sign (λ _. refl) $ angle (word_opens a w) $ free w (λ _. refl) $ sign (λ _. refl) $ gap $
-        free (table_word access_words m accesses_free h.1) (λ _. refl) $ sign (λ _. refl) $ gap b
+    free (table_word access_words m accesses_free h.1) (λ _. refl) $ sign (λ _. refl) $ gap b
 
 globals_closed : (list : List Global) → Each IsGlobal list → Closed (globals_pieces list)
 globals_closed [] is = none
 globals_closed (d ∷ more) is =
     global_attributes_closed d.attributes is.0.attributes then var_closed d.space is.0.space $
-        free is.0.name.word (λ _. refl) $ sign (λ _. refl) $ gap $
+    free is.0.name.word (λ _. refl) $ sign (λ _. refl) $ gap $
     value_after d.type is.0.type d.value is.0.value $ globals_closed more is.1
 
 pub program_closed : (p : Program) → IsProgram p → Closed (program_pieces p)

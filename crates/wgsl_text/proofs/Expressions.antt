@@ -160,7 +160,7 @@ pub callee_runs : (t : TypeSpecifier) → IsCallee t → (ps : List Piece) (s : 
 callee_runs (Named w) is ps s s' a = record { to = a.to }
 callee_runs (Template w parts) is ps s s' a =
     reads $ reads $ as_state (when_true _ (call_template w parts is.0).builtin) $
-        parts_run parts is.1 (has_gaps w) w (InCallee s) onward reads a
+    parts_run parts is.1 (has_gaps w) w (InCallee s) onward reads a
 
 mutual
   pub expression_runs : (e : Expression) → IsExpression e → (s : Stack) →
@@ -169,7 +169,7 @@ mutual
   expression_runs (Name w) is s = at_end
   expression_runs (Binary a op b) is s =
       reads $ expression_runs a is.0 _ onward over_gap $ operator_runs op a is.0 s onward over_gap $
-          expression_runs b is.1 _ onward at_end
+      expression_runs b is.1 _ onward at_end
   expression_runs (Unary op e) is s = unary_runs op s onward expression_runs e is _ onward at_end
   expression_runs (Call t args) is s = callee_runs t is.0 _ s _ (arguments_run args is.1 (stand_first t args is.2) t s)
   expression_runs (Member e w) is s = base_runs e s (expression_runs e is.0) onward at_end
@@ -247,8 +247,8 @@ pub callee_spaced : (t : TypeSpecifier) → IsCallee t → Spaced (type_pieces t
 callee_spaced (Named w) is = free is (λ more e. e) end
 callee_spaced (Template w parts) is =
     free (call_template w parts is.0).word (λ more e. refl) $
-        tok tt (λ more e. (parts_open parts (parts_of_fit _ parts is.0) is.1 (has_gaps w)).at more) $
-        parts_spaced parts is.1 (has_gaps w)
+    tok tt (λ more e. (parts_open parts (parts_of_fit _ parts is.0) is.1 (has_gaps w)).at more) $
+    parts_spaced parts is.1 (has_gaps w)
 
 -- an operator between blanks
 operator_spaced : (op : BinaryOperator) {qs : List Piece} → Spaced qs → Spaced (binary_pieces op ++ (Blank ∷ qs))
@@ -282,7 +282,7 @@ mutual
   expression_spaced (Name w) is = free is.word (λ more e. e) end
   expression_spaced (Binary a op b) is =
       tok tt (λ more e. refl) $ part (expression_spaced a is.0) (λ more e. refl) $ gap $
-          operator_spaced op (part (expression_spaced b is.1) (λ more e. refl) close)
+      operator_spaced op (part (expression_spaced b is.1) (λ more e. refl) close)
   expression_spaced (Unary op e) is = unary_spaced op (part (expression_spaced e is) (λ more e. refl) close)
   expression_spaced (Call t args) is = part (callee_spaced t is.0) (λ more e. refl) $ tok tt (λ more e. refl) $
       arguments_spaced args is.1

@@ -63,7 +63,7 @@ more_parameters_run : (ps : List Parameter) → Each IsParameter ps →
 more_parameters_run [] is p f done s = reads $ as_state (ap close_parameters (kept p f done s)) at_end
 more_parameters_run (q ∷ more) is p f done s =
     reads $ as_state (ap ExpectParameter (kept p f done s)) $ over_gap $
-        parameter_runs q is.0 f (p ∷ done) s onward more_parameters_run more is.1 q f (p ∷ done) s
+    parameter_runs q is.0 f (p ∷ done) s onward more_parameters_run more is.1 q f (p ∷ done) s
 
 parameters_run : (ps : List Parameter) → Each IsParameter ps → (f : List ℕ) (s : Stack) →
     Runs (parameters_pieces ps) (ExpectParameter (InParameters f [] [] s)) (AfterParameters f ps s)
@@ -84,10 +84,10 @@ result_runs : (r : Result) → IsResult r →
 result_runs NoResult is f ps s b = over_gap $ reads b
 result_runs (ResultOf attributes t) is f ps s b =
     over_gap $ reads $ reads $ over_gap $
-        (result_attributes_run attributes f ps [] s onward result_type t (type_runs t is.2.part _)) onward
-        over_gap $ reads $
+    (result_attributes_run attributes f ps [] s onward result_type t (type_runs t is.2.part _)) onward
+    over_gap $ reads $
     as_state (ap (λ v. Expect (InStatements NoStatements (InLocals f ps (ResultOf v t) [] s)))
-        (turned_back attributes [])) b
+    (turned_back attributes [])) b
 
 value_runs : (value : Option Expression) → IsValue value → (w : List ℕ) (t : TypeSpecifier) (s : Stack) →
     Runs (value_pieces value) (GotType t (InLocalType w s)) (add_local w t value s)
@@ -101,8 +101,8 @@ locals_run : (locals : List Local) → Each IsLocal locals →
 locals_run [] is f ps r done s = at_end
 locals_run (l ∷ more) is f ps r done s =
     over_indent $ reads $ over_gap $ reads $ reads $ over_gap $
-        type_runs l.type is.0.type.part _ onward value_runs l.value is.0.value l.name l.type _ onward locals_run
-        more is.1 f ps r (l ∷ done) s
+    type_runs l.type is.0.type.part _ onward value_runs l.value is.0.value l.name l.type _ onward locals_run
+    more is.1 f ps r (l ∷ done) s
 
 pub group_end_runs : {A : Type 0} (list : List A) (s : State) → Runs (group_end list) s s
 group_end_runs [] s = at_end
@@ -113,13 +113,13 @@ pub function_runs : (f : Function) → IsFunction f → (attributes : List Attri
     (Expect (InProgram [] (function_added (turned attributes []) f p)))
 function_runs f is attributes p =
     reads $ over_gap $ reads $ reads $ parameters_run f.parameters is.parameters f.name _ onward result_runs
-        f.result is.result f.name f.parameters _ (over_line (
+    f.result is.result f.name f.parameters _ (over_line (
     locals_run f.locals is.locals f.name f.parameters f.result [] _ onward
-        (group_end_runs f.locals _ onward (statements_run f.body is.body 1 NoStatements _ onward closes f.body
-        (over_line (
+    (group_end_runs f.locals _ onward (statements_run f.body is.body 1 NoStatements _ onward closes f.body
+    (over_line (
     as_state (ap (λ l. Expect
-        (InProgram [] (function_added (turned attributes []) (record f { locals = l }) p)))
-        (turned_back f.locals [])) at_end))))))
+    (InProgram [] (function_added (turned attributes []) (record f { locals = l }) p)))
+    (turned_back f.locals [])) at_end))))))
 
 pub functions_run : (list : List Function) → Each IsFunction list →
     (p : Program) → Runs (functions_pieces list) (Expect (InProgram [] p))
@@ -142,7 +142,7 @@ pub entry_point_runs : (e : EntryPoint) → IsEntryPoint e → (p : Program) →
 entry_point_runs e is p =
     attributes_run e.stage [] p onward over_line $ to_state (function_runs e.function is.function _ p)
     (ap (λ v. Expect (InProgram [] (function_added v e.function p))) (turned_back e.stage [])
-        ∙ ap (λ v. Expect (InProgram [] v)) (entry_added e.stage is.stage e.function p))
+    ∙ ap (λ v. Expect (InProgram [] v)) (entry_added e.stage is.stage e.function p))
 
 more_entry_points_run : (list : List EntryPoint) → Each IsEntryPoint list →
     (p : Program) → Runs (more_entry_points_pieces list) (Expect (InProgram [] p))
@@ -209,7 +209,7 @@ locals_closed : (locals : List Local) → Each IsLocal locals → Closed (locals
 locals_closed [] is = none
 locals_closed (l ∷ more) is =
     indent $ sign (λ _. refl) $ gap $ free is.0.name.word (λ _. refl) $ sign (λ _. refl) $ gap $
-        value_after l.type is.0.type l.value is.0.value $ locals_closed more is.1
+    value_after l.type is.0.type l.value is.0.value $ locals_closed more is.1
 
 pub group_end_closed : {A : Type 0} (list : List A) → Closed (group_end list)
 group_end_closed [] = none
@@ -218,9 +218,9 @@ group_end_closed (x ∷ more) = line none
 pub function_closed : (f : Function) → IsFunction f → Closed (function_pieces f)
 function_closed f is =
     sign (λ _. refl) $ gap $ free is.name.word (λ _. refl) $ sign (λ _. refl) $
-        parameters_closed f.parameters is.parameters then result_closed f.result is.result (sign (λ _. refl) (line (
+    parameters_closed f.parameters is.parameters then result_closed f.result is.result (sign (λ _. refl) (line (
     locals_closed f.locals is.locals then
-        (group_end_closed f.locals then (statements_closed f.body is.body 1 then sign (λ _. refl) (line none))))))
+    (group_end_closed f.locals then (statements_closed f.body is.body 1 then sign (λ _. refl) (line none))))))
 
 pub functions_closed : (list : List Function) → Each IsFunction list → Closed (functions_pieces list)
 functions_closed [] is = none

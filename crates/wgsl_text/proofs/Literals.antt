@@ -100,4 +100,4 @@ literal_spaced (UnsignedShort n) is = wrapped_spaced (codes "u16") false n u16_w
 literal_spaced LeastInteger is = wrapped_spaced (codes "i32") true 2147483648 i32_word (omega arith)
 literal_spaced LeastLong is =
     free i64_word (λ more e. refl) $ tok tt (λ more e. refl) $ tok (omega arith) (λ more e. refl) $ gap $
-        tok tt (λ more e. refl) $ gap $ tok (omega arith) (λ more e. refl) close
+    tok tt (λ more e. refl) $ gap $ tok (omega arith) (λ more e. refl) close

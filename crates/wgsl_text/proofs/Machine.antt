@@ -209,7 +209,7 @@ add_function f _ = Failed
 abbrev pub add_local : List ℕ → TypeSpecifier → Option Expression → Stack → State
 add_local w t value (InLocals f parameters result done s) =
     let l : Local = record { name = w; type = t; value = value } in
-        Expect (InStatements NoStatements (InLocals f parameters result (l ∷ done) s))
+    Expect (InStatements NoStatements (InLocals f parameters result (l ∷ done) s))
 add_local w t value _ = Failed
 
 abbrev pub add_enable : List ℕ → Stack → State
@@ -219,13 +219,13 @@ add_enable w _ = Failed
 abbrev pub add_struct : List ℕ → List StructMember → Stack → State
 add_struct w members (InProgram attributes p) =
     let d : Struct = record { name = w; members = members } in
-        Expect (InProgram [] (record p { structs = d ∷ p.structs }))
+    Expect (InProgram [] (record p { structs = d ∷ p.structs }))
 add_struct w members _ = Failed
 
 abbrev pub add_constant : List ℕ → TypeSpecifier → Expression → Stack → State
 add_constant w t e (InProgram attributes p) =
     let d : NamedConstant = record { name = w; type = t; value = e } in
-        Expect (InProgram [] (record p { constants = d ∷ p.constants }))
+    Expect (InProgram [] (record p { constants = d ∷ p.constants }))
 add_constant w t e _ = Failed
 
 abbrev pub add_global : Space → List ℕ → TypeSpecifier → Option Expression → Stack → State
@@ -251,7 +251,7 @@ add_attribute a _ = Failed
 abbrev pub add_member : List ℕ → TypeSpecifier → Stack → State
 add_member w t (InMembers name done attributes s) =
     let m : StructMember = record { attributes = turned attributes []; name = w; type = t } in
-        ExpectMemberName (InMembers name (m ∷ done) [] s)
+    ExpectMemberName (InMembers name (m ∷ done) [] s)
 add_member w t _ = Failed
 
 abbrev pub close_struct : Stack → State
@@ -267,8 +267,13 @@ close_block body (InLoop s) = add_statement (Loop body NoBlock) s
 close_block body (InContinuing first s) = CloseOnce (Loop first (SomeBlock body)) s
 close_block body (InCase e done labels s) = AtCase e (Case labels body done) s
 close_block body (InLocals f parameters result locals s) =
-    add_function (record { name = f; parameters = parameters; result = result; locals = turned locals [];
-        body = body }) s
+    add_function (record {
+      name = f;
+      parameters = parameters;
+      result = result;
+      locals = turned locals [];
+      body = body;
+    }) s
 close_block body _ = Failed
 
 abbrev pub expect_close_brace : Stack → State
@@ -548,7 +553,7 @@ got_type_open t _ = Failed
 abbrev pub add_parameter : List ℕ → TypeSpecifier → Stack → Stack
 add_parameter w t (InParameters f done attributes s) =
     let p : Parameter = record { attributes = turned attributes []; name = w; type = t } in
-        InParameters f (p ∷ done) [] s
+    InParameters f (p ∷ done) [] s
 add_parameter w t s = s
 
 abbrev pub close_parameters : Stack → State
@@ -683,7 +688,7 @@ worded_among (a ∷ more) w other = cond (bytes_eq (worded_attribute_word a) w) 
 abbrev pub kind_of : List ℕ → AttributeKind
 kind_of w =
     plain_among (Invariant ∷ PerPrimitive ∷ Coherent ∷ Volatile ∷ Vertex ∷ Fragment ∷ Compute ∷ Task
-        ∷ RayGeneration ∷ AnyHit ∷ ClosestHit ∷ Miss ∷ []) w
+    ∷ RayGeneration ∷ AnyHit ∷ ClosestHit ∷ Miss ∷ []) w
     (numbered_among (Location ∷ BlendSource ∷ Id ∷ Group ∷ Binding ∷ Size ∷ Align ∷ []) w
     (worded_among (Builtin ∷ Interpolate ∷ Mesh ∷ Payload ∷ IncomingPayload ∷ []) w
     (cond (bytes_eq (codes "workgroup_size") w) SizeKind NoKind)))

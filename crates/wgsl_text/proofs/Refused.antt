@@ -102,35 +102,35 @@ level_elsewhere : IsNoExpression (codes "textureSampleBias(t, s, p, 0.0)")
 unfolding is_reserved is_builtin
 level_elsewhere =
     found_expression _ (call "textureSampleBias"
-        (Argument (name "t") (Argument (name "s") (Argument (name "p") (ZeroArgument false NoArguments))))) refl
+    (Argument (name "t") (Argument (name "s") (Argument (name "p") (ZeroArgument false NoArguments))))) refl
     (λ r. false≢true r.form.2)
 
 level_first : IsNoExpression (codes "textureSampleLevel(0.0, t, s, p)")
 unfolding is_reserved is_builtin
 level_first =
     found_expression _ (call "textureSampleLevel"
-        (ZeroArgument false (Argument (name "t") (Argument (name "s") (Argument (name "p") NoArguments))))) refl
+    (ZeroArgument false (Argument (name "t") (Argument (name "s") (Argument (name "p") NoArguments))))) refl
     (λ r. false≢true r.form.2)
 
 two_levels : IsNoExpression (codes "textureSampleLevel(t, s, 0.0, 0.0)")
 unfolding is_reserved is_builtin
 two_levels =
     found_expression _ (call "textureSampleLevel"
-        (Argument (name "t") (Argument (name "s") (ZeroArgument false (ZeroArgument false NoArguments))))) refl
+    (Argument (name "t") (Argument (name "s") (ZeroArgument false (ZeroArgument false NoArguments))))) refl
     (λ r. false≢true r.form.2)
 
 level_of_one : IsNoExpression (codes "textureSampleLevel(t, s, 1)")
 unfolding is_reserved is_builtin
 level_of_one =
     found_expression _ (call "textureSampleLevel"
-        (Argument (name "t") (Argument (name "s") (NumberArgument 1 NoArguments)))) refl
+    (Argument (name "t") (Argument (name "s") (NumberArgument 1 NoArguments)))) refl
     (λ r. false≢true r.form.2)
 
 zero_elsewhere : IsNoExpression (codes "textureSampleBias(t, s, 0)")
 unfolding is_reserved is_builtin
 zero_elsewhere =
     found_expression _ (call "textureSampleBias"
-        (Argument (name "t") (Argument (name "s") (ZeroArgument true NoArguments)))) refl
+    (Argument (name "t") (Argument (name "s") (ZeroArgument true NoArguments)))) refl
     (λ r. false≢true r.form.2)
 
 open_binary : IsNoExpression (codes "a + b")
@@ -210,7 +210,7 @@ refused = record {
       (λ r. false≢true r.form.functions.0.body.0.2);
   default_twice_in_a_case =
       found_program _
-          (of_switch (Case (MoreCaseValues DefaultCase (LastCaseValue DefaultCase)) NoStatements NoCases)) refl
+      (of_switch (Case (MoreCaseValues DefaultCase (LastCaseValue DefaultCase)) NoStatements NoCases)) refl
       (λ r. false≢true r.form.functions.0.body.0.2);
   two_defaults =
       found_program _

@@ -91,7 +91,7 @@ word_at_least (b ∷ w) rest is =
     let h = and_parts (is_letter b) (all_word_bytes w) is in
     let more : length w ≤ word_length (w ++ rest) = word_long w rest h.1 in
     moved (suc (length w)) {l = word_lexeme b (w ++ rest)} (when_true _ h.0)
-        (word_known (b ∷ take (word_length (w ++ rest)) (w ++ rest)), omega arith)
+    (word_known (b ∷ take (word_length (w ++ rest)) (w ++ rest)), omega arith)
 
 -- numbers
 
@@ -124,13 +124,13 @@ whole_at_least : (negative : Bool) (b : ℕ) (ds more bytes : List ℕ) →
     AtLeast (suc (length ds)) (whole_of negative b (ds ++ more) bytes)
 whole_at_least negative b [] more bytes =
     at_least_if 1 (is_point_zero bytes && (not negative && (b == 48 && is_empty more))) _ _ (tt, omega arith)
-        (tt, omega arith)
+    (tt, omega arith)
 whole_at_least negative b (d ∷ ds) more bytes =
     let tail = suffix_text (suffix_at bytes) in
     let whole : length ((ds ++ more) ++ tail) ≡ length (ds ++ more) + length tail = length-append (ds ++ more) tail in
     let digits : length (ds ++ more) ≡ length ds + length more = length-append ds more in
     moved (suc (suc (length ds)))
-        (when_false _ (and_last_false (is_point_zero bytes) (not negative) (b == 48) false refl)) (tt, omega arith)
+    (when_false _ (and_last_false (is_point_zero bytes) (not negative) (b == 48) false refl)) (tt, omega arith)
 
 digits_at_least : (negative : Bool) (b : ℕ) (ds more bytes : List ℕ) →
     AtLeast (suc (length ds)) (number_of negative b (ds ++ more) bytes)
@@ -139,7 +139,7 @@ digits_at_least negative b ds more bytes =
     let whole : length ((ds ++ more) ++ tail) ≡ length (ds ++ more) + length tail = length-append (ds ++ more) tail in
     let digits : length (ds ++ more) ≡ length ds + length more = length-append ds more in
     at_least_if (suc (length ds)) (has_precision (after_fraction bytes)) _ _ (tt, omega arith)
-        (whole_at_least negative b ds more bytes)
+    (whole_at_least negative b ds more bytes)
 
 number_at_least : (negative : Bool) (b : ℕ) (ds : List ℕ) (suffix : Suffix) (rest : List ℕ) →
     all_ascii_digits ds ≡ true →
@@ -147,12 +147,12 @@ number_at_least : (negative : Bool) (b : ℕ) (ds : List ℕ) (suffix : Suffix) 
     (number_lexeme negative b (ds ++ (suffix_text suffix ++ rest)))
 number_at_least negative b ds NoSuffix rest is =
     let found : number_lexeme negative b (ds ++ rest)
-        ≡ number_of negative b (ds ++ take (digits_length rest) rest) (drop (digits_length rest) rest) =
+    ≡ number_of negative b (ds ++ take (digits_length rest) rest) (drop (digits_length rest) rest) =
     ap (λ v. number_of negative b v (drop (digits_length (ds ++ rest)) (ds ++ rest))) (digits_taken ds rest is)
     ∙ ap (λ v. number_of negative b (ds ++ take (digits_length rest) rest) v) (digits_dropped ds rest is) in
     subst (λ v. AtLeast (suc (length v)) (number_lexeme negative b (ds ++ rest))) (sym (append-nil ds))
     (moved (suc (length ds)) found (digits_at_least negative b ds (take (digits_length rest) rest)
-        (drop (digits_length rest) rest)))
+    (drop (digits_length rest) rest)))
 number_at_least negative b ds SuffixI rest is = moved (suc (length (ds ++ suffix_text SuffixI)))
     (digits_scan negative b ds SuffixI rest is refl) (tt, omega arith)
 number_at_least negative b ds SuffixU rest is = moved (suc (length (ds ++ suffix_text SuffixU)))
@@ -174,7 +174,7 @@ number_front negative [] suffix rest some is = absurd (omega arith)
 number_front false (b ∷ ds) suffix rest some is =
     let h = and_parts (is_ascii_digit b) (all_ascii_digits ds) is in
     subst (λ v. AtLeast (suc (length (ds ++ suffix_text suffix))) (lexeme b v))
-        (sym (append_assoc ds (suffix_text suffix) rest))
+    (sym (append_assoc ds (suffix_text suffix) rest))
     (moved (suc (length (ds ++ suffix_text suffix))) {l =
     number_lexeme false b (ds ++ (suffix_text suffix ++ rest))}
     (when_false _ (digit_no_letter b h.0) ∙ when_true _ h.0)
@@ -184,7 +184,7 @@ number_front true (b ∷ ds) suffix rest some is =
     let n = suc (length (ds ++ suffix_text suffix)) in
     subst (λ v. AtLeast (suc n) (minus_lexeme (b ∷ v))) (sym (append_assoc ds (suffix_text suffix) rest))
     (moved (suc n) {l = one_more (number_lexeme true b (ds ++ (suffix_text suffix ++ rest)))} (when_true _ h.0)
-        (one_more_at_least n _ (number_at_least true b ds suffix rest h.1)))
+    (one_more_at_least n _ (number_at_least true b ds suffix rest h.1)))
 
 decimal_front : (negative : Bool) (whole fraction : List ℕ) (precision : Precision) (rest : List ℕ) → AreDigits whole →
     all_ascii_digits fraction ≡ true → IsPrecision precision →
@@ -196,13 +196,13 @@ decimal_front false (b ∷ ds) fraction precision rest are tail_is power_is =
     let n = suc (length (ds ++ decimal_tail fraction precision)) in
     subst (λ v. AtLeast n (lexeme b v)) (joined ds fraction precision rest)
     (moved n (when_false _ (digit_no_letter b h.0) ∙ when_true _ h.0
-        ∙ decimal_scan false b ds fraction precision rest h.1 tail_is power_is) (tt, omega arith))
+    ∙ decimal_scan false b ds fraction precision rest h.1 tail_is power_is) (tt, omega arith))
 decimal_front true (b ∷ ds) fraction precision rest are tail_is power_is =
     let h = and_parts (is_ascii_digit b) (all_ascii_digits ds) are.digits in
     let n = suc (suc (length (ds ++ decimal_tail fraction precision))) in
     subst (λ v. AtLeast n (minus_lexeme (b ∷ v))) (joined ds fraction precision rest)
     (moved n (when_true _ h.0
-        ∙ ap one_more (decimal_scan true b ds fraction precision rest h.1 tail_is power_is)) (tt, omega arith))
+    ∙ ap one_more (decimal_scan true b ds fraction precision rest h.1 tail_is power_is)) (tt, omega arith))
 
 -- signs
 
@@ -303,16 +303,21 @@ word_front (b ∷ bytes) = longer (is_word_byte b) refl (word_front bytes)
       word = ap (λ v. v && all_word_bytes f.front) e ∙ f.word;
       count = when_true 0 e ∙ ap suc f.count;
     }
-    longer false e f = record { front = []; rest = b ∷ bytes; whole = refl; word = refl;
-        count = when_false (suc (word_length bytes)) e }
+    longer false e f = record {
+      front = [];
+      rest = b ∷ bytes;
+      whole = refl;
+      word = refl;
+      count = when_false (suc (word_length bytes)) e;
+    }
 
 word_answer : (b : ℕ) (bytes : List ℕ) → is_letter b ≡ true → Answer b bytes (word_lexeme b bytes)
 word_answer b bytes letter =
     let f = word_front bytes in
     let found : take (word_length bytes) bytes ≡ f.front = ap (λ n. take n bytes) f.count
-        ∙ ap (take (length f.front)) f.whole ∙ take-append_seam f.front f.rest in
+    ∙ ap (take (length f.front)) f.whole ∙ take-append_seam f.front f.rest in
     Spelled f.front f.rest (word_token (b ∷ f.front)) f.whole
-        (SpellsWord (b ∷ f.front) (ap (λ v. v && all_word_bytes f.front) letter ∙ f.word))
+    (SpellsWord (b ∷ f.front) (ap (λ v. v && all_word_bytes f.front) letter ∙ f.word))
     (ap (λ v. Takes (word_token (b ∷ v)) (word_length bytes)) found ∙ ap (Takes (word_token (b ∷ f.front))) f.count)
 
 -- numbers
@@ -336,8 +341,13 @@ digit_front (b ∷ bytes) = longer (is_ascii_digit b) refl (digit_front bytes)
       digits = ap (λ v. v && all_ascii_digits f.front) e ∙ f.digits;
       count = when_true 0 e ∙ ap suc f.count;
     }
-    longer false e f = record { front = []; rest = b ∷ bytes; whole = refl; digits = refl;
-        count = when_false (suc (digits_length bytes)) e }
+    longer false e f = record {
+      front = [];
+      rest = b ∷ bytes;
+      whole = refl;
+      digits = refl;
+      count = when_false (suc (digits_length bytes)) e;
+    }
 
 starts : (c : ℕ) (bytes : List ℕ) → starts_with c bytes ≡ true → (rest : List ℕ) × (bytes ≡ c ∷ rest)
 starts c [] e = absurd (false≢true e)
@@ -361,9 +371,9 @@ suffix_front (b ∷ bytes) =
     (pick _ (b == 117) _ _ (λ e. (bytes, ap (λ v. v ∷ bytes) (eqb-true b 117 e)))
     (pick _ (b == 108) _ _ (λ e.
     pick _ (starts_with 105 bytes) _ _ (λ f. let s = starts 105 bytes f in
-        (s.0, ap (λ v. v ∷ bytes) (eqb-true b 108 e) ∙ ap (λ v. 108 ∷ v) s.1))
+    (s.0, ap (λ v. v ∷ bytes) (eqb-true b 108 e) ∙ ap (λ v. 108 ∷ v) s.1))
     (pick _ (starts_with 117 bytes) _ _ (λ f. let s = starts 117 bytes f in
-        (s.0, ap (λ v. v ∷ bytes) (eqb-true b 108 e) ∙ ap (λ v. 108 ∷ v) s.1)) none))
+    (s.0, ap (λ v. v ∷ bytes) (eqb-true b 108 e) ∙ ap (λ v. 108 ∷ v) s.1)) none))
     none))) none
 
 -- what a number that begins with the digit b is
@@ -411,14 +421,14 @@ fraction_front (b ∷ bytes) = by (b == 46) refl
     by true e =
         let f = digit_front bytes in
         let found : fraction_at (b ∷ bytes) ≡ f.front =
-            when_true _ e ∙ (ap (λ n. take n bytes) f.count ∙ ap (take (length f.front)) f.whole
-            ∙ take-append_seam f.front f.rest) in
+        when_true _ e ∙ (ap (λ n. take n bytes) f.count ∙ ap (take (length f.front)) f.whole
+        ∙ take-append_seam f.front f.rest) in
         record {
           digits = ap all_ascii_digits found ∙ f.digits;
           whole =
               subst (λ v. b ∷ bytes ≡ fraction_text v ++ drop (length (fraction_text v)) (b ∷ bytes)) (sym found)
               (subst (λ c. c ∷ bytes ≡ fraction_text f.front ++ drop (length (fraction_text f.front))
-                  (c ∷ bytes)) (sym (eqb-true b 46 e))
+              (c ∷ bytes)) (sym (eqb-true b 46 e))
               (split f.front f.rest bytes f.whole));
         }
     by false e =
@@ -454,7 +464,7 @@ digits_front : (bytes : List ℕ) → (rest : List ℕ) × (bytes ≡ digits_at 
 digits_front bytes =
     let f = digit_front bytes in
     let found : digits_at bytes ≡ f.front = ap (λ n. take n bytes) f.count ∙ ap (take (length f.front)) f.whole
-        ∙ take-append_seam f.front f.rest in
+    ∙ take-append_seam f.front f.rest in
     (f.rest, f.whole ∙ ap (λ v. v ++ f.rest) (sym found), ap all_ascii_digits found ∙ f.digits)
 
 letter_front : (bytes : List ℕ) → IsAtFront bytes (power_after_letter bytes) × IsPower (power_after_letter bytes)
@@ -465,14 +475,16 @@ letter_front (b ∷ bytes) = by (b == 45) refl
         let p = cond c (power_of_digits true (digits_at bytes)) (power_of_digits false (digits_at (b ∷ bytes))) in
         IsAtFront (b ∷ bytes) p × IsPower p
     by true e =
-        let f = digits_front bytes in
-        (power_split true (digits_at bytes) f.0 (b ∷ bytes)
-            (ap (λ v. v ∷ bytes) (eqb-true b 45 e) ∙ ap (λ v. 45 ∷ v) f.1),
-            power_of_digits_is true (digits_at bytes) f.2)
+        let f = digits_front bytes in (
+          power_split true (digits_at bytes) f.0 (b ∷ bytes)
+              (ap (λ v. v ∷ bytes) (eqb-true b 45 e) ∙ ap (λ v. 45 ∷ v) f.1),
+          power_of_digits_is true (digits_at bytes) f.2,
+        )
     by false e =
-        let f = digits_front (b ∷ bytes) in
-        (power_split false (digits_at (b ∷ bytes)) f.0 (b ∷ bytes) f.1,
-            power_of_digits_is false (digits_at (b ∷ bytes)) f.2)
+        let f = digits_front (b ∷ bytes) in (
+          power_split false (digits_at (b ∷ bytes)) f.0 (b ∷ bytes) f.1,
+          power_of_digits_is false (digits_at (b ∷ bytes)) f.2,
+        )
 
 power_front : (bytes : List ℕ) → (bytes ≡ power_text (power_at bytes) ++ after_power bytes) × IsPower (power_at bytes)
 power_front [] = (refl, tt)
@@ -483,9 +495,11 @@ power_front (b ∷ bytes) = by (b == 101) refl
         (b ∷ bytes ≡ power_text p ++ drop (length (power_text p)) (b ∷ bytes)) × IsPower p
     by true e =
         let l = letter_front bytes in
-        let p = power_after_letter bytes in
-        (subst (λ c. c ∷ bytes ≡ power_text p ++ drop (length (power_text p)) (c ∷ bytes))
-            (sym (eqb-true b 101 e)) l.0, l.1)
+        let p = power_after_letter bytes in (
+          subst (λ c. c ∷ bytes ≡ power_text p ++ drop (length (power_text p)) (c ∷ bytes))
+              (sym (eqb-true b 101 e)) l.0,
+          l.1,
+        )
     by false e = (refl, tt)
 
 starts_lf : (bytes : List ℕ) → starts_with_lf bytes ≡ true → (rest : List ℕ) × (bytes ≡ 108 ∷ 102 ∷ rest)
@@ -508,10 +522,13 @@ precision_front bytes e = by (starts_with 104 bytes) (starts_with 102 bytes) ref
     by false false f g =
         let p = power_front bytes in
         let l = starts_lf (after_power bytes)
-            (ap (λ c. c || starts_with_lf (after_power bytes)) (sym g)
-            ∙ ap (λ c. c || (starts_with 102 bytes || starts_with_lf (after_power bytes))) (sym f) ∙ e) in
-        (l.0, p.0 ∙ ap (λ v. power_text (power_at bytes) ++ v) l.1
-            ∙ sym (append_assoc (power_text (power_at bytes)) (codes "lf") l.0), p.1)
+        (ap (λ c. c || starts_with_lf (after_power bytes)) (sym g)
+        ∙ ap (λ c. c || (starts_with 102 bytes || starts_with_lf (after_power bytes))) (sym f) ∙ e) in (
+          l.0,
+          p.0 ∙ ap (λ v. power_text (power_at bytes) ++ v) l.1
+              ∙ sym (append_assoc (power_text (power_at bytes)) (codes "lf") l.0),
+          p.1,
+        )
 
 number_of_digits : (negative : Bool) (b : ℕ) (bytes ds rest : List ℕ) → all_ascii_digits ds ≡ true →
     bytes ≡ ds ++ rest → NumberFront negative b bytes (number_of negative b ds rest)
@@ -531,20 +548,20 @@ number_of_digits negative b bytes ds rest is whole = floating_or (has_precision 
         let j = and_parts (b == 48) (is_empty ds) i.1 in
         let p = point_zero rest h.0 in
         PointZero (not-true negative i.0) (eqb-true b 48 j.0) p.0
-            (whole ∙ (ap (λ v. v ++ rest) (no_more ds j.1) ∙ p.1)) refl
+        (whole ∙ (ap (λ v. v ++ rest) (no_more ds j.1) ∙ p.1)) refl
     zero_or false e = Digits ds s.0 (suffix_at rest) is (whole
         ∙ (ap (λ v. ds ++ v) s.1 ∙ sym (append_assoc ds (suffix_text (suffix_at rest)) s.0))) refl
 
     floating_or : (c : Bool) → has_precision (after_fraction rest) ≡ c →
         NumberFront negative b bytes
-            (cond c (decimal_of negative b ds (fraction_at rest) (precision_at (after_fraction rest)))
-            (whole_of negative b ds rest))
+        (cond c (decimal_of negative b ds (fraction_at rest) (precision_at (after_fraction rest)))
+        (whole_of negative b ds rest))
     floating_or true e =
         let f = fraction_front rest in
         let p = precision_front (after_fraction rest) e in
         Decimals ds (fraction_at rest) p.0 (precision_at (after_fraction rest)) is f.digits p.2
         (whole ∙ ap (λ v. ds ++ v) (f.whole ∙ ap (λ v. fraction_text (fraction_at rest) ++ v) p.1)
-            ∙ joined ds (fraction_at rest) (precision_at (after_fraction rest)) p.0) refl
+        ∙ joined ds (fraction_at rest) (precision_at (after_fraction rest)) p.0) refl
     floating_or false e = zero_or (is_point_zero rest && (not negative && (b == 48 && is_empty ds))) refl
 
 number_at_front : (negative : Bool) (b : ℕ) (bytes : List ℕ) →
@@ -552,12 +569,12 @@ number_at_front : (negative : Bool) (b : ℕ) (bytes : List ℕ) →
 number_at_front negative b bytes =
     let f = digit_front bytes in
     let taken : take (digits_length bytes) bytes ≡ f.front = ap (λ n. take n bytes) f.count
-        ∙ ap (take (length f.front)) f.whole ∙ take-append_seam f.front f.rest in
+    ∙ ap (take (length f.front)) f.whole ∙ take-append_seam f.front f.rest in
     let left : drop (digits_length bytes) bytes ≡ f.rest = ap (λ n. drop n bytes) f.count
-        ∙ ap (drop (length f.front)) f.whole ∙ drop-append_seam f.front f.rest in
+    ∙ ap (drop (length f.front)) f.whole ∙ drop-append_seam f.front f.rest in
     subst (NumberFront negative b bytes)
-        (sym (ap (λ v. number_of negative b v (drop (digits_length bytes) bytes)) taken
-        ∙ ap (λ v. number_of negative b f.front v) left))
+    (sym (ap (λ v. number_of negative b v (drop (digits_length bytes) bytes)) taken
+    ∙ ap (λ v. number_of negative b f.front v) left))
     (number_of_digits negative b bytes f.front f.rest f.digits f.whole)
 
 all_digits : (b : ℕ) (ds : List ℕ) → is_ascii_digit b ≡ true → all_ascii_digits ds ≡ true →
@@ -571,10 +588,10 @@ number_answer b bytes digit = elim (number_at_front false b bytes) [
   | Decimals ds fraction rest precision is tail_is power_is whole l ↦
       Spelled (ds ++ decimal_tail fraction precision) rest (Decimal false (b ∷ ds) fraction precision) whole
       (SpellsDecimal false (b ∷ ds) fraction precision
-          (record { some = omega arith; digits = all_digits b ds digit is }) tail_is power_is) l
+      (record { some = omega arith; digits = all_digits b ds digit is }) tail_is power_is) l
   | Digits ds rest suffix is whole l ↦
       Spelled (ds ++ suffix_text suffix) rest (Number false (digits_value 10 (b ∷ ds)) suffix) whole
-          (SpellsNumber false (b ∷ ds) suffix (omega arith) (all_digits b ds digit is)) l
+      (SpellsNumber false (b ∷ ds) suffix (omega arith) (all_digits b ds digit is)) l
 ]
 
 minus_sign : (bytes : List ℕ) → Answer 45 bytes (Takes (Fixed Minus) 0)
@@ -592,9 +609,9 @@ minus_answer (b ∷ bytes) =
       | PointZero positive zero_ rest whole l ↦ absurd (false≢true (sym positive))
       | Decimals ds fraction rest precision is tail_is power_is whole l ↦
           Spelled (b ∷ (ds ++ decimal_tail fraction precision)) rest (Decimal true (b ∷ ds) fraction precision)
-              (ap (λ v. b ∷ v) whole)
+          (ap (λ v. b ∷ v) whole)
           (SpellsDecimal true (b ∷ ds) fraction precision
-              (record { some = omega arith; digits = all_digits b ds digit is }) tail_is power_is) (ap one_more l)
+          (record { some = omega arith; digits = all_digits b ds digit is }) tail_is power_is) (ap one_more l)
       | Digits ds rest suffix is whole l ↦
           Spelled (b ∷ (ds ++ suffix_text suffix)) rest
           (Number true (digits_value 10 (b ∷ ds)) suffix) (ap (λ v. b ∷ v) whole)
@@ -610,7 +627,7 @@ sign_or_answer : (short long : Mark) (b x : ℕ) → is_sign short ≡ true → 
 sign_or_answer short long b x s l e f bytes =
     choose (starts_with x bytes) _ _
     (λ next. let r = starts x bytes next in Spelled (x ∷ []) r.0 (Fixed long) r.1
-        (subst (λ v. Spells v (Fixed long)) f (SpellsSign long l)) refl)
+    (subst (λ v. Spells v (Fixed long)) f (SpellsSign long l)) refl)
     (λ _. Spelled [] bytes (Fixed short) refl (subst (λ v. Spells v (Fixed short)) e (SpellsSign short s)) refl)
 
 less_answer : (bytes : List ℕ) → Answer 60 bytes (cond (starts_with 61 bytes) (Takes (Fixed LessEquals) 1)
@@ -618,7 +635,7 @@ less_answer : (bytes : List ℕ) → Answer 60 bytes (cond (starts_with 61 bytes
 less_answer bytes =
     choose (starts_with 61 bytes) _ _
     (λ next. let r = starts 61 bytes next in Spelled (61 ∷ []) r.0 (Fixed LessEquals) r.1
-        (SpellsSign LessEquals refl) refl)
+    (SpellsSign LessEquals refl) refl)
     (λ _. sign_or_answer LessThan LessLess 60 60 refl refl refl refl bytes)
 
 abbrev all_signs : List Mark → Bool
@@ -632,7 +649,7 @@ single_answer b bytes (m ∷ marks) signs plain =
     let h = and_parts (is_sign m) (all_signs marks) signs in
     choose (bytes_eq (mark_text m) (b ∷ [])) _ _
     (λ same. Spelled [] bytes (Fixed m) refl
-        (subst (λ v. Spells v (Fixed m)) ((bytes_eq-Decides (mark_text m) (b ∷ [])).0 same) (SpellsSign m h.0)) refl)
+    (subst (λ v. Spells v (Fixed m)) ((bytes_eq-Decides (mark_text m) (b ∷ [])).0 same) (SpellsSign m h.0)) refl)
     (λ _. single_answer b bytes marks h.1 plain)
 
 -- the answer at a byte that is known
@@ -670,11 +687,11 @@ begins b bytes = elim (answer b bytes) [
         longest = λ other after u e so. (subst (AtLeast (length other)) l (front_long b bytes other after u so e)).1;
       })
       (ap (λ v. following v (scan bytes)) l
-          ∙ ap (λ ts. t ∷ ts) (ap (λ v. scan v (length front)) whole ∙ past front rest))
+      ∙ ap (λ ts. t ∷ ts) (ap (λ v. scan v (length front)) whole ∙ past front rest))
   | Unknown plain l ↦
       AtForeign plain (λ front rest t e s.
-          (subst (AtLeast (length front)) l (front_long b bytes front rest t s e)).0)
-          (ap (λ v. following v (scan bytes)) l)
+      (subst (AtLeast (length front)) l (front_long b bytes front rest t s e)).0)
+      (ap (λ v. following v (scan bytes)) l)
 ]
 
 -- Bytes that spell a token are that token alone.
@@ -696,7 +713,7 @@ number_alone true ds suffix some is = ap (λ v. scan (45 ∷ (ds ++ v)) 0) (sym 
 
 decimal_alone : (negative : Bool) (whole fraction : List ℕ) (precision : Precision) → AreDigits whole →
     all_ascii_digits fraction ≡ true → IsPrecision precision →
-        tokens (decimal_text negative whole fraction precision) ≡ Decimal negative whole fraction precision ∷ []
+    tokens (decimal_text negative whole fraction precision) ≡ Decimal negative whole fraction precision ∷ []
 decimal_alone false whole fraction precision are tail_is power_is =
     ap (λ v. scan v 0) (sym (append-nil (decimal_text false whole fraction precision)))
     ∙ decimal_scans false whole fraction precision [] are tail_is power_is

@@ -106,7 +106,7 @@ mutual
       expression_runs e is.1 _ onward at_end
   statement_runs (TypedLet w t e) is n done s =
       over_indent $ reads $ over_gap $ reads $ reads $ over_gap $ type_runs t is.1.part _ onward over_gap $
-          reads $ over_gap $ expression_runs e is.2 _ onward at_end
+      reads $ over_gap $ expression_runs e is.2 _ onward at_end
   statement_runs (Assign a b) is n done s = over_indent $ expression_runs a is.0 _ onward over_gap $ reads $
       over_gap $ expression_runs b is.1 _ onward at_end
   statement_runs (CallStatement t args) is n done s =
@@ -122,13 +122,13 @@ mutual
       onward over_indent $ loop_closes body rest done s
   statement_runs (LoopBreakIf body rest e) is n done s =
       over_indent (reads
-          (over_gap (reads
-          (over_line (statements_run body is.0 (suc n) NoStatements _ onward over_indent
-          (continues body (over_gap (reads (over_line (
+      (over_gap (reads
+      (over_line (statements_run body is.0 (suc n) NoStatements _ onward over_indent
+      (continues body (over_gap (reads (over_line (
       statements_run rest is.1 (suc (suc n)) NoStatements _ onward over_indent
-          (reads (over_gap (reads (over_gap (expression_runs e is.2 _ onward
+      (reads (over_gap (reads (over_gap (expression_runs e is.2 _ onward
       reads (as_state (ap (λ v. CloseTwice (LoopBreakIf body v e) (InStatements done s))
-          (unwind_rewind rest NoStatements)) at_end))))))))))))))))
+      (unwind_rewind rest NoStatements)) at_end))))))))))))))))
   statement_runs (Switch e cases) is n done s =
       over_indent $ reads $ over_gap $ expression_runs e is.0 _ onward over_gap $ reads $ over_line
       $ cases_run cases is.1 (suc n) e NoCases _ onward over_indent $ reads $ as_state
@@ -201,7 +201,7 @@ mutual
   pub statement_closed : (st : Statement) → IsStatement st → (n : ℕ) → Closed (statement_pieces st n)
   statement_closed (Let w e) is n =
       indent $ sign (λ _. refl) $ gap $ free is.0.word (λ _. refl) $ gap $ sign (λ _. refl) $ gap $
-          part (expression_spaced e is.1) (λ _. refl) stop
+      part (expression_spaced e is.1) (λ _. refl) stop
   statement_closed (TypedLet w t e) is n =
       indent $ sign (λ _. refl) $ gap $ free is.0.word (λ _. refl) $ sign (λ _. refl) $ gap $ part
       (type_spaced t is.1.part) (λ _. refl) $ gap $ sign (λ _. refl) $ gap $ part
@@ -218,7 +218,7 @@ mutual
       (λ _. refl) $ else_closed reject is.2 n
   statement_closed (Loop body rest) is n =
       indent $ sign (λ _. refl) $ gap $ sign (λ _. refl) $ line $
-          statements_closed body is.0 (suc n) then continuing_closed rest is.1 (suc n) then indent close_line
+      statements_closed body is.0 (suc n) then continuing_closed rest is.1 (suc n) then indent close_line
   statement_closed (LoopBreakIf body rest e) is n =
       indent $ sign (λ _. refl) $ gap $ sign (λ _. refl) $ line $ statements_closed body is.0
       (suc n) then indent $ sign (λ _. refl) $ gap $ sign (λ _. refl) $ line $ statements_closed
@@ -227,7 +227,7 @@ mutual
       (λ _. refl) $ line $ indent $ sign (λ _. refl) $ line $ indent close_line
   statement_closed (Switch e cases) is n =
       indent $ sign (λ _. refl) $ gap $ part (expression_spaced e is.0) (λ _. refl) $ gap $ sign (λ _. refl) $
-          line $ cases_closed cases is.1 (suc n) then indent close_line
+      line $ cases_closed cases is.1 (suc n) then indent close_line
   statement_closed (Block body) is n = indent $ sign (λ _. refl) $ line $
       statements_closed body is (suc n) then indent close_line
   statement_closed _ is n = indent $ sign (λ _. refl) stop
@@ -254,7 +254,7 @@ mutual
   cases_closed NoCases is n = none
   cases_closed (Case labels body more) is n =
       indent $ case_closed labels is.0 then gap $ sign (λ _. refl) $ line $
-          statements_closed body is.1 (suc n) then indent $ sign (λ _. refl) $ line $ cases_closed more is.2 n
+      statements_closed body is.1 (suc n) then indent $ sign (λ _. refl) $ line $ cases_closed more is.2 n
 
 -- The text of each row, from the texts of its parts.
 

@@ -139,7 +139,7 @@ word_end [] e = refl
 word_end (b ∷ rest) e =
     let h = both_not (is_letter b) (is_ascii_digit b) e in
     ap (λ c. cond (c || is_ascii_digit b) (suc (word_length rest)) 0) h.0
-        ∙ ap (λ c. cond c (suc (word_length rest)) 0) h.1
+    ∙ ap (λ c. cond c (suc (word_length rest)) 0) h.1
 
 word_whole : (w rest : List ℕ) → all_word_bytes w ≡ true → ends_word rest ≡ true → word_length (w ++ rest) ≡ length w
 word_whole [] rest is e = word_end rest e
@@ -226,7 +226,7 @@ no_precision (b ∷ rest) e =
     ap (λ c. c || (b == 102 || starts_with_lf (after_power (b ∷ rest)))) (no_h b letter)
     ∙ ap (λ c. c || starts_with_lf (after_power (b ∷ rest))) (no_f b letter)
     ∙ ap (λ c. starts_with_lf (drop (length (power_text (cond c (power_after_letter rest) NoPower)))
-        (b ∷ rest))) (no_e b letter)
+    (b ∷ rest))) (no_e b letter)
     ∙ ap (λ c. c && starts_with 102 rest) (no_l b letter)
 
 no_fraction : (b : ℕ) (rest : List ℕ) → (b == 46) ≡ false → after_fraction (b ∷ rest) ≡ b ∷ rest
@@ -258,14 +258,14 @@ digits_scan negative b ds suffix rest is e =
     (Takes (Number negative (digits_value 10 (b ∷ ds)) (suffix_at after))
     (length (ds ++ suffix_text (suffix_at after))))) (no_point suffix rest e)
     ∙ ap (λ v. Takes (Number negative (digits_value 10 (b ∷ ds)) v) (length (ds ++ suffix_text v)))
-        (suffix_found suffix rest e)
+    (suffix_found suffix rest e)
 
 -- what the digits and the suffix of a number leave
 number_left : (ds : List ℕ) (suffix : Suffix) (rest : List ℕ) →
     scan (ds ++ (suffix_text suffix ++ rest)) (length (ds ++ suffix_text suffix)) ≡ scan rest 0
 number_left ds suffix rest =
     ap (λ v. scan v (length (ds ++ suffix_text suffix))) (sym (append_assoc ds (suffix_text suffix) rest))
-        ∙ past (ds ++ suffix_text suffix) rest
+    ∙ past (ds ++ suffix_text suffix) rest
 
 pub number_scans : (negative : Bool) (ds : List ℕ) (suffix : Suffix) (rest : List ℕ) →
     0 < length ds → all_ascii_digits ds ≡ true → ends_number suffix rest ≡ true →
@@ -316,14 +316,14 @@ fraction_found [] (Double (PowerOf false ds)) rest is = refl
 fraction_found [] (Double (PowerOf true ds)) rest is = refl
 fraction_found (b ∷ ds) precision rest is =
     ap (λ n. take n ((b ∷ ds) ++ (precision_text precision ++ rest)))
-        (digits_whole (b ∷ ds) (precision_text precision ++ rest) is (digits_before precision rest))
+    (digits_whole (b ∷ ds) (precision_text precision ++ rest) is (digits_before precision rest))
     ∙ take-append_seam (b ∷ ds) (precision_text precision ++ rest)
 
 pub fraction_left : (fraction : List ℕ) (precision : Precision) (rest : List ℕ) → all_ascii_digits fraction ≡ true →
     after_fraction (fraction_text fraction ++ (precision_text precision ++ rest)) ≡ precision_text precision ++ rest
 fraction_left fraction precision rest is =
     ap (λ v. drop (length (fraction_text v)) (fraction_text fraction ++ (precision_text precision ++ rest)))
-        (fraction_found fraction precision rest is)
+    (fraction_found fraction precision rest is)
     ∙ drop-append_seam (fraction_text fraction) (precision_text precision ++ rest)
 
 -- the power of ten of an `f64`
@@ -344,7 +344,7 @@ power_found_in (PowerOf true (d ∷ ds)) rest is =
 power_found_in (PowerOf false (d ∷ ds)) rest is =
     let h = and_parts (is_ascii_digit d) (all_ascii_digits ds) is.digits in
     when_false _ (no_minus d h.0) ∙ ap (power_of_digits false)
-        (digits_found (d ∷ ds) (codes "lf" ++ rest) is.digits refl)
+    (digits_found (d ∷ ds) (codes "lf" ++ rest) is.digits refl)
 
 power_found : (power : Power) (rest : List ℕ) → IsPower power → power_at (precision_text (Double power) ++ rest) ≡ power
 power_found power rest is = ap power_at (append_assoc (power_text power) (codes "lf") rest)
@@ -365,17 +365,17 @@ double_before : (negative : Bool) (b : ℕ) (ds fraction : List ℕ) (power : Po
     ≡ decimal_of negative b ds fraction (Double power)
 double_before negative b ds fraction power rest is =
     ap (λ v. cond (starts_with_lf v) (decimal_of negative b ds fraction
-        (Double (power_at (precision_text (Double power) ++ rest))))
-        (whole_of negative b ds (fraction_text fraction ++ (precision_text (Double power) ++ rest))))
-        (power_left power rest is)
+    (Double (power_at (precision_text (Double power) ++ rest))))
+    (whole_of negative b ds (fraction_text fraction ++ (precision_text (Double power) ++ rest))))
+    (power_left power rest is)
     ∙ ap (λ p. decimal_of negative b ds fraction (Double p)) (power_found power rest is)
 
 decimal_before : (negative : Bool) (b : ℕ) (ds fraction : List ℕ) (precision : Precision) (rest : List ℕ) →
     IsPrecision precision →
     cond (has_precision (precision_text precision ++ rest))
-        (decimal_of negative b ds fraction (precision_at (precision_text precision ++ rest)))
+    (decimal_of negative b ds fraction (precision_at (precision_text precision ++ rest)))
     (whole_of negative b ds (fraction_text fraction ++ (precision_text precision ++ rest)))
-        ≡ decimal_of negative b ds fraction precision
+    ≡ decimal_of negative b ds fraction precision
 decimal_before negative b ds fraction Half rest is = refl
 decimal_before negative b ds fraction Single rest is = refl
 decimal_before negative b ds fraction (Double NoPower) rest is = refl
@@ -387,7 +387,7 @@ decimal_before negative b ds fraction (Double (PowerOf true ps)) rest is =
 pub decimal_scan : (negative : Bool) (b : ℕ) (ds fraction : List ℕ) (precision : Precision) (rest : List ℕ) →
     all_ascii_digits ds ≡ true → all_ascii_digits fraction ≡ true → IsPrecision precision →
     number_lexeme negative b (ds ++ (fraction_text fraction ++ (precision_text precision ++ rest)))
-        ≡ decimal_of negative b ds fraction precision
+    ≡ decimal_of negative b ds fraction precision
 decimal_scan negative b ds fraction precision rest is tail_is power_is =
     let after = fraction_text fraction ++ (precision_text precision ++ rest) in
     let n = digits_whole ds after is (digits_before_tail fraction precision rest) in
@@ -395,22 +395,22 @@ decimal_scan negative b ds fraction precision rest is tail_is power_is =
     ∙ ap (λ v. number_of negative b v (drop (length ds) (ds ++ after))) (take-append_seam ds after)
     ∙ ap (λ v. number_of negative b ds v) (drop-append_seam ds after)
     ∙ ap (λ v. cond (has_precision v) (decimal_of negative b ds (fraction_at after) (precision_at v))
-        (whole_of negative b ds after)) (fraction_left fraction precision rest tail_is)
+    (whole_of negative b ds after)) (fraction_left fraction precision rest tail_is)
     ∙ ap (λ v. cond (has_precision (precision_text precision ++ rest))
-        (decimal_of negative b ds v (precision_at (precision_text precision ++ rest)))
-        (whole_of negative b ds after)) (fraction_found fraction precision rest tail_is)
+    (decimal_of negative b ds v (precision_at (precision_text precision ++ rest)))
+    (whole_of negative b ds after)) (fraction_found fraction precision rest tail_is)
     ∙ decimal_before negative b ds fraction precision rest power_is
 
 pub joined : (ds fraction : List ℕ) (precision : Precision) (rest : List ℕ) →
     ds ++ (fraction_text fraction ++ (precision_text precision ++ rest))
-        ≡ (ds ++ decimal_tail fraction precision) ++ rest
+    ≡ (ds ++ decimal_tail fraction precision) ++ rest
 joined ds fraction precision rest =
     ap (λ v. ds ++ v) (sym (append_assoc (fraction_text fraction) (precision_text precision) rest))
     ∙ sym (append_assoc ds (decimal_tail fraction precision) rest)
 
 decimal_left : (ds fraction : List ℕ) (precision : Precision) (rest : List ℕ) →
     scan (ds ++ (fraction_text fraction ++ (precision_text precision ++ rest)))
-        (length (ds ++ decimal_tail fraction precision)) ≡ scan rest 0
+    (length (ds ++ decimal_tail fraction precision)) ≡ scan rest 0
 decimal_left ds fraction precision rest =
     ap (λ v. scan v (length (ds ++ decimal_tail fraction precision))) (joined ds fraction precision rest)
     ∙ past (ds ++ decimal_tail fraction precision) rest
@@ -418,7 +418,7 @@ decimal_left ds fraction precision rest =
 pub decimal_scans : (negative : Bool) (whole fraction : List ℕ) (precision : Precision) (rest : List ℕ) →
     AreDigits whole → all_ascii_digits fraction ≡ true → IsPrecision precision →
     scan (token_text (Decimal negative whole fraction precision) ++ rest) 0
-        ≡ Decimal negative whole fraction precision ∷ scan rest 0
+    ≡ Decimal negative whole fraction precision ∷ scan rest 0
 decimal_scans negative [] fraction precision rest is tail_is power_is = absurd (omega (arith, is.some))
 decimal_scans false (b ∷ ds) fraction precision rest are tail_is power_is =
     let h = and_parts (is_ascii_digit b) (all_ascii_digits ds) are.digits in
@@ -433,7 +433,7 @@ decimal_scans true (b ∷ ds) fraction precision rest are tail_is power_is =
     let first : lexeme 45 (b ∷ after) ≡ one_more (number_lexeme true b after) = when_true _ h.0 in
     ap (λ v. scan (45 ∷ b ∷ v) 0) (sym (joined ds fraction precision rest))
     ∙ ap (λ l. following l (scan (b ∷ after)))
-        (first ∙ ap one_more (decimal_scan true b ds fraction precision rest h.1 tail_is power_is))
+    (first ∙ ap one_more (decimal_scan true b ds fraction precision rest h.1 tail_is power_is))
     ∙ ap (λ ts. Decimal true (b ∷ ds) fraction precision ∷ ts) (decimal_left ds fraction precision rest)
 
 -- no digit begins these bytes
@@ -447,7 +447,7 @@ zero_scans rest e =
     ap (λ l. following l (scan (46 ∷ 48 ∷ rest)))
     (when_false (decimal_of false 48 [] (fraction_at (46 ∷ 48 ∷ rest)) (precision_at (after_fraction (46 ∷ 48 ∷ rest))))
     (ap (λ k. has_precision (drop (length (fraction_text (48 ∷ take k rest))) (46 ∷ 48 ∷ rest)))
-        (no_digits rest e) ∙ no_precision rest e))
+    (no_digits rest e) ∙ no_precision rest e))
 
 -- signs and keywords
 
@@ -468,7 +468,7 @@ minus_scans (b ∷ rest) e =
 less_scans : (rest : List ℕ) → opens rest ≡ true → scan (60 ∷ rest) 0 ≡ Fixed LessThan ∷ scan rest 0
 less_scans rest e =
     ap (λ c. following (cond c (Takes (Fixed LessEquals) 1) (sign_or LessThan (starts_with 60 rest) LessLess))
-        (scan rest)) (not_next 61 rest refl e)
+    (scan rest)) (not_next 61 rest refl e)
     ∙ ap (λ c. following (sign_or LessThan c LessLess) (scan rest)) (not_next 60 rest refl e)
 
 mark_scans : (m : Mark) (rest : List ℕ) → ends_mark m rest ≡ true → scan (mark_text m ++ rest) 0 ≡ Fixed m ∷ scan rest 0

@@ -172,8 +172,8 @@ mutual
   type_spaced (Named w) is = free is (λ more e. e) end
   type_spaced (Template w parts) is =
       free (type_template w parts is.0).word (λ more e. refl) $
-          tok tt (λ more e. (parts_open parts (parts_of_fit _ parts is.0) is.1 (has_gaps w)).at more) $
-          parts_spaced parts is.1 (has_gaps w)
+      tok tt (λ more e. (parts_open parts (parts_of_fit _ parts is.0) is.1 (has_gaps w)).at more) $
+      parts_spaced parts is.1 (has_gaps w)
 
   pub parts_spaced : (parts : TemplateArguments) → AreTemplateArguments parts → (gaps : Bool) →
       Spaced (template_pieces parts gaps)

@@ -89,7 +89,7 @@ scalars : AreTheWordsOf scalar_word scalar_words
 unfolding scalar
 scalars = are_the_words scalar_word scalar_words (λ s. scalar_stands s.kind s.width) (
     scalar kind.Bool 1 ∷ scalar kind.Sint 2 ∷ scalar kind.Uint 2 ∷ scalar kind.Sint 4 ∷ scalar kind.Uint 4
-        ∷ scalar kind.Sint 8 ∷ scalar kind.Uint 8 ∷
+    ∷ scalar kind.Sint 8 ∷ scalar kind.Uint 8 ∷
     scalar kind.Float 2 ∷ scalar kind.Float 4 ∷ scalar kind.Float 8 ∷ []) refl
 
 sampled_stands : (k : ScalarKind) → stands_if_there sampled_words (scalar_word_of k 4) ≡ true
@@ -150,33 +150,33 @@ value_words = record {
       (kind.Sint ∷ kind.Uint ∷ kind.Float ∷ []) refl;
   formats = are_the_words (λ f. Some (format_word f)) format_words format_stands (
       format.R8Unorm ∷ format.R8Snorm ∷ format.R8Uint ∷ format.R8Sint ∷ format.Rg8Unorm ∷ format.Rg8Snorm
-          ∷ format.Rg8Uint ∷ format.Rg8Sint ∷
+      ∷ format.Rg8Uint ∷ format.Rg8Sint ∷
       format.Rgba8Unorm ∷ format.Rgba8Snorm ∷ format.Rgba8Uint ∷ format.Rgba8Sint ∷ format.R16Unorm
-          ∷ format.R16Snorm ∷ format.R16Uint ∷
+      ∷ format.R16Snorm ∷ format.R16Uint ∷
       format.R16Sint ∷ format.R16Float ∷ format.Rg16Unorm ∷ format.Rg16Snorm ∷ format.Rg16Uint ∷ format.Rg16Sint
-          ∷ format.Rg16Float ∷
+      ∷ format.Rg16Float ∷
       format.Rgba16Unorm ∷ format.Rgba16Snorm ∷ format.Rgba16Uint ∷ format.Rgba16Sint ∷ format.Rgba16Float
-          ∷ format.R32Uint ∷ format.R32Sint ∷
+      ∷ format.R32Uint ∷ format.R32Sint ∷
       format.R32Float ∷ format.Rg32Uint ∷ format.Rg32Sint ∷ format.Rg32Float ∷ format.Rgba32Uint
-          ∷ format.Rgba32Sint ∷ format.Rgba32Float ∷
+      ∷ format.Rgba32Sint ∷ format.Rgba32Float ∷
       format.Bgra8Unorm ∷ format.Rgb10a2Uint ∷ format.Rgb10a2Unorm ∷ format.Rg11b10Ufloat ∷ format.R64Uint ∷ []) refl;
   roles = are_the_words (λ r. Some (role_word r)) role_words role_stands (role.A ∷ role.B ∷ role.C ∷ []) refl;
   builtin_values = are_the_words builtin_word builtin_value_words builtin_stands (
       builtin.Position false ∷ builtin.Barycentric true ∷ builtin.Barycentric false ∷ builtin.ViewIndex
-          ∷ builtin.InstanceIndex ∷
+      ∷ builtin.InstanceIndex ∷
       builtin.VertexIndex ∷ builtin.ClipDistances ∷ builtin.FragDepth ∷ builtin.FrontFacing
-          ∷ builtin.PrimitiveIndex ∷ builtin.DrawIndex ∷
+      ∷ builtin.PrimitiveIndex ∷ builtin.DrawIndex ∷
       builtin.SampleIndex ∷ builtin.SampleMask ∷ builtin.GlobalInvocationId ∷ builtin.LocalInvocationId
-          ∷ builtin.LocalInvocationIndex ∷
+      ∷ builtin.LocalInvocationIndex ∷
       builtin.WorkGroupId ∷ builtin.NumWorkGroups ∷ builtin.NumSubgroups ∷ builtin.SubgroupId ∷ builtin.SubgroupSize ∷
       builtin.SubgroupInvocationId ∷ builtin.MeshTaskSize ∷ builtin.TriangleIndices ∷ builtin.LineIndices
-          ∷ builtin.PointIndex ∷
+      ∷ builtin.PointIndex ∷
       builtin.Vertices ∷ builtin.Primitives ∷ builtin.VertexCount ∷ builtin.PrimitiveCount
-          ∷ builtin.CullPrimitive ∷ builtin.RayInvocationId ∷
+      ∷ builtin.CullPrimitive ∷ builtin.RayInvocationId ∷
       builtin.NumRayInvocations ∷ builtin.InstanceCustomData ∷ builtin.GeometryIndex ∷ builtin.WorldRayOrigin
-          ∷ builtin.WorldRayDirection ∷
+      ∷ builtin.WorldRayDirection ∷
       builtin.ObjectRayOrigin ∷ builtin.ObjectRayDirection ∷ builtin.RayTmin ∷ builtin.RayTCurrentMax
-          ∷ builtin.ObjectToWorld ∷
+      ∷ builtin.ObjectToWorld ∷
       builtin.WorldToObject ∷ builtin.HitKind ∷ []) refl;
   interpolations = are_the_words (λ i. Some (interpolation_word i)) interpolation_words interpolation_stands (
       interpolation.Perspective ∷ interpolation.Linear ∷ interpolation.Flat ∷ interpolation.PerVertex ∷ []) refl;
@@ -184,10 +184,10 @@ value_words = record {
       sampling.Center ∷ sampling.Centroid ∷ sampling.Sample ∷ sampling.First ∷ sampling.Either ∷ []) refl;
   spaces = are_the_words space_word address_space_words space_stands (
       space.Private ∷ space.Uniform ∷ space.Storage (bits 0) ∷ space.Immediate ∷ space.WorkGroup
-          ∷ space.Function ∷ space.TaskPayload ∷
+      ∷ space.Function ∷ space.TaskPayload ∷
       space.IncomingRayPayload ∷ space.RayPayload ∷ []) refl;
   accesses = are_the_words (λ a. Some (image_access_word a)) access_words
       (λ a. access_stands (has atomic_bit a) (has load_bit a) (has store_bit a))
-          (bits 1 ∷ bits 0 ∷ bits 3 ∷ bits 4 ∷ []) refl;
+      (bits 1 ∷ bits 0 ∷ bits 3 ∷ bits 4 ∷ []) refl;
   functions = λ f w is. ap builtin_if_there (sym is) ∙ function_is_builtin f;
 }

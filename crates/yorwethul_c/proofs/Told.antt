@@ -100,15 +100,25 @@ pub not_written : (json : List ℕ) (flags : ℕ) (writer : WriterFlags) (given 
     SaysOfUnwritten reason told text → TellsOfWriting json flags told text
 not_written json flags writer given m read info (unwritten.TooDeep nested) told text known bits asked is says =
     said (TellsOfWriting json flags) status.TooDeep told text
-        (inr (record { m = given; nested = nested; past = is.0 })) refl says.0
+    (inr (record { m = given; nested = nested; past = is.0 })) refl says.0
 not_written json flags writer given m read info (unwritten.NotAccepted fault) told text known bits asked is says =
     said (TellsOfWriting json flags) status.NotAccepted told text
-        (record { m = given; read = read; fault = fault; fails = is.1 }) refl says.0
+    (record { m = given; read = read; fault = fault; fails = is.1 }) refl says.0
 not_written json flags writer given m read info unwritten.TooLong told text known bits asked is says =
     let long : IsTooLong flags =
-    record { flags_are_known = known; writer = writer; has_bits = bits; given = given; m = m;
-        is_as_asked = asked refl; read = read; info = info; accepted = is.accepted; counted = is.counted;
-        longer = is.longer } in
+    record {
+      flags_are_known = known;
+      writer = writer;
+      has_bits = bits;
+      given = given;
+      m = m;
+      is_as_asked = asked refl;
+      read = read;
+      info = info;
+      accepted = is.accepted;
+      counted = is.counted;
+      longer = is.longer;
+    } in
     said (TellsOfWriting json flags) status.TooLong told text long refl says.0
 not_written json flags writer given m read info (unwritten.Memory error) told text known bits asked is says =
     said (TellsOfWriting json flags) status.OutOfMemory told text (says.1 refl) refl says.0
@@ -169,14 +179,40 @@ wrote json flags writer given m read info (Ok tt) content failures told text kno
     subst (λ now. FaithfulWriting writer m info (Ok tt) [] now 0 0) (sym is.1)
     (no_failures writer m info content failures faithful) in
     let done : IsWritten flags text =
-    record { flags_are_known = known; writer = writer; has_bits = bits; given = given; m = m;
-        is_as_asked = asked; read = read; info = info; accepted = accepted; counted = counted; faithful = moved;
-        text_is = is.1 ∙ appends; is_within = subst (λ t. length t ≤ longest_text) (sym is.1) within } in
+    record {
+      flags_are_known = known;
+      writer = writer;
+      has_bits = bits;
+      given = given;
+      m = m;
+      is_as_asked = asked;
+      read = read;
+      info = info;
+      accepted = accepted;
+      counted = counted;
+      faithful = moved;
+      text_is = is.1 ∙ appends;
+      is_within = subst (λ t. length t ≤ longest_text) (sym is.1) within;
+    } in
     subst (λ s. TellsOfWriting json flags s text) (sym is.0) done
 wrote json flags writer given m read info (Err e) content failures told text known bits asked accepted counted faithful
     appends within says =
     stopped json flags e told text
-    (record { flags_are_known = known; writer = writer; has_bits = bits; given = given; m = m;
-        is_as_asked = asked; read = read; info = info; error = e; beginning = content; failures = failures;
-        accepted = accepted; counted = counted; faithful = faithful; told_is = refl })
+    (record {
+      flags_are_known = known;
+      writer = writer;
+      has_bits = bits;
+      given = given;
+      m = m;
+      is_as_asked = asked;
+      read = read;
+      info = info;
+      error = e;
+      beginning = content;
+      failures = failures;
+      accepted = accepted;
+      counted = counted;
+      faithful = faithful;
+      told_is = refl;
+    })
     says

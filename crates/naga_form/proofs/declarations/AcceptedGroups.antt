@@ -178,7 +178,7 @@ module _ (m : Module) (info : ModuleInfo) where
     fit_of (Handle h) fits = tt
     fit_of (Value it) fits =
         let one = and_parts (resolution_is_fit (Value it)) _ fits in
-            let two = and_parts (parts_before (length m.types) it) (numbers_in_range (length m.overrides) it) one.1 in
+        let two = and_parts (parts_before (length m.types) it) (numbers_in_range (length m.overrides) it) one.1 in
         let three = and_parts (length_within (length m.overrides) it) (type_fits_32_bits it) two.1 in
         (one.0, inner_counted it three.1, three.0)
 
@@ -192,11 +192,11 @@ module _ (m : Module) (info : ModuleInfo) where
     sound_group : (f : Option Function) (g : Group) (arguments locals : ℕ) → IsIn (groups_of m info) g →
         length g.expressions ≡ length g.known →
         ((h : ℕ) (r : TypeResolution) → slice_get g.known h ≡ Some r →
-            resolution_fits (length m.overrides) (length m.types) r ≡ true) →
+        resolution_fits (length m.overrides) (length m.types) r ≡ true) →
         ((h : ℕ) (e : Expression) → slice_get g.expressions h ≡ Some e →
-            expression_in_range m arguments locals h e ≡ true) →
+        expression_in_range m arguments locals h e ≡ true) →
         have_their_types m f g.known g.expressions ≡ true → are_operands_fit m.types g.known g.expressions
-            ≡ true → IsSoundGroup m info f g
+        ≡ true → IsSoundGroup m info f g
     sound_group f g arguments locals place size fits ranges typed demands = record {
       place = place;
       size = size;
@@ -206,7 +206,7 @@ module _ (m : Module) (info : ModuleInfo) where
           let at : 0 + h ≡ h = omega arith in
           let one = placed_at (has_its_type m f g.known) 0 g.expressions h e typed here in
           sym (ap (λ k. option_map_or (expression_type_fits m f g.known e) (slice_get g.known k) false) at
-              ∙ ap (λ o. option_map_or (expression_type_fits m f g.known e) o false) there) ∙ one;
+          ∙ ap (λ o. option_map_or (expression_type_fits m f g.known e) o false) there) ∙ one;
       demands = λ h e at. list_all_at (operands_fit m.types g.known) g.expressions h e demands at;
       indexes = λ h base index at. ltb-true index (2 ^ 32) (in_range h (expression.AccessIndex base index) at).1;
       patterns = λ h size vector pattern at. eqb-true (length pattern) 4
@@ -223,13 +223,13 @@ module _ (m : Module) (info : ModuleInfo) where
         IsIn (groups_of m info) (function_group f es) → function_size_fits f es ≡ true →
         function_in_range m callees f ≡ true →
         list_all (λ k. resolution_fits (length m.overrides) (length m.types) k.ty) es ≡ true →
-            function_is_sound m f es ≡ true → IsSoundGroup m info (Some f) (function_group f es)
+        function_is_sound m f es ≡ true → IsSoundGroup m info (Some f) (function_group f es)
     function_is callees f es place size ranges known sound =
         let one = and_parts (signature_fits (length m.types) f) _ ranges in let two = and_parts (names_fit f) _ one.1 in
         let three = and_parts (list_all (local_in_range (length m.types) (length f.expressions))
-            f.local_variables) _ two.1 in
+        f.local_variables) _ two.1 in
         let four = and_parts (expressions_in_range m f) (block_in_range callees (length f.expressions) f.body)
-            three.1 in
+        three.1 in
         let parts = and_parts _ _ sound in let typed = and_parts _ _ parts.0 in
         let test = expression_in_range m (length f.arguments.items) (length f.local_variables) in
         sound_group (Some f) (function_group f es) (length f.arguments.items)
@@ -237,7 +237,7 @@ module _ (m : Module) (info : ModuleInfo) where
         ∙ sym (length-map es (λ e. e.ty)))
         (known_test (resolution_fits (length m.overrides) (length m.types)) es known)
         (λ h e at. let from : 0 + h ≡ h = omega arith in sym (ap (λ n. test n e) from)
-            ∙ placed_at test 0 f.expressions h e four.0 at)
+        ∙ placed_at test 0 f.expressions h e four.0 at)
         typed.0 typed.1
 
     -- each function
@@ -256,9 +256,9 @@ module _ (m : Module) (info : ModuleInfo) where
         )
         (paired_at function_size_fits m.functions info.functions.items sizes.0 k f es here there)
         (sym (ap (λ n. function_in_range m n f) from)
-            ∙ placed_at (function_in_range m) 0 m.functions k f functions.0 here)
+        ∙ placed_at (function_in_range m) 0 m.functions k f functions.0 here)
         (list_all_at (list_all (λ k. resolution_fits (length m.overrides) (length m.types) k.ty))
-            info.functions.items k es (and_parts _ _ ranges_parts.3).0 there)
+        info.functions.items k es (and_parts _ _ ranges_parts.3).0 there)
         (paired_at (function_is_sound m) m.functions info.functions.items sound_parts.1 k f es here there)
 
     -- what is known of the expressions of each function and entry point is fit, and names what is there
@@ -297,11 +297,11 @@ module _ (m : Module) (info : ModuleInfo) where
         let two = and_parts (is_below count p.task_payload) _ one.1 in
         let three = and_parts (is_below count p.incoming_ray_payload) _ two.1 in
         let four = and_parts (workgroup_fits_32_bits p.workgroup_size)
-            (function_in_range m (length m.functions) p.function) three.1 in
+        (function_in_range m (length m.functions) p.function) three.1 in
         let mapped = slice_get-map (λ p. p.function) m.entry_points.items k ∙ ap (option_map (λ p. p.function)) here in
         let known = and_parts _ _ ranges_parts.3 in
         let group = in_groups (map (λ p. p.function) m.entry_points.items) info.entry_points.items k p.function
-            es mapped there in
+        es mapped there in
         function_is (length m.functions) p.function es
         (in_right (function_groups m.functions info.functions.items) (further_groups_of m info)
         (function_group p.function es) (
@@ -312,9 +312,9 @@ module _ (m : Module) (info : ModuleInfo) where
         (paired_at entry_point_size_fits m.entry_points.items info.entry_points.items more.0 k p es here there)
         four.1
         (list_all_at (list_all (λ k. resolution_fits (length m.overrides) (length m.types) k.ty))
-            info.entry_points.items k es (and_parts _ _ known.1).0 there)
+        info.entry_points.items k es (and_parts _ _ known.1).0 there)
         (paired_at (entry_point_is_sound m) m.entry_points.items info.entry_points.items sound_parts.2 k p es
-            here there)
+        here there)
 
     -- the module's own expressions
     abbrev pub own_group : Group
@@ -325,23 +325,23 @@ module _ (m : Module) (info : ModuleInfo) where
         let sizes = and_parts _ _ ranges_parts.0 in let more = and_parts _ _ sizes.1 in
         let types = length m.types in let own = length m.global_expressions in
         let range = and_parts (declarations_in_range m)
-            (all_placed (function_in_range m) m.functions
-            && list_all (entry_point_in_range m) m.entry_points.items) ranges_parts.2 in
+        (all_placed (function_in_range m) m.functions
+        && list_all (entry_point_in_range m) m.entry_points.items) ranges_parts.2 in
         let declared = and_parts (types_in_range (length m.overrides) m.types) _ range.0 in
         let d1 = and_parts (special_types_fit types m.special_types) _ declared.1 in
         let d2 = and_parts (list_all (constant_in_range types own) m.constants) _ d1.1 in
         let d3 = and_parts (list_all (override_in_range types own) m.overrides) _ d2.1 in
         let d4 = and_parts (list_all (global_in_range types own) m.global_variables)
-            (all_placed (global_expression_in_range m) m.global_expressions) d3.1 in
+        (all_placed (global_expression_in_range m) m.global_expressions) d3.1 in
         let known = and_parts _ _ ranges_parts.3 in let all = and_parts _ _ known.1 in
         let sound = and_parts _ _ sound_parts.0 in let typed = and_parts _ _ sound.0 in
         sound_group None own_group 0 0
         (in_right (function_groups m.functions info.functions.items) (further_groups_of m info) own_group
         (in_right (function_groups (map (λ p. p.function) m.entry_points.items) info.entry_points.items)
-            (own_group ∷ []) own_group (0, refl)))
+        (own_group ∷ []) own_group (0, refl)))
         (eqb-true (length m.global_expressions) (length info.const_expression_types.items) more.1)
         (λ h r at. list_all_at (resolution_fits (length m.overrides) (length m.types))
-            info.const_expression_types.items h r all.1 at)
+        info.const_expression_types.items h r all.1 at)
         (λ h e at. let from : 0 + h ≡ h = omega arith in
         (and_parts (expression_in_range m 0 0 h e)
         _ (sym (ap (λ n. global_expression_in_range m n e) from)

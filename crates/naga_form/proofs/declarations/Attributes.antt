@@ -115,7 +115,7 @@ center_is _ is = absurd cc
 -- the word of what is meant is that of what is there, or the default
 meant_interpolation : (i : Option Interpolation) →
     interpolation_word (unwrap_or i interpolation.Perspective)
-        ≡ option_map_or interpolation_word i default_interpolation
+    ≡ option_map_or interpolation_word i default_interpolation
 meant_interpolation None = refl
 meant_interpolation (Some i) = refl
 
@@ -137,7 +137,7 @@ binding_read (Location location i s source per_primitive) is =
     let own_i = unwrap_or i interpolation.Perspective in
     let own_s = unwrap_or s sampling.Center in
     location_read location source (is_perspective own_i) (is_center own_s) (interpolation_word own_i)
-        (sampling_word own_s) per_primitive
+    (sampling_word own_s) per_primitive
     (perspective_is own_i) (center_is own_s)
     ∙ (λ j. AtLocation (told_location location source (meant_interpolation i j) (meant_sampling s j) per_primitive))
 
@@ -157,7 +157,7 @@ read_resource b = record { group = b.group; binding = b.binding }
 
 resource_read : (b : Option ResourceBinding) (coherent volatile : Bool) →
     resource_binding_read (resource_attributes b
-        ++ (attribute_if (Plain Coherent) coherent ++ attribute_if (Plain Volatile) volatile)) ≡
+    ++ (attribute_if (Plain Coherent) coherent ++ attribute_if (Plain Volatile) volatile)) ≡
     option_map read_resource b
 resource_read None true true = refl
 resource_read None true false = refl
@@ -173,7 +173,7 @@ resource_is_read g = resource_read g.binding (is_coherent_memory g.memory_decora
 
 coherent_read : (b : Option ResourceBinding) (coherent volatile : Bool) →
     list_any is_coherent (resource_attributes b
-        ++ (attribute_if (Plain Coherent) coherent ++ attribute_if (Plain Volatile) volatile)) ≡ coherent
+    ++ (attribute_if (Plain Coherent) coherent ++ attribute_if (Plain Volatile) volatile)) ≡ coherent
 coherent_read None true true = refl
 coherent_read None true false = refl
 coherent_read None false true = refl
@@ -185,7 +185,7 @@ coherent_read (Some b) false false = refl
 
 volatile_read : (b : Option ResourceBinding) (coherent volatile : Bool) →
     list_any is_volatile (resource_attributes b
-        ++ (attribute_if (Plain Coherent) coherent ++ attribute_if (Plain Volatile) volatile)) ≡ volatile
+    ++ (attribute_if (Plain Coherent) coherent ++ attribute_if (Plain Volatile) volatile)) ≡ volatile
 volatile_read None true true = refl
 volatile_read None true false = refl
 volatile_read None false true = refl
@@ -216,14 +216,14 @@ module _ (names : NameMap) (e : EntryPoint) (x y z : ℕ) (sizes : e.workgroup_s
       stage_read (attribute_of (λ i. Worded Mesh (global_name names i.output_variable)) output ++
       (size_attributes size ++ attribute_of (λ v. Worded Payload (global_name names v)) payload)) ≡
       MeshStage (option_map (λ i. global_name names i.output_variable) output)
-          (option_map (global_name names) payload) size
+      (option_map (global_name names) payload) size
   mesh_read None payload is = absurd cc
   mesh_read (Some output) None is = refl
   mesh_read (Some output) (Some payload) is = refl
 
   task_read : (payload : Option ℕ) → is_some payload ≡ true →
       stage_read (Plain Task ∷ (attribute_of (λ v. Worded Payload (global_name names v)) payload
-          ++ size_attributes size)) ≡
+      ++ size_attributes size)) ≡
       TaskStage (option_map (global_name names) payload) size
   task_read None is = absurd cc
   task_read (Some payload) is = refl
@@ -235,10 +235,10 @@ module _ (names : NameMap) (e : EntryPoint) (x y z : ℕ) (sizes : e.workgroup_s
       ap (λ l. stage_read (Plain Compute ∷ size_attributes l)) sizes ∙ ap ComputeStage (sym sizes)
   stage_is_read stage.Mesh is =
       ap (λ l. stage_read (attribute_of (λ i. Worded Mesh (global_name names i.output_variable)) e.mesh_info
-          ++ (size_attributes l ++ payload_attributes names e))) sizes
+      ++ (size_attributes l ++ payload_attributes names e))) sizes
       ∙ mesh_read e.mesh_info e.task_payload is
       ∙ ap (MeshStage (option_map (λ i. global_name names i.output_variable) e.mesh_info)
-          (option_map (global_name names) e.task_payload)) (sym sizes)
+      (option_map (global_name names) e.task_payload)) (sym sizes)
   stage_is_read stage.Task is =
       ap (λ l. stage_read (Plain Task ∷ (payload_attributes names e ++ size_attributes l))) sizes
       ∙ task_read e.task_payload is
@@ -247,21 +247,21 @@ module _ (names : NameMap) (e : EntryPoint) (x y z : ℕ) (sizes : e.workgroup_s
     where
       by : (payload : Option ℕ) → is_some payload ≡ true →
           stage_read (Plain AnyHit ∷ attribute_of (λ v. Worded IncomingPayload (global_name names v)) payload)
-              ≡ AnyHitStage (option_map (global_name names) payload)
+          ≡ AnyHitStage (option_map (global_name names) payload)
       by None is = absurd cc
       by (Some v) is = refl
   stage_is_read stage.ClosestHit is = by e.incoming_ray_payload is
     where
       by : (payload : Option ℕ) → is_some payload ≡ true →
           stage_read (Plain ClosestHit ∷ attribute_of (λ v. Worded IncomingPayload (global_name names v))
-              payload) ≡ ClosestHitStage (option_map (global_name names) payload)
+          payload) ≡ ClosestHitStage (option_map (global_name names) payload)
       by None is = absurd cc
       by (Some v) is = refl
   stage_is_read stage.Miss is = by e.incoming_ray_payload is
     where
       by : (payload : Option ℕ) → is_some payload ≡ true →
           stage_read (Plain Miss ∷ attribute_of (λ v. Worded IncomingPayload (global_name names v)) payload)
-              ≡ MissStage (option_map (global_name names) payload)
+          ≡ MissStage (option_map (global_name names) payload)
       by None is = absurd cc
       by (Some v) is = refl
   stage_is_read _ is = refl
@@ -279,9 +279,14 @@ told_is : (perspective center : Bool) (i : Interpolation) (s : Sampling) →
     IsAttributes (interpolation_told perspective center (interpolation_word i) (sampling_word s))
 told_is true true i s = tt
 told_is false true i s = (value_words.interpolations.each i (interpolation_word i) refl, tt)
-told_is perspective false i s =
-    ((value_words.interpolations.each i (interpolation_word i) refl, value_words.samplings.each s
-        (sampling_word s) refl), tt)
+told_is perspective false i s = (
+  (
+    value_words.interpolations.each i (interpolation_word i) refl,
+    value_words.samplings.each s
+        (sampling_word s) refl,
+  ),
+  tt,
+)
 
 plain_if : (p : PlainAttribute) (b : Bool) → IsAttributes (attribute_if (Plain p) b)
 plain_if p true = (tt, tt)
@@ -308,7 +313,7 @@ passing_is (Some (Location location i s source per_primitive)) fits =
       plain_number location parts.0,
       both_attributes (attribute_of (Numbered BlendSource) source) _ (source_is source parts.1)
           (both_attributes (interpolation_attributes i s) _
-              (told_is (is_perspective own_i) (is_center own_s) own_i own_s)
+          (told_is (is_perspective own_i) (is_center own_s) own_i own_s)
           (plain_if PerPrimitive per_primitive)),
     )
 
@@ -354,7 +359,7 @@ passing_io (Some (Location location i s source per_primitive)) =
     let own_i = unwrap_or i interpolation.Perspective in
     let own_s = unwrap_or s sampling.Center in
     location_io source (is_perspective own_i) (is_center own_s) (interpolation_word own_i)
-        (sampling_word own_s) per_primitive
+    (sampling_word own_s) per_primitive
 
 -- and of a member, with the size that it is given; a binding is neither a size nor an alignment
 bound_member : (list : List Attribute) → is_io_binding list ≡ true → (may_follow_size list ≡ true)
@@ -406,7 +411,7 @@ id_attributes_are (Some n) fits = let lt = ltb-true n (2 ^ 16) fits in (omega (a
 
 global_io : (b : Option ResourceBinding) (coherent volatile : Bool) →
     is_global_binding (resource_attributes b
-        ++ (attribute_if (Plain Coherent) coherent ++ attribute_if (Plain Volatile) volatile)) ≡ true
+    ++ (attribute_if (Plain Coherent) coherent ++ attribute_if (Plain Volatile) volatile)) ≡ true
 global_io None true true = refl
 global_io None true false = refl
 global_io None false true = refl
@@ -430,9 +435,9 @@ pub global_attributes_are : (g : GlobalVariable) → option_map_or resource_fits
     IsAttributes (global_attributes g)
 global_attributes_are g fits =
     both_attributes (resource_attributes g.binding) (decoration_attributes g.memory_decorations)
-        (resource_is g.binding fits)
+    (resource_is g.binding fits)
     (both_attributes (attribute_if (Plain Coherent) (is_coherent_memory g.memory_decorations)) _
-        (plain_if Coherent (is_coherent_memory g.memory_decorations))
+    (plain_if Coherent (is_coherent_memory g.memory_decorations))
     (plain_if Volatile (is_volatile_memory g.memory_decorations)))
 
 -- entry points
@@ -474,7 +479,7 @@ module _ (names : NameMap) (e : EntryPoint) (x y z : ℕ) (sizes : e.workgroup_s
 
   task_stage : (payload : Option ℕ) → is_some payload ≡ true →
       is_stage (Plain Task ∷ (attribute_of (λ v. Worded Payload (global_name names v)) payload
-          ++ size_attributes (x ∷ y ∷ z ∷ []))) ≡ true
+      ++ size_attributes (x ∷ y ∷ z ∷ []))) ≡ true
   task_stage None is = absurd cc
   task_stage (Some payload) is = refl
 
@@ -482,7 +487,7 @@ module _ (names : NameMap) (e : EntryPoint) (x y z : ℕ) (sizes : e.workgroup_s
   stage_is stage.Compute is = ap (λ l. is_stage (Plain Compute ∷ size_attributes l)) sizes
   stage_is stage.Mesh is =
       ap (λ l. is_stage (attribute_of (λ i. Worded Mesh (global_name names i.output_variable)) e.mesh_info
-          ++ (size_attributes l ++ payload_attributes names e))) sizes
+      ++ (size_attributes l ++ payload_attributes names e))) sizes
       ∙ mesh_stage e.mesh_info e.task_payload is
   stage_is stage.Task is =
       ap (λ l. is_stage (Plain Task ∷ (payload_attributes names e ++ size_attributes l))) sizes
@@ -537,7 +542,7 @@ module _ (names : NameMap) (e : EntryPoint) (x y z : ℕ) (sizes : e.workgroup_s
       stage_attributes_are stage.Compute = (tt, size_is e.workgroup_size (sym sizes))
       stage_attributes_are stage.Mesh =
           both_attributes (attribute_of (λ i. Worded Mesh (global_name names i.output_variable)) e.mesh_info) _
-              (mesh_is e.mesh_info output_below)
+          (mesh_is e.mesh_info output_below)
           (both_attributes (size_attributes e.workgroup_size) _ (size_is e.workgroup_size (sym sizes)) payload_is)
       stage_attributes_are stage.Task =
           (tt, both_attributes (payload_attributes names e) _ payload_is (size_is e.workgroup_size (sym sizes)))

@@ -48,7 +48,7 @@ named_stands (d ∷ cs) i c here = by (named_stands cs) (is_named d) refl here
 
     by : ((i : ℕ) (c : Constant) → slice_get (filter is_named cs) i ≡ Some c → IsNamedOf cs c) →
         (b : Bool) → is_named d ≡ b → slice_get (if b then d ∷ filter is_named cs else filter is_named cs) i
-            ≡ Some c → IsNamedOf (d ∷ cs) c
+        ≡ Some c → IsNamedOf (d ∷ cs) c
     by rest false named here = further (rest i c here)
     by rest true named here = at i here
       where
@@ -92,7 +92,7 @@ module _ (m : Module) (info : ModuleInfo) (accepted : IsTrue (is_accepted m info
       IsInitialiser i e
   initialiser_of i e at =
       let found = map_some (initialiser m info) (slice_get (named_constants m) i) e
-          (sym (slice_get-map (initialiser m info) (named_constants m) i) ∙ at) in
+      (sym (slice_get-map (initialiser m info) (named_constants m) i) ∙ at) in
       let all = named_stands m.constants i found.0 found.1 in
       record { constant = found.0; named = found.1; handle = all.0; there = all.1; is = found.2 }
 

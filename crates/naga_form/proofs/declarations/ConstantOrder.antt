@@ -65,7 +65,7 @@ mutual
 trees_leaves : (P : ℕ → Type 0) (tree_of : ℕ → Option ConstantTree) (bound : ℕ) →
     ((h : ℕ) → h < bound → (t : ConstantTree) → tree_of h ≡ Some t → EachLeaf AnyValue P t) →
     (hs : List ℕ) → all_below bound hs ≡ true → (ts : List ConstantTree) → trees_of tree_of hs ≡ Some ts →
-        EachLeafOf AnyValue P (trees ts)
+    EachLeafOf AnyValue P (trees ts)
 trees_leaves P tree_of bound are [] below ts is = subst (λ us. EachLeafOf AnyValue P (trees us)) (same_Some [] ts is) tt
 trees_leaves P tree_of bound are (h ∷ hs) below ts is =
     let low = and_parts (nat_lt h bound) (all_below bound hs) below in
@@ -120,13 +120,13 @@ module _ (m : Module) (info : ModuleInfo) where
           built inside h o ts ≡ Some t → EachLeaf AnyValue (Before bound) t
       built_before h bound o ts before t made =
           let parts = map_some (λ r. Constructed (run_word o) (inside.value_type r) (trees ts))
-              (global_types_known info h) t made in
+          (global_types_known info h) t made in
           subst (EachLeaf AnyValue (Before bound)) parts.2 before
 
       over_before : (tree_of : ℕ → Option ConstantTree) (h : ℕ) (e : Expression) →
           slice_get m.global_expressions h ≡ Some e →
           ((k : ℕ) → k < h → (t : ConstantTree) → tree_of k ≡ Some t → EachLeaf AnyValue (Before h) t) →
-              (t : ConstantTree) → tree_over inside tree_of h e ≡ Some t → EachLeaf AnyValue (Before h) t
+          (t : ConstantTree) → tree_over inside tree_of h e ≡ Some t → EachLeaf AnyValue (Before h) t
       over_before tree_of h (expression.Literal v) at below t found =
           subst (EachLeaf AnyValue (Before h)) (same_Some _ t found) tt
       over_before tree_of h (expression.Constant c) at below t found =
@@ -142,7 +142,7 @@ module _ (m : Module) (info : ModuleInfo) where
           let o = constructor inside.context (Handle ty) (length components.items) in
           let parts = then_some (built inside h o) (trees_of tree_of components.items) t found in
           built_before h h o parts.0 (trees_leaves (Before h) tree_of h below components.items
-              ((own_is m info accepted).below h (expression.Compose ty components) at) parts.0 parts.1) t parts.2
+          ((own_is m info accepted).below h (expression.Compose ty components) at) parts.0 parts.1) t parts.2
       over_before tree_of h (expression.Splat size v) at below t found =
           let parts = then_some (λ u. built inside h (Splat size) (u ∷ [])) (tree_of v) t found in
           let low = and_parts (nat_lt v h) true ((own_is m info accepted).below h (expression.Splat size v) at) in
@@ -161,11 +161,11 @@ module _ (m : Module) (info : ModuleInfo) where
       computed_before : (tree_of : ℕ → Option ConstantTree) (h : ℕ) (e : Expression) →
           slice_get m.global_expressions h ≡ Some e →
           ((k : ℕ) → k < h → (t : ConstantTree) → tree_of k ≡ Some t → EachLeaf AnyValue (Before h) t) →
-              (t : ConstantTree) → computed_over inside tree_of h e ≡ Some t → EachLeaf AnyValue (Before h) t
+          (t : ConstantTree) → computed_over inside tree_of h e ≡ Some t → EachLeaf AnyValue (Before h) t
       computed_before tree_of h e at below t found =
           of_computed inside tree_of (EachLeaf AnyValue (Before h)) (EachLeafOf AnyValue (Before h)) (made_before h) h e
           (over_before tree_of h e at below) (each_below (expression_operands e)
-              ((own_is m info accepted).below h e at))
+          ((own_is m info accepted).below h e at))
           (λ a applied silent ty ts all. all) t found
         where
           each_below : (hs : List ℕ) → all_below h hs ≡ true →
@@ -179,7 +179,7 @@ module _ (m : Module) (info : ModuleInfo) where
         Before (suc c.init) (constant_number m h)
     named_before h c at named lt =
         let rank : constant_rank (constant_number m h) ≡ c.init =
-            ap (λ o. option_map_or (λ c. c.init) o 0) (named_at m.constants h c at named) in
+        ap (λ o. option_map_or (λ c. c.init) o 0) (named_at m.constants h c at named) in
         omega (arith, rank)
 
     -- each of the module's own expressions names none after it
@@ -190,7 +190,7 @@ module _ (m : Module) (info : ModuleInfo) where
     constants_before global are h c at t found =
         subst (EachLeaf AnyValue (Before (suc c.init)))
         (same_Some (availability_tree m info accepted distinguished global h c) t
-            (sym (ap (option_map (availability_tree m info accepted distinguished global h)) at) ∙ found))
+        (sym (ap (option_map (availability_tree m info accepted distinguished global h)) at) ∙ found))
         (by (is_some c.name) refl)
       where
         or_zero : (o : Option ConstantTree) → global c.init ≡ o →
@@ -209,10 +209,10 @@ module _ (m : Module) (info : ModuleInfo) where
     globals_before (suc levels) h t found =
         let global = global_tree_within levels m info in
         let parts = then_some
-            (computed_over (declared_over m (constant_over m global) (global_types_known info)) global h)
-            (slice_get m.global_expressions h) t found in
+        (computed_over (declared_over m (constant_over m global) (global_types_known info)) global h)
+        (slice_get m.global_expressions h) t found in
         computed_before (constant_over m global) (constants_before global (globals_before levels)) global h
-            parts.0 parts.1
+        parts.0 parts.1
         (λ k lt u is. before_more k h (omega (arith, lt)) u (globals_before levels k u is)) t parts.2
 
     -- an initialiser names constants of smaller ranks alone
@@ -222,8 +222,8 @@ module _ (m : Module) (info : ModuleInfo) where
         let k = initialiser_of m info accepted distinguished i e at in
         let rank : constant_rank i ≡ k.constant.init = ap (λ o. option_map_or (λ c. c.init) o 0) k.named in
         subst (λ n. EachLeaf AnyValue (Before n) e) (sym rank)
-            (subst (EachLeaf AnyValue (Before k.constant.init)) k.is
-            (by k.constant (global_tree m info k.constant.init) refl))
+        (subst (EachLeaf AnyValue (Before k.constant.init)) k.is
+        (by k.constant (global_tree m info k.constant.init) refl))
       where
         by : (c : Constant) (o : Option ConstantTree) → global_tree m info c.init ≡ o →
             EachLeaf AnyValue (Before c.init) (unwrap_or o (zero_of_type m c.ty))

@@ -204,7 +204,7 @@ right_type : (xs ys : List ValueType) (n i : ℕ) (y : ValueType) → length xs 
     type_at (xs ++ ys) (n + i) ≡ y
 right_type xs ys n i y count here =
     ap (λ k. type_at (xs ++ ys) (k + i)) (sym count)
-        ∙ (get_or-append-add xs ys i BooleanType ∙ get_or_from_slice_get ys i y BooleanType here)
+    ∙ (get_or-append-add xs ys i BooleanType ∙ get_or_from_slice_get ys i y BooleanType here)
 
 module _ (m : Module) (info : ModuleInfo) where
   abbrev pub type_of_constant : Constant → ValueType

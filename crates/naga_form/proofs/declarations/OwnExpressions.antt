@@ -55,10 +55,10 @@ module _ (m : Module) (info : ModuleInfo) where
         let one = and_parts (sizes_fit m info) _ ranges in
         let two = and_parts (list_all type_is_fit m.types) _ one.1 in
         let three = and_parts (module_in_range m)
-            (all_known (resolution_fits (length m.overrides) (length m.types)) info) two.1 in
+        (all_known (resolution_fits (length m.overrides) (length m.types)) info) two.1 in
         (and_parts (declarations_in_range m)
-            (all_placed (function_in_range m) m.functions
-            && list_all (entry_point_in_range m) m.entry_points.items) three.0).0
+        (all_placed (function_in_range m) m.functions
+        && list_all (entry_point_in_range m) m.entry_points.items) three.0).0
 
     abbrev pub Own : Group
     Own = own_group m info accepted
@@ -75,7 +75,7 @@ module _ (m : Module) (info : ModuleInfo) where
         let d2 = and_parts (list_all (constant_in_range types own) m.constants) _ d1.1 in
         let d3 = and_parts (list_all (override_in_range types own) m.overrides) _ d2.1 in
         let d4 = and_parts (list_all (global_in_range types own) m.global_variables)
-            (all_placed (global_expression_in_range m) m.global_expressions) d3.1 in
+        (all_placed (global_expression_in_range m) m.global_expressions) d3.1 in
         (d2.0, d4.1)
 
     -- the constant that an expression names
@@ -85,7 +85,7 @@ module _ (m : Module) (info : ModuleInfo) where
     constant_named f g is h c at =
         let own = own_known m info f g is h (expression.Constant c) at in
         let there = expected_there m info (types.constant_type m c) own.0
-            (is.typed h (expression.Constant c) own.0 at own.1) in
+        (is.typed h (expression.Constant c) own.0 at own.1) in
         let item = map_some (λ c. Handle c.ty) (slice_get m.constants c) there.0 there.1 in
         (item.0, item.1)
 
@@ -106,7 +106,7 @@ module _ (m : Module) (info : ModuleInfo) where
     global_is_in_range h e at =
         let from : 0 + h ≡ h = omega arith in
         sym (ap (λ n. global_expression_in_range m n e) from)
-            ∙ placed_at (global_expression_in_range m) 0 m.global_expressions h e own_parts.1 at
+        ∙ placed_at (global_expression_in_range m) 0 m.global_expressions h e own_parts.1 at
 
     pub global_names_in_range : (h : ℕ) (e : Expression) → slice_get m.global_expressions h ≡ Some e →
         names_in_range m 0 0 e ≡ true

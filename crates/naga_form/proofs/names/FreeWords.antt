@@ -104,9 +104,11 @@ by_text w false is not_own = λ i. is i || not_own i
 
 spelling_is_distinguished : (w : List ℕ) → SpellsAType w → (begins_free w ≡ false) ×
     (free_request w ≡ false)
-spelling_is_distinguished w is =
-    (no_number w (type_begins w is), by_text w false (asks_as_distinguished (Convert w) w is refl)
-        (no_own_request w is))
+spelling_is_distinguished w is = (
+  no_number w (type_begins w is),
+  by_text w false (asks_as_distinguished (Convert w) w is refl)
+      (no_own_request w is),
+)
 
 unsupported_distinguished : (x : Unsupported) → free_request (unsupported_word x) ≡ unsupported_asks x
 unfolding free_request is_request

@@ -130,7 +130,7 @@ keeps_off_reserved : (start : NamerNames) → start.keywords ≡ wgsl_names.keyw
 unfolding wgsl_names reserved_words is_reserved
 keeps_off_reserved start same earlier label =
     let plain = plain_ends (map (λ word. word.now) RESERVED.now)
-        (words_are (map (λ word. word.now) RESERVED.now) refl) in
+    (words_are (map (λ word. word.now) RESERVED.now) refl) in
     sym (contains_words (λ word. word.now) RESERVED.now (name_after start earlier label))
     ∙ ap (λ words. set.contains words (name_after start earlier label)) (sym same)
     ∙ name_after_no_keyword start earlier label (subst HasPlainEnds (sym same) plain)
@@ -141,8 +141,8 @@ unfolding wgsl_names builtin_words is_builtin
 keeps_off_builtin earlier label =
     sym (contains_words (λ word. word.now) BUILTIN_IDENTIFIERS.now (name_after wgsl_names earlier label))
     ∙ name_after_no_builtin wgsl_names earlier label
-        (plain_ends (map (λ word. word.now) BUILTIN_IDENTIFIERS.now)
-        (words_are (map (λ word. word.now) BUILTIN_IDENTIFIERS.now) refl))
+    (plain_ends (map (λ word. word.now) BUILTIN_IDENTIFIERS.now)
+    (words_are (map (λ word. word.now) BUILTIN_IDENTIFIERS.now) refl))
 
 -- they are words of the grammar
 pub is_word_after : (start : NamerNames) → start.keywords ≡ wgsl_names.keywords →
@@ -244,13 +244,13 @@ module _ (m : Module) where
   item_not_numbered item h s e =
       let earlier = labels_of (take s.place (labelled_items wgsl_names m)) in
       unnumbered (name_after wgsl_names earlier item.1) h (name_after_is_word wgsl_names earlier item.1)
-          (name_after_not_numbered wgsl_names earlier item.1 h) (sym (name_is item s) ∙ e)
+      (name_after_not_numbered wgsl_names earlier item.1 h) (sym (name_is item s) ∙ e)
 
   pub items_tell : (a b : LabelledItem) → Stands (labelled_items wgsl_names m) a →
       Stands (labelled_items wgsl_names m) b → name_in (module_names m) a.0 ≡ name_in (module_names m) b.0 → a ≡ b
   items_tell a b s t e =
       let place = item_names_tell wgsl_names (labelled_items wgsl_names m) s.place t.place a b s.there t.there
-          s.outside t.outside (sym (name_is a s) ∙ e ∙ name_is b t) in
+      s.outside t.outside (sym (name_is a s) ∙ e ∙ name_is b t) in
       ap (λ o. unwrap_or o a) (sym s.there ∙ ap (slice_get (labelled_items wgsl_names m)) place ∙ t.there)
 
   -- the label of a function, or of an entry point

@@ -66,7 +66,7 @@ module _ (m : Module) (info : ModuleInfo) (accepted : IsTrue (is_accepted m info
     by_identity e =
         let one = own_type a in let two = own_type b in
         a.result ∙ (valued_alike m info are a.group.known b.group.known a.sound.fits b.sound.fits a.handle
-            b.handle one.0 one.1 two.0 two.1 e ∙ sym b.result)
+        b.handle one.0 one.1 two.0 two.1 e ∙ sym b.result)
 
     module _ (operands : x.operands ≡ y.operands) where
       pub same_values : map (value_at m info a.group.known) (expression_operands a.expression)

@@ -80,7 +80,7 @@ module _ (m : Module) (info : ModuleInfo) where
     ByName : (h : ℕ) (t : Type_) (k : StructMember) → slice_get m.types h ≡ Some t →
         slice_get (members_of t.inner) index ≡ Some k →
         s ≡ MemberNamed (name_in (module_names m) (key.StructMember h index)) →
-            struct_distinguished (type_identity m.types r) ≡ Some h → Named r index s
+        struct_distinguished (type_identity m.types r) ≡ Some h → Named r index s
 
   -- ---- what numbers tell of a struct
   abbrev identity_by : Option (List ℕ) → TypeResolution → List ℕ
@@ -133,7 +133,7 @@ module _ (m : Module) (info : ModuleInfo) where
         type_key m.types r ≡ form → (index : ℕ) (s : Selector) (it : TypeInner) →
         VectorsTell r form it → StructsTell r form whole it →
         own_selector (declared_for m info g) whole it index ≡ Some s →
-            option_map_or (λ count. nat_lt index count) (value_part_count it) true ≡ true → Named r index s
+        option_map_or (λ count. nat_lt index count) (value_part_count it) true ≡ true → Named r index s
     named r whole form is_form index s (inner.Vector n scalar) vectors structs selected within =
         by (slice_get component_letters index) refl selected
       where
@@ -153,8 +153,8 @@ module _ (m : Module) (info : ModuleInfo) where
         ByName structs.h structs.t member.0 structs.there
         (ap (λ it. slice_get (members_of it) index) structs.itself ∙ member.1)
         (sym (same_Some _ s selected)
-            ∙ ap (λ o. MemberNamed (option_map_or (λ h. name_in (module_names m) (key.StructMember h index))
-            o [])) structs.whole_is)
+        ∙ ap (λ o. MemberNamed (option_map_or (λ h. name_in (module_names m) (key.StructMember h index))
+        o [])) structs.whole_is)
         (ap (λ f. struct_distinguished (identity_by f r)) is_form ∙ structs.distinguished)
     named r whole form is_form index s _ vectors structs selected within = absurd cc
 
@@ -175,15 +175,15 @@ module _ (m : Module) (info : ModuleInfo) where
         type_key m.types r ≡ pointer_key at (found_key_by f base (slice_get m.types base)) →
         (index : ℕ) (s : Selector) →
         selector (declared_for m info g) (handle_of r) (inner.Pointer base at) index ≡ Some s →
-            is_part_number m.types (inner.Pointer base at) index ≡ true → Named r index s
+        is_part_number m.types (inner.Pointer base at) index ≡ true → Named r index s
     pointed r base at f form index s selected within = by (slice_get m.types base) refl form selected within
       where
         by : (o : Option Type_) → slice_get m.types base ≡ o → type_key m.types r
             ≡ pointer_key at (found_key_by f base o) →
             option_and_then (λ it. own_selector (declared_for m info g) (Some base) it index)
-                (option_map (λ t. t.inner) o) ≡ Some s →
+            (option_map (λ t. t.inner) o) ≡ Some s →
             option_map_or (λ count. nat_lt index count)
-                (option_and_then value_part_count (option_map (λ t. t.inner) o)) true ≡ true → Named r index s
+            (option_and_then value_part_count (option_map (λ t. t.inner) o)) true ≡ true → Named r index s
         by None there form selected within = absurd cc
         by (Some t) there form selected within =
             named r (Some base) (pointer_key at (named_key_by f base t.inner)) form index s t.inner
@@ -216,10 +216,10 @@ module _ (m : Module) (info : ModuleInfo) where
           type_key m.types (Handle h) ≡ named_key_by (key_within h m.types) h it →
           (index : ℕ) (s : Selector) →
           selector (declared_for m info g) (Some h) it index ≡ Some s → is_part_number m.types it index ≡ true →
-              Named (Handle h) index s
+          Named (Handle h) index s
       of_handle zero t there (inner.Pointer base at) is form index s selected within =
           let lt : base < zero = ltb-true base zero (sym (ap (parts_before zero) is) ∙ before zero t there) in
-              absurd (omega (arith, lt))
+          absurd (omega (arith, lt))
       of_handle (suc h) t there (inner.Pointer base at) is form index s selected within =
           pointed (Handle (suc h)) base at (key_within h m.types) form index s selected within
       of_handle h t there (inner.ValuePointer (Some size) scalar at) is form index s selected within =
@@ -227,7 +227,7 @@ module _ (m : Module) (info : ModuleInfo) where
       of_handle h t there (inner.ValuePointer None scalar at) is form index s selected within = absurd cc
       of_handle h t there (inner.Vector n scalar) is form index s selected within =
           named (Handle h) (Some h) (over_scalar 1 scalar (vector_number n) 0 0) form index s
-              (inner.Vector n scalar) (vector_distinguished n scalar (Handle h)) tt selected within
+          (inner.Vector n scalar) (vector_distinguished n scalar (Handle h)) tt selected within
       of_handle h t there (inner.Struct members span) is form index s selected within =
           named (Handle h) (Some h) (Some (level 8 h 0 0 0 0)) form index s (inner.Struct members span) tt
           (record { h = h; t = t; whole_is = refl; there = there; itself = is; distinguished = refl }) selected within
@@ -241,7 +241,7 @@ module _ (m : Module) (info : ModuleInfo) where
 
       pub part_named : (r : TypeResolution) → resolution_is_fit r ≡ true → (index : ℕ) (s : Selector) →
           option_and_then (λ it. selector (declared_for m info g) (handle_of r) it index) (inner_of r m.types)
-              ≡ Some s →
+          ≡ Some s →
           option_map_or (λ it. is_part_number m.types it index) (inner_of r m.types) false ≡ true → Named r index s
       unfolding handle_key
       part_named (Value it) fit index s selected within = of_value it fit index s selected within
@@ -250,9 +250,9 @@ module _ (m : Module) (info : ModuleInfo) where
           by : (o : Option Type_) → slice_get m.types h ≡ o → type_key m.types (Handle h)
               ≡ found_key_by (key_within h m.types) h (slice_get m.types h) →
               option_and_then (λ it. selector (declared_for m info g) (Some h) it index)
-                  (option_map (λ t. t.inner) o) ≡ Some s →
+              (option_map (λ t. t.inner) o) ≡ Some s →
               option_map_or (λ it. is_part_number m.types it index) (option_map (λ t. t.inner) o) false ≡ true →
-                  Named (Handle h) index s
+              Named (Handle h) index s
           by None there form selected within = absurd cc
           by (Some t) there form selected within =
               of_handle h t there t.inner refl (form ∙ ap (found_key_by (key_within h m.types) h) there) index s
@@ -326,7 +326,7 @@ module _ (m : Module) (info : ModuleInfo) where
       by (Some t) at is =
           ap (λ o. struct_distinguished (identity_by (found_key_by (key_within h m.types) h o) (Handle h))) at
           ∙ (ap (λ it. struct_distinguished (identity_by (named_key_by (key_within h m.types) h it) (Handle h)))
-              (same_Some _ _ is)
+          (same_Some _ _ is)
           ∙ vector_distinguished n scalar (Handle h))
 
 -- the byte of a letter, and which it is
@@ -364,10 +364,10 @@ swizzle_distinguished vector.Bi (a ∷ b ∷ c ∷ d ∷ rest) four =
     (λ i. key_read (letter_is a i ++ (letter_is b i ++ []))) ∙ (λ i. word_key 5 2 (which_is a i) (which_is b i) 0 0)
 swizzle_distinguished vector.Tri (a ∷ b ∷ c ∷ d ∷ rest) four =
     (λ i. key_read (letter_is a i ++ (letter_is b i ++ (letter_is c i ++ []))))
-        ∙ (λ i. word_key 5 3 (which_is a i) (which_is b i) (which_is c i) 0)
+    ∙ (λ i. word_key 5 3 (which_is a i) (which_is b i) (which_is c i) 0)
 swizzle_distinguished vector.Quad (a ∷ b ∷ c ∷ d ∷ rest) four =
     (λ i. key_read (letter_is a i ++ (letter_is b i ++ (letter_is c i ++ (letter_is d i ++ [])))))
-        ∙ (λ i. word_key 5 4 (which_is a i) (which_is b i) (which_is c i) (which_is d i))
+    ∙ (λ i. word_key 5 4 (which_is a i) (which_is b i) (which_is c i) (which_is d i))
 
 -- they are two or more
 pub letters_are_several : (size : VectorSize) (pattern : List SwizzleComponent) → length pattern ≡ 4 →
@@ -378,11 +378,11 @@ letters_are_several size (a ∷ b ∷ []) four = absurd (omega (arith, four))
 letters_are_several size (a ∷ b ∷ c ∷ []) four = absurd (omega (arith, four))
 letters_are_several vector.Bi (a ∷ b ∷ c ∷ d ∷ rest) four =
     let long : length (swizzle_letters vector.Bi (a ∷ b ∷ c ∷ d ∷ rest)) ≡ 2 =
-        λ i. length (letter_is a i ++ (letter_is b i ++ [])) in omega (arith, long)
+    λ i. length (letter_is a i ++ (letter_is b i ++ [])) in omega (arith, long)
 letters_are_several vector.Tri (a ∷ b ∷ c ∷ d ∷ rest) four =
     let long : length (swizzle_letters vector.Tri (a ∷ b ∷ c ∷ d ∷ rest)) ≡ 3 =
-        λ i. length (letter_is a i ++ (letter_is b i ++ (letter_is c i ++ []))) in omega (arith, long)
+    λ i. length (letter_is a i ++ (letter_is b i ++ (letter_is c i ++ []))) in omega (arith, long)
 letters_are_several vector.Quad (a ∷ b ∷ c ∷ d ∷ rest) four =
     let long : length (swizzle_letters vector.Quad (a ∷ b ∷ c ∷ d ∷ rest)) ≡ 4 =
-        λ i. length (letter_is a i ++ (letter_is b i ++ (letter_is c i ++ (letter_is d i ++ [])))) in
-        omega (arith, long)
+    λ i. length (letter_is a i ++ (letter_is b i ++ (letter_is c i ++ (letter_is d i ++ [])))) in
+    omega (arith, long)

@@ -75,11 +75,11 @@ module _ (m : Module) (info : ModuleInfo) (accepted : IsTrue (is_accepted m info
     part_is base index s is selected b =
         part_named m info a.group types_stand b.r (fit b.r (a.sound.fits base b.r b.there)) index s
         (sym (ap (λ o. option_and_then (λ r. option_and_then
-            (λ it. selector (declared_for m info a.group) (handle_of r) it index) (inner_of r m.types)) o)
-            b.there) ∙ selected)
+        (λ it. selector (declared_for m info a.group) (handle_of r) it index) (inner_of r m.types)) o)
+        b.there) ∙ selected)
         (sym (ap (λ o. option_map_or (λ it. is_part_number m.types it index)
-            (option_and_then (λ r. inner_of r m.types) o) false) b.there)
-            ∙ demanded (expression.AccessIndex base index) is)
+        (option_and_then (λ r. inner_of r m.types) o) false) b.there)
+        ∙ demanded (expression.AccessIndex base index) is)
 
     -- what is swizzled is a vector
     swizzled_is_none : (size : VectorSize) (vector : ℕ) (pattern : List SwizzleComponent) →
@@ -127,8 +127,8 @@ module _ (m : Module) (info : ModuleInfo) (accepted : IsTrue (is_accepted m info
     bases_alike i j p q =
         let all : identity_at m.types a.group.known i ∷ [] ≡ identity_at m.types b.group.known j ∷ [] =
         ap (map (identity_at m.types a.group.known)) (sym p.operands)
-            ∙ (same_operands m info accepted distinguished.types a b operands
-            ∙ ap (map (identity_at m.types b.group.known)) q.operands) in
+        ∙ (same_operands m info accepted distinguished.types a b operands
+        ∙ ap (map (identity_at m.types b.group.known)) q.operands) in
         sym (ap (λ o. option_map_or (type_identity m.types) o []) p.there)
         ∙ (ap (λ xs. get_or xs 0 []) all ∙ ap (λ o. option_map_or (type_identity m.types) o []) q.there)
 
@@ -144,9 +144,9 @@ module _ (m : Module) (info : ModuleInfo) (accepted : IsTrue (is_accepted m info
     both_parts i j k l s one two first second =
         let p = base_of a i (ap expression_operands one) in let q = base_of b j (ap expression_operands two) in
         let same = one_number m info distinguished p.r q.r k l s (bases_alike i j p q)
-            (part_is a i k s one first p) (part_is b j l s two second q) in
+        (part_is a i k s one first p) (part_is b j l s two second q) in
         by_key m info accepted distinguished.types a b operands (one_key 4 k) (one_key 4 l)
-            (key_of a _ _ one refl) (key_of b _ _ two refl) (ap (one_key 4) same)
+        (key_of a _ _ one refl) (key_of b _ _ two refl) (ap (one_key 4) same)
 
     -- a part is not a swizzle
     part_swizzle : (i j k : ℕ) (s : Selector) (size : VectorSize)
@@ -157,7 +157,7 @@ module _ (m : Module) (info : ModuleInfo) (accepted : IsTrue (is_accepted m info
     part_swizzle i j k s size pattern one two selected is =
         let p = base_of a i (ap expression_operands one) in let q = base_of b j (ap expression_operands two) in
         no_part m info p.r q.r k s (swizzle_letters size pattern) (bases_alike i j p q)
-            (swizzled_is_none b size j pattern two q) is
+        (swizzled_is_none b size j pattern two q) is
         (letters_are_several size pattern (four b size j pattern two)) (part_is a i k s one selected p)
 
     both_swizzles : (i j : ℕ) (n k : VectorSize) (v w : List SwizzleComponent) →
@@ -165,9 +165,9 @@ module _ (m : Module) (info : ModuleInfo) (accepted : IsTrue (is_accepted m info
         swizzle_letters n v ≡ swizzle_letters k w → x.result ≡ y.result
     both_swizzles i j n k v w one two e =
         by_key m info accepted distinguished.types a b operands (swizzle_key n v) (swizzle_key k w)
-            (key_of a _ _ one refl) (key_of b _ _ two refl)
+        (key_of a _ _ one refl) (key_of b _ _ two refl)
         (sym (swizzle_distinguished n v (four a n i v one))
-            ∙ (ap key_read e ∙ swizzle_distinguished k w (four b k j w two)))
+        ∙ (ap key_read e ∙ swizzle_distinguished k w (four b k j w two)))
 
     both_indexed : (i j k l : ℕ) → a.expression ≡ expression.Access i k → b.expression ≡ expression.Access j l →
         x.result ≡ y.result
@@ -178,32 +178,32 @@ module _ (m : Module) (info : ModuleInfo) (accepted : IsTrue (is_accepted m info
   calls_agree : {x y : Signature} (a : IsOfExpression m info x) (b : IsOfExpression m info y) →
       x.operands ≡ y.operands → x.word ≡ y.word →
       Call m info accepted distinguished.types a.group a.expression x.word →
-          Call m info accepted distinguished.types b.group b.expression y.word → x.result ≡ y.result
+      Call m info accepted distinguished.types b.group b.expression y.word → x.result ≡ y.result
   calls_agree a b operands e (Composed ty n k wanted ao ak formed v) (Composed uy l h other bo bk bf w) =
       both_values m info accepted distinguished.types a b (Handle ty) (Handle uy) n l tt tt (wanted a.function)
-          (other b.function) (spelled_word _ _ (sym v ∙ (e ∙ w)))
+      (other b.function) (spelled_word _ _ (sym v ∙ (e ∙ w)))
   calls_agree a b operands e (Composed ty n k wanted ao ak formed v) (Zeroed uy other none w) =
       both_values m info accepted distinguished.types a b (Handle ty) (Handle uy) n 0 tt tt (wanted a.function)
-          (other b.function) (spelled_word _ _ (sym v ∙ (e ∙ w)))
+      (other b.function) (spelled_word _ _ (sym v ∙ (e ∙ w)))
   calls_agree a b operands e (Composed ty n k wanted ao ak formed v) (Applied p l bo bk bf h hs some w) =
       composed_applied m info accepted distinguished.types a b operands ty n k ao ak formed p l bo bk bf
-          (spelled_word _ _ (sym v ∙ (e ∙ w)))
+      (spelled_word _ _ (sym v ∙ (e ∙ w)))
   calls_agree a b operands e (Zeroed ty wanted none v) (Composed uy l h other bo bk bf w) =
       both_values m info accepted distinguished.types a b (Handle ty) (Handle uy) 0 l tt tt (wanted a.function)
-          (other b.function) (spelled_word _ _ (sym v ∙ (e ∙ w)))
+      (other b.function) (spelled_word _ _ (sym v ∙ (e ∙ w)))
   calls_agree a b operands e (Zeroed ty wanted none v) (Zeroed uy other nothing w) =
       both_values m info accepted distinguished.types a b (Handle ty) (Handle uy) 0 0 tt tt (wanted a.function)
-          (other b.function) (spelled_word _ _ (sym v ∙ (e ∙ w)))
+      (other b.function) (spelled_word _ _ (sym v ∙ (e ∙ w)))
   calls_agree a b operands e (Zeroed ty wanted none v) (Applied p l bo bk bf h hs some w) =
       absurd (zeroed_applied m info accepted distinguished.types a b operands none h hs some)
   calls_agree a b operands e (Applied o k ao ak af h hs some v) (Composed uy l i other bo bk bf w) =
       sym (composed_applied m info accepted distinguished.types b a (sym operands) uy l i bo bk bf o k ao ak af
-          (spelled_word _ _ (sym w ∙ (sym e ∙ v))))
+      (spelled_word _ _ (sym w ∙ (sym e ∙ v))))
   calls_agree a b operands e (Applied o k ao ak af h hs some v) (Zeroed uy other none w) =
       absurd (zeroed_applied m info accepted distinguished.types b a (sym operands) none h hs some)
   calls_agree a b operands e (Applied o k ao ak af h hs some v) (Applied p l bo bk bf i is more w) =
       both_applied m info accepted distinguished.types a b operands o p k l ao ak af bo bk bf
-          (spelled_word _ _ (sym v ∙ (e ∙ w)))
+      (spelled_word _ _ (sym v ∙ (e ∙ w)))
   calls_agree a b operands e (Indexed i k one v) (Indexed j l two w) = both_indexed a b operands i j k l one two
   calls_agree a b operands e (Selected i k s one first v) (Selected j l t two second w) =
       both_parts a b operands i j k l s one two first (second ∙ ap Some (part_word _ _ (sym w ∙ (sym e ∙ v))))

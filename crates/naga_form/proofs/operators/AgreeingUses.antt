@@ -76,9 +76,9 @@ module _ (m : Module) (info : ModuleInfo) where
   stands u =
       in_flat_map (uses_of m.types) (groups_of m info) u.number u.group (operation_of_use u) u.group_there
       (in_flat_map (λ p. option_to_list (expression_use m.types u.group.known p.0 p.1))
-          (enumerate_from 0 u.group.expressions) u.handle (u.handle, u.expression) (operation_of_use u)
+      (enumerate_from 0 u.group.expressions) u.handle (u.handle, u.expression) (operation_of_use u)
       (in_enumerated 0 u.group.expressions u.handle u.expression u.expression_there
-          ∙ (let at : 0 + u.handle ≡ u.handle = omega arith in ap (λ k. Some (k, u.expression)) at)) (
+      ∙ (let at : 0 + u.handle ≡ u.handle = omega arith in ap (λ k. Some (k, u.expression)) at)) (
         0,
         ap (λ o. slice_get (option_to_list (option_map (λ operator. record {
           operator = operator;
@@ -90,12 +90,12 @@ module _ (m : Module) (info : ModuleInfo) where
   -- uses of one key over operands that are told alike have answers that are told alike
   pub uses_agree : module_operators_agree m info ≡ true → (a b : IsUse m info) → a.key ≡ b.key →
       map (identity_at m.types a.group.known) (expression_operands a.expression)
-          ≡ map (identity_at m.types b.group.known) (expression_operands b.expression) →
+      ≡ map (identity_at m.types b.group.known) (expression_operands b.expression) →
       identity_at m.types a.group.known a.handle ≡ identity_at m.types b.group.known b.handle
   uses_agree agree a b keys operands =
       let one = stands a in let two = stands b in
       all_agree_at (module_uses m info) agree one.0 two.0 (operation_of_use a) (operation_of_use b) one.1 two.1
-          keys operands
+      keys operands
 
   -- ---- the same over values
   -- the type of the values of a handle
@@ -130,7 +130,7 @@ module _ (m : Module) (info : ModuleInfo) where
     distinguished_alike ks ls p q h k r at s bt e =
         identity_is ks h r at
         ∙ (numbers_by_values m are r s (p h r at) (q k s bt)
-            (sym (value_is ks h r at) ∙ (e ∙ value_is ls k s bt)) ∙ sym (identity_is ls k s bt))
+        (sym (value_is ks h r at) ∙ (e ∙ value_is ls k s bt)) ∙ sym (identity_is ls k s bt))
 
     pub valued_alike : (ks ls : List TypeResolution) → AllFit ks → AllFit ls → (h k : ℕ) →
         (r : TypeResolution) → slice_get ks h ≡ Some r → (s : TypeResolution) →
@@ -139,7 +139,7 @@ module _ (m : Module) (info : ModuleInfo) where
     valued_alike ks ls p q h k r at s bt e =
         value_is ks h r at
         ∙ (values_by_numbers m are r s (p h r at) (q k s bt)
-            (sym (identity_is ks h r at) ∙ (e ∙ identity_is ls k s bt)) ∙ sym (value_is ls k s bt))
+        (sym (identity_is ks h r at) ∙ (e ∙ identity_is ls k s bt)) ∙ sym (value_is ls k s bt))
 
     pub all_distinguished_alike : (ks ls : List TypeResolution) → AllFit ks → AllFit ls →
         (hs is : List ℕ) → AreKnown ks hs → AreKnown ls is →
@@ -152,7 +152,7 @@ module _ (m : Module) (info : ModuleInfo) where
         let first : value_at ks h ≡ value_at ls k = ap (λ xs. get_or xs 0 BooleanType) e in
         let rest : map (value_at ks) hs ≡ map (value_at ls) is = ap (drop 1) e in
         (λ i. distinguished_alike ks ls p q h k known.0.0 known.0.1 other.0.0 other.0.1 first i
-            ∷ all_distinguished_alike ks ls p q hs is known.1 other.1 rest i)
+        ∷ all_distinguished_alike ks ls p q hs is known.1 other.1 rest i)
 
     -- a use that applies an operator over known operands
     pub record IsApplied (u : IsUse m info) : Type 0 where
@@ -169,12 +169,12 @@ module _ (m : Module) (info : ModuleInfo) where
     pub results_agree : module_operators_agree m info ≡ true →
         (a b : IsUse m info) (x : IsApplied a) (y : IsApplied b) → run_word x.operator ≡ run_word y.operator →
         map (value_at a.group.known) (expression_operands a.expression) ≡ map (value_at b.group.known)
-            (expression_operands b.expression) →
+        (expression_operands b.expression) →
         value_at a.group.known a.handle ≡ value_at b.group.known b.handle
     results_agree agree a b x y words operands =
         let count : length (expression_operands a.expression) ≡ length (expression_operands b.expression) =
         sym (length-map (expression_operands a.expression) (value_at a.group.known))
-            ∙ (ap length operands ∙ length-map (expression_operands b.expression) (value_at b.group.known)) in
+        ∙ (ap length operands ∙ length-map (expression_operands b.expression) (value_at b.group.known)) in
         let one = keyed m are a.group.known a.expression a.key x.operator a.key_is x.applied x.formed in
         let two = keyed m are b.group.known b.expression b.key y.operator b.key_is y.applied y.formed in
         let keys = one_key_of_word m are x.operator y.operator (length (expression_operands b.expression)) a.key b.key

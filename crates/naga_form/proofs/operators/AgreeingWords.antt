@@ -66,7 +66,7 @@ module _ (m : Module) (info : ModuleInfo) (accepted : IsTrue (is_accepted m info
   pub data Call (g : Group) (e : Expression) (w : Word) : Type 0 where
     Composed : (ty n : ℕ) (k : List ℕ) → ((f : Option Function) → expected_type m f g.known e ≡ LikeThis (Handle ty)) →
         applied_operator (group_context m info g) e
-            ≡ Some (constructor (group_context m info g) (Handle ty) n) → operator_key m.types g.known e ≡ Some k →
+        ≡ Some (constructor (group_context m info g) (Handle ty) n) → operator_key m.types g.known e ≡ Some k →
         (is_some (called_spelling m (Handle ty)) ≡ true → IsFormed m (are m info accepted distinguished) e) →
         w ≡ Spelled (run_word (constructor (group_context m info g) (Handle ty) n)) → Call g e w
     Zeroed : (ty : ℕ) → ((f : Option Function) → expected_type m f g.known e ≡ LikeThis (Handle ty)) →
@@ -75,7 +75,7 @@ module _ (m : Module) (info : ModuleInfo) (accepted : IsTrue (is_accepted m info
     Applied : (o : Operator) (k : List ℕ) → applied_operator (group_context m info g) e ≡ Some o →
         operator_key m.types g.known e ≡ Some k →
         IsFormed m (are m info accepted distinguished) e → (h : ℕ) (hs : List ℕ) → expression_operands e
-            ≡ h ∷ hs → w ≡ Spelled (run_word o) → Call g e w
+        ≡ h ∷ hs → w ≡ Spelled (run_word o) → Call g e w
     Indexed : (base index : ℕ) → e ≡ expression.Access base index → w ≡ IndexWord → Call g e w
     Selected : (base index : ℕ) (s : Selector) → e ≡ expression.AccessIndex base index →
         part_selector (declared_for m info g) base index ≡ Some s → w ≡ PartWord s → Call g e w
@@ -122,7 +122,7 @@ module _ (m : Module) (info : ModuleInfo) (accepted : IsTrue (is_accepted m info
   applied g (expression.ImageQuery image q) o a silent = absurd (asking o (query_operator q) a (queries_ask q) silent)
   applied g (expression.CooperativeLoad columns rows role place) o a silent =
       absurd (asking o (matrix_load (group_context m info g) columns rows role place) a
-          (loads_ask columns rows role place.row_major _) silent)
+      (loads_ask columns rows role place.row_major _) silent)
   -- any other has a key and operands, or applies none that does not ask
   applied g e o a silent =
       Applied o (unwrap_or (operator_key m.types g.known e) []) a (cc) tt
@@ -138,7 +138,7 @@ module _ (m : Module) (info : ModuleInfo) (accepted : IsTrue (is_accepted m info
       Call g e (Spelled (run_word (constructor (group_context m info g) (Handle k.ty) 0)))
   constant_zeroed g e c k is there =
       Zeroed k.ty (λ f. ap (expected_type m f g.known) is
-          ∙ ap (λ o. only (option_map (λ c. Handle c.ty) o)) there) (ap expression_operands is) refl
+      ∙ ap (λ o. only (option_map (λ c. Handle c.ty) o)) there) (ap expression_operands is) refl
 
   pub call : (g : Group) (e : Expression) (w : Word) → IsCalled m info g e w → Call g e w
   call g e _ (by_operator o a silent) = applied g e o a silent
@@ -333,7 +333,7 @@ module _ (m : Module) (info : ModuleInfo) (accepted : IsTrue (is_accepted m info
           a.result
           ∙ (results_agree m info (are m info accepted distinguished) (agree m info accepted)
           (use_of m info accepted distinguished a k ak) (use_of m info accepted distinguished b l bk)
-              (applies a k ak o ao af) (applies b l bk p bo bf) e
+          (applies a k ak o ao af) (applies b l bk p bo bf) e
           (same_values m info accepted distinguished a b operands) ∙ sym b.result)
 
       -- a composition and an operator
@@ -342,7 +342,7 @@ module _ (m : Module) (info : ModuleInfo) (accepted : IsTrue (is_accepted m info
           Some (constructor (group_context m info a.group) (Handle ty) n) →
           operator_key m.types a.group.known a.expression ≡ Some k →
           (is_some (called_spelling m (Handle ty)) ≡ true →
-              IsFormed m (are m info accepted distinguished) a.expression) →
+          IsFormed m (are m info accepted distinguished) a.expression) →
           (p : Operator) (l : List ℕ) →
           applied_operator (group_context m info b.group) b.expression ≡ Some p →
           operator_key m.types b.group.known b.expression ≡ Some l →
@@ -364,5 +364,5 @@ module _ (m : Module) (info : ModuleInfo) (accepted : IsTrue (is_accepted m info
           let values = same_values m info accepted distinguished a b operands in
           let empty : [] ≡ value_at m info b.group.known h ∷ map (value_at m info b.group.known) hs =
           ap (map (value_at m info a.group.known)) (sym none)
-              ∙ (values ∙ ap (map (value_at m info b.group.known)) some) in
+          ∙ (values ∙ ap (map (value_at m info b.group.known)) some) in
           absurd cc

@@ -398,7 +398,7 @@ module _ (a : ExpressionContext) (t : TypeNames) (constant part : ℕ → Expres
       (parts_are components.items is.1)
   over_is (expression.Splat size value) is =
       called_words.expression (Named (run_word (Splat size))) (part value ∷ [])
-          (word_is_called (Splat size) refl refl refl)
+      (word_is_called (Splat size) refl refl refl)
       (is, tt)
   over_is _ is = tt
 

@@ -129,7 +129,7 @@ module _ (m : Module) (info : ModuleInfo) where
       by (Some t) at None more is = absurd cc
       by (Some t) at (Some us) more is =
           subst (λ vs. AreTreesOf (value h ∷ map value hs) (trees vs)) (same_Some (t ∷ us) ts is)
-              (tree_and (value h) (map value hs) t (trees us) (are h t at) (more us refl))
+          (tree_and (value h) (map value hs) t (trees us) (are h t at) (more us refl))
 
   -- what is wanted of a type that there may be
   pub expected_there : (o : Option TypeResolution) (r : TypeResolution) → is_expected m.types (only o) r
@@ -208,8 +208,11 @@ module _ (m : Module) (info : ModuleInfo) where
           spelled x one =
               subst (IsOfExpression m info)
               (sym (only_signature x
-                  (record { word = Spelled (run_word (constructor (group_context m info g) (Handle k.ty) 0));
-                  operands = []; result = type_of_values m (Handle k.ty) }) one))
+              (record {
+                word = Spelled (run_word (constructor (group_context m info g) (Handle k.ty) 0));
+                operands = [];
+                result = type_of_values m (Handle k.ty);
+              }) one))
               (record {
                 function = f;
                 group = g;
@@ -227,10 +230,10 @@ module _ (m : Module) (info : ModuleInfo) where
       constant_is h c at t found =
           let own = own_known m info f g is h (expression.Constant c) at in
           let there = expected_there (types.constant_type m c) own.0
-              (is.typed h (expression.Constant c) own.0 at own.1) in
+          (is.typed h (expression.Constant c) own.0 at own.1) in
           let item = map_some (λ c. Handle c.ty) (slice_get m.constants c) there.0 there.1 in
           let same : are_alike m.types own.0 (Handle item.0.ty) ≡ true = ap (are_alike m.types own.0) item.2
-              ∙ there.2 in
+          ∙ there.2 in
           let like = like_expected h (expression.Constant c) at own.0 own.1 (Handle item.0.ty) tt same in
           by item.0 item.1 like (constants c item.0 item.1 t found)
         where
@@ -244,10 +247,10 @@ module _ (m : Module) (info : ModuleInfo) where
       override_is h o at =
           let own = own_known m info f g is h (expression.Override o) at in
           let there = expected_there (types.override_type m o) own.0
-              (is.typed h (expression.Override o) own.0 at own.1) in
+          (is.typed h (expression.Override o) own.0 at own.1) in
           let item = map_some (λ o. Handle o.ty) (slice_get m.overrides o) there.0 there.1 in
           let same : are_alike m.types own.0 (Handle item.0.ty) ≡ true = ap (are_alike m.types own.0) item.2
-              ∙ there.2 in
+          ∙ there.2 in
           record {
             type = override_typed m info o item.0 item.1
                 ∙ like_expected h (expression.Override o) at own.0 own.1 (Handle item.0.ty) tt same;
@@ -259,10 +262,10 @@ module _ (m : Module) (info : ModuleInfo) where
       built_is : (h : ℕ) (e : Expression) → slice_get g.expressions h ≡ Some e → (o : Operator) →
           IsCalled m info g e (Spelled (run_word o)) → (ts : List ConstantTree) →
           AreTreesOf (map value (expression_operands e)) (trees ts) → (t : ConstantTree) → built inside h o ts
-              ≡ Some t → IsTreeOf (value h) t
+          ≡ Some t → IsTreeOf (value h) t
       built_is h e at o called ts are t made =
           let parts = map_some (λ r. Constructed (run_word o) (type_of_values m r) (trees ts))
-              (slice_get g.known h) t made in
+          (slice_get g.known h) t made in
           subst (IsTreeOf (value h)) parts.2 (record {
             type = sym (value_is m info g.known h parts.0 parts.1);
             spelled = spelled parts.0 parts.1;
@@ -275,8 +278,11 @@ module _ (m : Module) (info : ModuleInfo) where
               IsOneOf x (constant_signatures shape
               (Constructed (run_word o) (type_of_values m r) (trees ts))) → IsOfExpression m info x
           spelled r there x one =
-              first_or (record { word = Spelled (run_word o); operands = constant_types_of shape (trees ts);
-                  result = type_of_values m r }) (record {
+              first_or (record {
+                word = Spelled (run_word o);
+                operands = constant_types_of shape (trees ts);
+                result = type_of_values m r;
+              }) (record {
                 function = f;
                 group = g;
                 sound = is;
@@ -292,7 +298,7 @@ module _ (m : Module) (info : ModuleInfo) where
       tree_over_is : (tree_of : ℕ → Option ConstantTree) →
           ((h : ℕ) (t : ConstantTree) → tree_of h ≡ Some t → IsTreeOf (value h) t) →
           (h : ℕ) (e : Expression) → slice_get g.expressions h ≡ Some e → (t : ConstantTree) →
-              tree_over inside tree_of h e ≡ Some t → IsTreeOf (value h) t
+          tree_over inside tree_of h e ≡ Some t → IsTreeOf (value h) t
       tree_over_is tree_of are h (expression.Literal v) at t found =
           subst (IsTreeOf (value h)) (same_Some (Fixed (literal_value v)) t found) (literal_is h v at)
       tree_over_is tree_of are h (expression.Constant c) at t found = constant_is h c at t found
@@ -300,13 +306,13 @@ module _ (m : Module) (info : ModuleInfo) where
           subst (IsTreeOf (value h)) (same_Some (NamedConstant (override_number m o)) t found) (override_is h o at)
       tree_over_is tree_of are h (expression.ZeroValue ty) at t found =
           built_is h (expression.ZeroValue ty) at (constructor (group_context m info g) (Handle ty) 0)
-              (by_zero ty refl) [] no_trees t found
+          (by_zero ty refl) [] no_trees t found
       tree_over_is tree_of are h (expression.Compose ty components) at t found =
           let o = constructor (group_context m info g) (Handle ty) (length components.items) in
           let parts = then_some (built inside h o) (trees_of tree_of components.items) t found in
           built_is h (expression.Compose ty components) at o
-              (by_operator o refl (constructor_asks (group_context m info g) (Handle ty)
-              (length components.items))) parts.0
+          (by_operator o refl (constructor_asks (group_context m info g) (Handle ty)
+          (length components.items))) parts.0
           (trees_found value tree_of are components.items parts.0 parts.1) t parts.2
       tree_over_is tree_of are h (expression.Splat size v) at t found =
           let parts = then_some (λ u. built inside h (Splat size) (u ∷ [])) (tree_of v) t found in
@@ -358,7 +364,7 @@ module _ (m : Module) (info : ModuleInfo) where
                 (λ j. of_b.type j ∷ of_i.type j ∷ []) parts.0 parts.1)
                 (constant_signatures shape b ++ constant_signatures shape i)
                 (λ x. either_signature x (constant_signatures shape b) (constant_signatures shape i)
-                    (of_b.spelled x) (of_i.spelled x));
+                (of_b.spelled x) (of_i.spelled x));
             range = (of_b.range, of_i.range);
             fits = (value_fits base b of_b has, of_b.fits, of_i.fits);
           })
@@ -394,19 +400,22 @@ module _ (m : Module) (info : ModuleInfo) where
           subst (IsTreeOf (value h)) parts.2 (record {
             type = sym own;
             spelled =
-                first_or (record { word = Spelled (short_circuit_word j); operands = ks;
-                    result = type_of_values m parts.0 })
+                first_or (record {
+                  word = Spelled (short_circuit_word j);
+                  operands = ks;
+                  result = type_of_values m parts.0;
+                })
                 (own_signature h (expression.Binary op left right) at (Spelled (short_circuit_word j)) called ks
                 (λ j. of_l.type j ∷ of_r.type j ∷ []) parts.0 parts.1)
                 (constant_signatures shape l ++ constant_signatures shape r)
                 (λ x. either_signature x (constant_signatures shape l) (constant_signatures shape r)
-                    (of_l.spelled x) (of_r.spelled x));
+                (of_l.spelled x) (of_r.spelled x));
             range = (of_l.range, of_r.range);
             fits = (
               subst (λ k. LogicalFits k (type_of_values m parts.0)) (sym of_l.type)
                   (subst (LogicalFits (value left)) own
                   (logical_fits m info (types_are_counted m info accepted distinguished) f g is h op left right
-                      at wanted)),
+                  at wanted)),
               of_l.fits,
               of_r.fits,
             );
@@ -415,38 +424,38 @@ module _ (m : Module) (info : ModuleInfo) where
       operated_is : (tree_of : ℕ → Option ConstantTree) →
           ((h : ℕ) (t : ConstantTree) → tree_of h ≡ Some t → IsTreeOf (value h) t) →
           (h : ℕ) (e : Expression) → slice_get g.expressions h ≡ Some e → (o : Option Operator) →
-              applied_operator (group_context m info g) e ≡ o →
+          applied_operator (group_context m info g) e ≡ o →
           (t : ConstantTree) → operated inside tree_of h (expression_operands e) o ≡ Some t → IsTreeOf (value h) t
       operated_is tree_of are h e at None applied t found = absurd cc
       operated_is tree_of are h e at (Some o) applied t found = by (asks o) refl found
         where
           by : (b : Bool) → asks o ≡ b →
               (if b then None else option_and_then (built inside h o)
-                  (trees_of tree_of (expression_operands e))) ≡ Some t → IsTreeOf (value h) t
+              (trees_of tree_of (expression_operands e))) ≡ Some t → IsTreeOf (value h) t
           by true asked found = absurd cc
           by false asked found =
               let parts = then_some (built inside h o) (trees_of tree_of (expression_operands e)) t found in
               built_is h e at o (by_operator o applied asked) parts.0
-                  (trees_found value tree_of are (expression_operands e) parts.0 parts.1) t parts.2
+              (trees_found value tree_of are (expression_operands e) parts.0 parts.1) t parts.2
 
       logic_is : (tree_of : ℕ → Option ConstantTree) →
           ((h : ℕ) (t : ConstantTree) → tree_of h ≡ Some t → IsTreeOf (value h) t) →
           (h left right : ℕ) (op : BinaryOperator) → slice_get g.expressions h
-              ≡ Some (expression.Binary op left right) → (j : ShortCircuit) →
+          ≡ Some (expression.Binary op left right) → (j : ShortCircuit) →
           IsCalled m info g (expression.Binary op left right) (Spelled (short_circuit_word j)) →
           binary_type op (known_inner m.types g.known left) ≡ logical_type (known_inner m.types g.known left) →
           (t : ConstantTree) → over_two (joined inside h j) (tree_of left) (tree_of right) ≡ Some t →
-              IsTreeOf (value h) t
+          IsTreeOf (value h) t
       logic_is tree_of are h left right op at j called wanted t found =
           let one = then_some (λ l. option_and_then (joined inside h j l) (tree_of right)) (tree_of left) t found in
           let two = then_some (joined inside h j one.0) (tree_of right) t one.2 in
           joined_is h left right op at j called wanted one.0 two.0 (are left one.0 one.1)
-              (are right two.0 two.1) t two.2
+          (are right two.0 two.1) t two.2
 
       part_is : (tree_of : ℕ → Option ConstantTree) →
           ((h : ℕ) (t : ConstantTree) → tree_of h ≡ Some t → IsTreeOf (value h) t) →
           (h base : ℕ) (e : Expression) → slice_get g.expressions h ≡ Some e → expression_operands e
-              ≡ base ∷ [] → (s : Selector) → IsCalled m info g e (PartWord s) →
+          ≡ base ∷ [] → (s : Selector) → IsCalled m info g e (PartWord s) →
           (b : Bool) → has_values inside base ≡ b → (t : ConstantTree) →
           (if b then option_and_then (picked inside h s) (tree_of base) else None) ≡ Some t → IsTreeOf (value h) t
       part_is tree_of are h base e at operands s called false has t found = absurd cc
@@ -458,7 +467,7 @@ module _ (m : Module) (info : ModuleInfo) where
       computed_is : (tree_of : ℕ → Option ConstantTree) →
           ((h : ℕ) (t : ConstantTree) → tree_of h ≡ Some t → IsTreeOf (value h) t) →
           (h : ℕ) (e : Expression) → slice_get g.expressions h ≡ Some e → (t : ConstantTree) →
-              computed_over inside tree_of h e ≡ Some t → IsTreeOf (value h) t
+          computed_over inside tree_of h e ≡ Some t → IsTreeOf (value h) t
       computed_is tree_of are h (expression.Literal v) at t found =
           tree_over_is tree_of are h (expression.Literal v) at t found
       computed_is tree_of are h (expression.Constant c) at t found =
@@ -475,7 +484,7 @@ module _ (m : Module) (info : ModuleInfo) where
         where
           by : (b : Bool) → has_values inside base ≡ b →
               (if b then over_two (indexed inside h) (tree_of base) (tree_of index) else None) ≡ Some t →
-                  IsTreeOf (value h) t
+              IsTreeOf (value h) t
           by false has found = absurd cc
           by true has found =
               let one = then_some (λ b. option_and_then (indexed inside h b) (tree_of index)) (tree_of base) t found in
@@ -486,23 +495,23 @@ module _ (m : Module) (info : ModuleInfo) where
         where
           by : (o : Option Selector) → part_selector inside base index ≡ o →
               part_tree inside tree_of h base o (part_operator inside.context base index) ≡ Some t →
-                  IsTreeOf (value h) t
+              IsTreeOf (value h) t
           by (Some s) selected found =
               part_is tree_of are h base (expression.AccessIndex base index) at refl s
-                  (by_part base index s refl selected) (has_values inside base) refl t found
+              (by_part base index s refl selected) (has_values inside base) refl t found
           by None selected found =
               operated_is tree_of are h (expression.AccessIndex base index) at
-                  (part_operator inside.context base index) refl t found
+              (part_operator inside.context base index) refl t found
       computed_is tree_of are h (expression.Swizzle size vector pattern) at t found =
           part_is tree_of are h vector (expression.Swizzle size vector pattern) at refl
-              (MemberNamed (swizzle_letters size pattern))
+          (MemberNamed (swizzle_letters size pattern))
           (by_letters size vector pattern refl) (has_values inside vector) refl t found
       computed_is tree_of are h (expression.Binary binary.LogicalAnd left right) at t found =
           logic_is tree_of are h left right binary.LogicalAnd at ShortCircuitAnd
-              (by_operator (BinarySign binary.LogicalAnd) refl refl) refl t found
+          (by_operator (BinarySign binary.LogicalAnd) refl refl) refl t found
       computed_is tree_of are h (expression.Binary binary.LogicalOr left right) at t found =
           logic_is tree_of are h left right binary.LogicalOr at ShortCircuitOr
-              (by_operator (BinarySign binary.LogicalOr) refl refl) refl t found
+          (by_operator (BinarySign binary.LogicalOr) refl refl) refl t found
       computed_is tree_of are h e at t found =
           operated_is tree_of are h e at (applied_operator inside.context e) refl t found
 
@@ -511,7 +520,7 @@ module _ (m : Module) (info : ModuleInfo) where
       within_is zero h t found = absurd cc
       within_is (suc levels) h t found =
           let parts = then_some (tree_over inside (tree_within levels inside g.expressions) h)
-              (slice_get g.expressions h) t found in
+          (slice_get g.expressions h) t found in
           tree_over_is (tree_within levels inside g.expressions) (within_is levels) h parts.0 parts.1 t parts.2
 
     -- ---- constants
@@ -519,7 +528,7 @@ module _ (m : Module) (info : ModuleInfo) where
     unfolding is_accepted
     all_sound =
         let one = and_parts (module_ranges_fit m info) (module_is_sound m info && module_operators_agree m info)
-            accepted in
+        accepted in
         (and_parts (module_is_sound m info) (module_operators_agree m info) one.1).0
 
     own_sound : declarations_are_sound m info.const_expression_types.items ≡ true
@@ -527,7 +536,7 @@ module _ (m : Module) (info : ModuleInfo) where
     own_sound =
         (and_parts (declarations_are_sound m info.const_expression_types.items)
         (all_paired (function_is_sound m) m.functions info.functions.items
-            && all_paired (entry_point_is_sound m) m.entry_points.items info.entry_points.items) all_sound).0
+        && all_paired (entry_point_is_sound m) m.entry_points.items info.entry_points.items) all_sound).0
 
     -- what is known of the module's own expressions
     abbrev own : List TypeResolution
@@ -536,10 +545,10 @@ module _ (m : Module) (info : ModuleInfo) where
     constants_sound : list_all (constant_is_sound m.types own) m.constants ≡ true
     constants_sound =
         let one = and_parts (expressions_are_sound m None own m.global_expressions)
-            (initialisers_fit m own) own_sound in
+        (initialisers_fit m own) own_sound in
         (and_parts (list_all (constant_is_sound m.types own) m.constants)
         (list_all (override_is_sound m.types own) m.overrides
-            && list_all (global_is_sound m.types own) m.global_variables) one.1).0
+        && list_all (global_is_sound m.types own) m.global_variables) one.1).0
 
     -- the initialiser of a constant has its type
     initialiser_known : (h : ℕ) (c : Constant) → slice_get m.constants h ≡ Some c → value_at m info own c.init
@@ -553,7 +562,7 @@ module _ (m : Module) (info : ModuleInfo) where
         by None there same = absurd cc
         by (Some r) there same =
             value_is m info own c.init r there
-                ∙ alike r (Handle c.ty) ((declarations_are m info accepted).fits c.init r there) tt same
+            ∙ alike r (Handle c.ty) ((declarations_are m info accepted).fits c.init r there) tt same
 
     -- a constant by its name, or by its initialiser
     abbrev pub availability_tree : (ℕ → Option ConstantTree) → ℕ → Constant → ConstantTree
@@ -567,7 +576,7 @@ module _ (m : Module) (info : ModuleInfo) where
     constants_over : (global : ℕ → Option ConstantTree) → GlobalsAre global → ConstantsAre (constant_over m global)
     constants_over global are h c at t found =
         subst (StandsFor c.ty) (same_Some (availability_tree global h c) t
-            (sym (ap (option_map (availability_tree global h)) at) ∙ found)) (by (is_some c.name) refl)
+        (sym (ap (option_map (availability_tree global h)) at) ∙ found)) (by (is_some c.name) refl)
       where
         unnamed : (o : Option ConstantTree) → global c.init ≡ o → StandsFor c.ty (unwrap_or o (zero_of_type m c.ty))
         unnamed None found = OfZero refl
@@ -590,8 +599,8 @@ module _ (m : Module) (info : ModuleInfo) where
     globals_within (suc levels) h t found =
         let global = global_tree_within levels m info in
         let parts = then_some
-            (computed_over (declared_over m (constant_over m global) (global_types_known info)) global h)
-            (slice_get m.global_expressions h) t found in
+        (computed_over (declared_over m (constant_over m global) (global_types_known info)) global h)
+        (slice_get m.global_expressions h) t found in
         computed_is None (own_group m info accepted) (declarations_are m info accepted)
         (constant_over m global) (constants_over global (globals_within levels)) global
         (globals_within levels) h parts.0 parts.1 t parts.2
@@ -619,4 +628,4 @@ module _ (m : Module) (info : ModuleInfo) where
         global_tree m info c.init ≡ Some t → IsTreeOf (type_of_values m (Handle c.ty)) t
     initialiser_is h c at t found =
         retyped (value_at m info own c.init) (type_of_values m (Handle c.ty)) t (initialiser_known h c at)
-            (globals_are c.init t found)
+        (globals_are c.init t found)

@@ -82,8 +82,8 @@ literal_read (literal.DecimalF64 numeral) w =
     let fits = digits_fit numeral w in
     let d = double_written numeral fits (exponent_fits numeral w) in
     ap (λ e. Opaque (codes "f64")
-        (to_bits binary64 (told binary64 numeral.negative (double_whole numeral) (double_fraction numeral) e)))
-        (power_read (double_exponent numeral) d.small)
+    (to_bits binary64 (told binary64 numeral.negative (double_whole numeral) (double_fraction numeral) e)))
+    (power_read (double_exponent numeral) d.small)
     ∙ ap (λ x. Opaque (codes "f64") (to_bits binary64 x)) (double_told binary64 numeral fits)
 literal_read (literal.DecimalF32 numeral) w = ap (λ x. Opaque (codes "f32") (to_bits binary32 x))
     (told_is binary32 numeral (digits_fit numeral w))
@@ -180,7 +180,7 @@ literal_of (Opaque w n) =
     if bytes_eq w (codes "f32") then literal.F32 n else (
     if bytes_eq w (codes "f64") then literal.F64 n else (
     if bytes_eq w (abstract_word kind.AbstractInt) then literal.AbstractInt
-        (integer_of n) else literal.AbstractFloat n)))
+    (integer_of n) else literal.AbstractFloat n)))
 literal_of (Truth b) = literal.Bool b
 literal_of _ = literal.U32 0
 

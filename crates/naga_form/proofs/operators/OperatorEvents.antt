@@ -112,7 +112,7 @@ no_request t is = by (stands_in request_words (head_of t)) refl
     by true at =
         let parts = no_type_parts (head_of t) (passes no_type request_words (head_of t) no_types at) in
         absurd (no_type_begins (head_of t) parts.0 (none_taken (rule_among type_templates (head_of t)) parts.1)
-            t is refl)
+        t is refl)
     by false at = refl
 
 type_asks_nothing : (t : TypeSpecifier) → IsType t → is_request (type_layout t) ≡ false

@@ -77,7 +77,7 @@ module _ (m : Module) (are : TypesAreCounted m) where
   typed_once w bits x y a b =
       let words = spelled_word a.typed w a.spelled ∙ sym (spelled_word b.typed w b.spelled) in
       a.key ∙ (ap (λ numbers. 0 ∷ truth_number bits ∷ numbers)
-          (numbers_by_words m are a.typed b.typed a.fit b.fit words) ∙ sym b.key)
+      (numbers_by_words m are a.typed b.typed a.fit b.fit words) ∙ sym b.key)
 
   key_once : (o : Operator) (n : ℕ) (x y : List ℕ) → KeyIn o n x → KeyIn o n y → x ≡ y
   key_once (BinarySign op) n x y a b = same_Some x y (sym a.1 ∙ b.1)
@@ -192,8 +192,12 @@ module _ (m : Module) (are : TypesAreCounted m) where
           let spelled = (called_spelled m (Handle ty) w at).1 in
           let has : is_spelled m.types (Handle ty) ≡ true =
           sym (form_spelled (Handle ty)) ∙ ap is_some spelled in
-          Keyed (record { typed = Handle ty; fit = tt; spelled = spelled;
-              key = ap (λ b. if b then typed_key m.types false (Handle ty) else one_key 0 ty) has })
+          Keyed (record {
+            typed = Handle ty;
+            fit = tt;
+            spelled = spelled;
+            key = ap (λ b. if b then typed_key m.types false (Handle ty) else one_key 0 ty) has;
+          })
       by None at is = absurd (cc)
 
   -- what is composed is called by its type

@@ -253,11 +253,11 @@ module _ (flags : WriterFlags) (m : Module) (info : ModuleInfo) (g : ℕ) (f : i
       (names_are_in_range m callees f ranges h (expression.GlobalVariable v) at)))
   own_is operand h (expression.FunctionArgument n) at is all =
       let a = element f.arguments.items n (ltb-true n (length f.arguments.items)
-          (names_are_in_range m callees f ranges h (expression.FunctionArgument n) at)) in
+      (names_are_in_range m callees f ranges h (expression.FunctionArgument n) at)) in
       item_is_identifier m (argument_item m g n a.0) (argument_there m g f n a.0 found a.1)
   own_is operand h (expression.LocalVariable v) at is all =
       let l = element f.local_variables v (ltb-true v (length f.local_variables)
-          (names_are_in_range m callees f ranges h (expression.LocalVariable v) at)) in
+      (names_are_in_range m callees f ranges h (expression.LocalVariable v) at)) in
       (item_is_identifier m (local_item m g v l.0) (local_there m g f v l.0 found l.1), refl)
   own_is operand h (expression.ZeroValue ty) at is all =
       let form = type_at ty (spelled_of_spellable m (Handle ty) is.0) in
@@ -272,9 +272,9 @@ module _ (flags : WriterFlags) (m : Module) (info : ModuleInfo) (g : ℕ) (f : i
           IsPlainForm (own_plain own source operand (expression.AccessIndex base index))
       by s =
           let lt = ltb-true index (2 ^ 32) (names_are_in_range m callees f ranges h
-              (expression.AccessIndex base index) at) in
+          (expression.AccessIndex base index) at) in
           let part = list_all_at (operands_fit m.types (map (λ e. e.ty) es)) f.expressions h
-              (expression.AccessIndex base index) demands at in
+          (expression.AccessIndex base index) demands at in
           subst
           (λ o. IsPlainForm
           (option_map_or
@@ -282,7 +282,7 @@ module _ (flags : WriterFlags) (m : Module) (info : ModuleInfo) (g : ℕ) (f : i
           (applied_plain no_form None operand (base ∷ []) (Some (WithoutForm (PartAt index))))))
           (sym s.1)
           (selected_is (is_pointer d.context base) s.0
-              (selected_well m info es base index is.0 part fits lt s.0 s.1) (operand base) all.0)
+          (selected_well m info es base index is.0 part fits lt s.0 s.1) (operand base) all.0)
   own_is operand h (expression.Swizzle size v pattern) at is all =
       let whole =
       names_are_in_range m callees f ranges h (expression.Swizzle size v pattern) at in

@@ -219,7 +219,7 @@ module _ (m : Module) (n : Naming) (code : Source)
       (constant_shape
       (option_map
       (λ r. Constructed (run_word (constructor code.declared.context (Handle ty) 0))
-          (code.declared.value_type r) no_constant)
+      (code.declared.value_type r) no_constant)
       o)))
   zero_reads operand like ty declared (Some r) known =
       ap AsValue
@@ -227,7 +227,7 @@ module _ (m : Module) (n : Naming) (code : Source)
       (type_tree code.type_names ty)
       (constructor code.declared.context (Handle ty) 0)
       (constructor_spelled code.declared.context (Handle ty) 0 (type_tree code.type_names ty)
-          (spells (Handle ty) declared)))
+      (spells (Handle ty) declared)))
   zero_reads operand like ty declared None known = absurd cc
 
   -- what is written out as a constant is read as that

@@ -61,12 +61,12 @@ module _ (m : Module) (info : ModuleInfo) (are : TypesAreCounted m) (p : shapes.
   pub operator_operates : (o : Operator) → TypeIsSound o → asks o ≡ false → OperatesBy p own (run_word o)
   operator_operates o is none =
       let distinguished = word_is_distinguished o is in
-          operates_freely free_request p earlier f (run_word o) distinguished.free (distinguished.asking ∙ none)
+      operates_freely free_request p earlier f (run_word o) distinguished.free (distinguished.asking ∙ none)
 
   pub operator_asks : (o : Operator) → TypeIsSound o → asks o ≡ true → AsksBy p own (run_word o)
   operator_asks o is does =
       let distinguished = word_is_distinguished o is in
-          asks_freely free_request p earlier f (run_word o) distinguished.free (distinguished.asking ∙ does)
+      asks_freely free_request p earlier f (run_word o) distinguished.free (distinguished.asking ∙ does)
 
   -- values made of a type, and of one value
   made_operates : (ty n : ℕ) →
@@ -98,7 +98,7 @@ module _ (m : Module) (info : ModuleInfo) (are : TypesAreCounted m) (p : shapes.
   shape_words known es h (expression.Literal value) = tt
   shape_words known es h (expression.Constant handle) =
       or_false_words m info (OperatesBy p own) made_operates applied_operates (written_constant m info handle)
-          (constant_words m info (OperatesBy p own) made_operates applied_operates handle)
+      (constant_words m info (OperatesBy p own) made_operates applied_operates handle)
   shape_words known es h (expression.Override handle) = tt
   shape_words known es h (expression.ZeroValue ty) =
       let d = declared m info known in
@@ -113,18 +113,18 @@ module _ (m : Module) (info : ModuleInfo) (are : TypesAreCounted m) (p : shapes.
   shape_words known es h (expression.Load pointer) =
       let d = declared m info known in
       applied_or_words (Load pointer) tt (pointer ∷ []) (load_operator d.context pointer)
-          (atomic_is_sound m are known pointer)
+      (atomic_is_sound m are known pointer)
   shape_words known es h (expression.ImageSample image sampler gather coordinate array_index offset l depth_ref clamp) =
       let d = declared m info known in
       let unwritten = is_some gather || (is_some depth_ref || clamp) in
       let written = option_and_then (constant_tree d es) offset in
       let is = sampling_is_sound m are known _ gather (level_of l) (is_some depth_ref) clamp
-          (is_some array_index) (is_some offset) in (
+      (is_some array_index) (is_some offset) in (
         operator_asks _ is.0 is.1,
         levels_words m info (OperatesBy p own) made_operates applied_operates l unwritten (option_to_list written)
             (offset_words m info (OperatesBy p own) made_operates applied_operates written
             (λ t e. let x = then_some (constant_tree d es) offset t e in written_words m info
-                (OperatesBy p own) made_operates applied_operates known es x.0 t x.2)),
+            (OperatesBy p own) made_operates applied_operates known es x.0 t x.2)),
       )
   shape_words known es h (expression.Access base index) = tt
   shape_words known es h (expression.Swizzle size vector pattern) = tt
@@ -158,7 +158,7 @@ pub operator_operates_outside : (p : shapes.Module) (o : Operator) → TypeIsSou
     OperatesOutside p (free_names free_request) (run_word o)
 operator_operates_outside p o is none =
     let distinguished = word_is_distinguished o is in
-        operates_outside free_request p (run_word o) distinguished.free (distinguished.asking ∙ none)
+    operates_outside free_request p (run_word o) distinguished.free (distinguished.asking ∙ none)
 
 -- so do the words of each initialiser
 pub initialiser_words_outside : (m : Module) (info : ModuleInfo) → TypesAreCounted m →
@@ -167,5 +167,5 @@ pub initialiser_words_outside : (m : Module) (info : ModuleInfo) → TypesAreCou
 initialiser_words_outside m info are p c =
     initialiser_words m info (OperatesOutside p (free_names free_request))
     (λ ty n. operator_operates_outside p _ (constructor_is_sound m are (λ h. None) ty n)
-        (constructor_asks (expression_context m (λ h. None)) (Handle ty) n))
+    (constructor_asks (expression_context m (λ h. None)) (Handle ty) n))
     (λ known e o is silent. operator_operates_outside p o (applied_is_sound m are known e o is) silent) c

@@ -32,12 +32,24 @@ of_functions : (fs : List Function) (ess : List (List ExpressionInfo)) (i : ℕ)
 of_functions [] ess i g at = absurd cc
 of_functions (f ∷ fs) [] i g at = absurd cc
 of_functions (f ∷ fs) (es ∷ ess) zero g at =
-    record { place = 0; function = f; known = es; here = refl; there = refl;
-        same = same_Some (function_group f es) g at }
+    record {
+      place = 0;
+      function = f;
+      known = es;
+      here = refl;
+      there = refl;
+      same = same_Some (function_group f es) g at;
+    }
 of_functions (f ∷ fs) (es ∷ ess) (suc i) g at =
     let k = of_functions fs ess i g at in
-    record { place = suc k.place; function = k.function; known = k.known; here = k.here; there = k.there;
-        same = k.same }
+    record {
+      place = suc k.place;
+      function = k.function;
+      known = k.known;
+      here = k.here;
+      there = k.there;
+      same = k.same;
+    }
 
 module _ (m : Module) (info : ModuleInfo) (accepted : IsTrue (is_accepted m info)) where
   pub groups_are : (g : Group) → IsIn (groups_of m info) g → (f : Option Function) × IsSoundGroup m info f g
@@ -48,7 +60,7 @@ module _ (m : Module) (info : ModuleInfo) (accepted : IsTrue (is_accepted m info
           × (slice_get (function_groups (map (λ p. p.function) m.entry_points.items) info.entry_points.items) k
           ≡ Some g)) ⊎
           ((k : ℕ) × (slice_get (own_group m info accepted ∷ []) k ≡ Some g)) → (f : Option Function)
-              × IsSoundGroup m info f g
+          × IsSoundGroup m info f g
       further (inl here) =
           let k = of_functions (map (λ p. p.function) m.entry_points.items) info.entry_points.items here.0 g here.1 in
           let p = in_image (λ p. p.function) m.entry_points.items k.place k.function k.here in (
@@ -64,9 +76,11 @@ module _ (m : Module) (info : ModuleInfo) (accepted : IsTrue (is_accepted m info
           ((k : ℕ) × (slice_get (further_groups_of m info) k ≡ Some g)) → (f : Option Function) ×
           IsSoundGroup m info f g
       by (inl here) =
-          let k = of_functions m.functions info.functions.items here.0 g here.1 in
-          (Some k.function, subst (IsSoundGroup m info (Some k.function)) k.same
-              (functions_are m info accepted k.place k.function k.known k.here k.there))
+          let k = of_functions m.functions info.functions.items here.0 g here.1 in (
+            Some k.function,
+            subst (IsSoundGroup m info (Some k.function)) k.same
+                (functions_are m info accepted k.place k.function k.known k.here k.there),
+          )
       by (inr later) =
           further (in_row (function_groups (map (λ p. p.function) m.entry_points.items) info.entry_points.items)
           _ later.0 g later.1)

@@ -128,12 +128,18 @@ module _ (m : ir_module.Module) (info : ModuleInfo)
 
     -- the one signature over the operands of the expression
     of_one : (w : Word) → IsCalled m info g e w →
-        IsOneOf x (record { word = w; operands = handle_types own (expression_operands e);
-            result = handle_type own h } ∷ []) → IsOfExpression m info x
+        IsOneOf x (record {
+          word = w;
+          operands = handle_types own (expression_operands e);
+          result = handle_type own h;
+        } ∷ []) → IsOfExpression m info x
     of_one w called among =
         let same = only_signature x
-            (record { word = w; operands = handle_types own (expression_operands e);
-            result = handle_type own h }) among in
+        (record {
+          word = w;
+          operands = handle_types own (expression_operands e);
+          result = handle_type own h;
+        }) among in
         record {
           function = Some function;
           group = g;
@@ -150,7 +156,7 @@ module _ (m : ir_module.Module) (info : ModuleInfo)
     of_applied : (otherwise : Expression) → signatures_of p own (handle_type own h) (Some otherwise) ≡ [] →
         (o : Option TableOperator) → applied_operator d.context e ≡ o →
         IsOneOf x (signatures_of p own (handle_type own h)
-            (Some (applied_or otherwise (expression_operands e) o))) → IsOfExpression m info x
+        (Some (applied_or otherwise (expression_operands e) o))) → IsOfExpression m info x
     of_applied otherwise none None is among = absurd (no_signature x (subst (IsOneOf x) none among))
     of_applied otherwise none (Some o) is among = by (asks o) refl among
       where
@@ -192,7 +198,7 @@ module _ (m : ir_module.Module) (info : ModuleInfo)
         by None is among = absurd (no_signature x among)
         by (Some t) is among =
             either_signature x (constant_signatures p t) [] (of_trees (Some function) g sound k t is x)
-                (λ none. absurd (no_signature x none)) among
+            (λ none. absurd (no_signature x none)) among
 
     of_sample : (l : SampleLevel) (unwritten : Bool) (offset : Option ℕ) →
         IsOneOf x (constants_signatures p
@@ -200,8 +206,8 @@ module _ (m : ir_module.Module) (info : ModuleInfo)
         (option_and_then (constant_tree d g.expressions) offset)))) → IsOfExpression m info x
     of_sample l unwritten offset among =
         of_offset offset
-            (subst (IsOneOf x) (zero_spells l unwritten
-            (option_to_list (option_and_then (constant_tree d g.expressions) offset))) among)
+        (subst (IsOneOf x) (zero_spells l unwritten
+        (option_to_list (option_and_then (constant_tree d g.expressions) offset))) among)
 
   module _ (function : ir_function.Function) (es : List ExpressionInfo)
       (sound : IsSoundGroup m info (Some function) (function_group function es)) (h : ℕ) where
@@ -219,14 +225,14 @@ module _ (m : ir_module.Module) (info : ModuleInfo)
     spelled_by (expression.Literal value) at x among = absurd (no_signature x among)
     spelled_by (expression.Constant handle) at x among =
         let e = expression.Constant handle in
-            of_constant function es sound h e at x (context.constant_tree handle)
-            (tree_here function es sound h e at x) among
+        of_constant function es sound h e at x (context.constant_tree handle)
+        (tree_here function es sound h e at x) among
     spelled_by (expression.Override handle) at x among = absurd (no_signature x among)
     spelled_by (expression.ZeroValue ty) at x among =
         let e = expression.ZeroValue ty in
-            of_constant function es sound h e at x
-            (built context h (constructor context.context (Handle ty) 0) [])
-            (tree_here function es sound h e at x) among
+        of_constant function es sound h e at x
+        (built context h (constructor context.context (Handle ty) 0) [])
+        (tree_here function es sound h e at x) among
     spelled_by (expression.FunctionArgument number) at x among = absurd (no_signature x among)
     spelled_by (expression.GlobalVariable handle) at x among = absurd (no_signature x among)
     spelled_by (expression.LocalVariable handle) at x among = absurd (no_signature x among)
@@ -239,17 +245,17 @@ module _ (m : ir_module.Module) (info : ModuleInfo)
             IsOfExpression m info x
         by (Some s) is among =
             of_one function es sound h (expression.AccessIndex base index) at x (PartWord s)
-                (by_part base index s refl is) among
+            (by_part base index s refl is) among
         by None is among =
             of_applied function es sound h (expression.AccessIndex base index) at x Result refl
-                (Some (WithoutForm (PartAt index))) (part_is_applied context index base is) among
+            (Some (WithoutForm (PartAt index))) (part_is_applied context index base is) among
     spelled_by (expression.Swizzle size vector pattern) at x among =
         of_one function es sound h (expression.Swizzle size vector pattern) at x
         (PartWord (MemberNamed (flat_map letter (take (vector_number size) pattern))))
         (by_letters size vector pattern refl) among
     spelled_by (expression.Load pointer) at x among =
         of_applied function es sound h (expression.Load pointer) at x (Load pointer) refl
-            (load_operator context.context pointer) refl among
+        (load_operator context.context pointer) refl among
     spelled_by (expression.ImageSample image sampler gather coordinate array_index offset level depth_ref clamp)
         at x among =
         of_sample function es sound h
@@ -264,8 +270,8 @@ module _ (m : ir_module.Module) (info : ModuleInfo)
         IsOneOf x (signatures_of p shape (handle_type shape h) (expression_of shape h)) → IsOfExpression m info x
     spelled_at x among =
         by (slice_get function.expressions h) refl
-            (subst (λ o. IsOneOf x (signatures_of p shape (handle_type shape h) o))
-            (expression_is m info function es h) among)
+        (subst (λ o. IsOneOf x (signatures_of p shape (handle_type shape h) o))
+        (expression_is m info function es h) among)
       where
         by : (o : Option ir.Expression) → slice_get function.expressions h ≡ o →
             IsOneOf x (signatures_of p shape (handle_type shape h)

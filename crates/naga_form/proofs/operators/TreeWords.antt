@@ -52,7 +52,7 @@ module _ (m : Module) (info : ModuleInfo) (P : List ℕ → Type 0)
         (t : ConstantTree) → built context h o ts ≡ Some t → EachWord P t
     built_words h o is ts words t e =
         let r = map_some (λ r. Constructed (run_word o) (context.value_type r) (trees ts))
-            (context.context.known h) t e in
+        (context.context.known h) t e in
         subst (EachWord P) r.2 (is, words)
 
     over_words : (tree_of : ℕ → Option ConstantTree) →
@@ -87,7 +87,7 @@ module _ (m : Module) (info : ModuleInfo) (P : List ℕ → Type 0)
     over_words tree_of all h (expression.Splat size value) t e =
         let x = then_some (λ t. built context h (Splat size) (t ∷ [])) (tree_of value) t e in
         built_words h (Splat size) (applied known (expression.Splat size value) (Splat size) refl refl)
-            (x.0 ∷ []) (all value x.0 x.1, tt) t x.2
+        (x.0 ∷ []) (all value x.0 x.1, tt) t x.2
     over_words tree_of all h _ t e = absurd (cc)
 
     made_words : HoldsOfMade (EachWord P) (EachWordOf P)
@@ -148,9 +148,9 @@ module _ (m : Module) (info : ModuleInfo) (P : List ℕ → Type 0)
   within_global_words (suc levels) h t e =
       let global = global_tree_within levels m info in
       let x = then_some (computed_over (declared_over m (constant_over m global) (global_types_known info))
-          global h) (slice_get m.global_expressions h) t e in
+      global h) (slice_get m.global_expressions h) t e in
       computed_words (constant_over m global) (constant_words_over global (within_global_words levels))
-          (global_types_known info) global (within_global_words levels) h x.0 t x.2
+      (global_types_known info) global (within_global_words levels) h x.0 t x.2
 
   -- of each tree of the module's own expressions
   pub global_words : (h : ℕ) (t : ConstantTree) → global_tree m info h ≡ Some t → EachWord P t
@@ -181,7 +181,7 @@ module _ (m : Module) (info : ModuleInfo) (P : List ℕ → Type 0)
   zero_words known h ty t e =
       let d = declared m info known in
       built_words (written_constant m info) constant_words known h (constructor d.context (Handle ty) 0)
-          (made ty 0) [] tt t e
+      (made ty 0) [] tt t e
 
   -- a level and an offset that are written out
   pub levels_words : (l : SampleLevel) (unwritten : Bool) (ts : List ConstantTree) → EachWordOf P (trees ts) →

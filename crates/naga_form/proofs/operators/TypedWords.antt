@@ -50,14 +50,14 @@ head_before [] rest e = refl
 head_before (b ∷ bytes) rest e =
     let parts = and_parts (is_word_byte b) (all_word_bytes bytes) e in
     ap (λ x. if x then [] else b ∷ head_word (bytes ++ (60 ∷ rest))) (word_byte_goes_on b parts.0)
-        ∙ ap (λ bs. b ∷ bs) (head_before bytes rest parts.1)
+    ∙ ap (λ bs. b ∷ bs) (head_before bytes rest parts.1)
 
 head_alone : (w : List ℕ) → all_word_bytes w ≡ true → head_word w ≡ w
 head_alone [] e = refl
 head_alone (b ∷ bytes) e =
     let parts = and_parts (is_word_byte b) (all_word_bytes bytes) e in
     ap (λ x. if x then [] else b ∷ head_word bytes) (word_byte_goes_on b parts.0)
-        ∙ ap (λ bs. b ∷ bs) (head_alone bytes parts.1)
+    ∙ ap (λ bs. b ∷ bs) (head_alone bytes parts.1)
 
 -- ---- no other operator's word is one of these
 -- a word with a `<` after it
@@ -109,7 +109,7 @@ no_operator : (p : List ℕ → Bool) (w : List ℕ) → p w ≡ false → all_w
     all_words p mathematical ≡ true → operator_of w ≡ None
 no_operator p w fails one two =
     ap (λ o. option_or o (first_with w mathematical)) (none_among p w fails others one)
-        ∙ none_among p w fails mathematical two
+    ∙ none_among p w fails mathematical two
 
 -- ---- the layouts of types
 word_bytes : (w : List ℕ) → is_word_text w ≡ true → all_word_bytes w ≡ true
@@ -160,12 +160,12 @@ unfolding not_open
 template_opens w parts is =
     let following = text (template_pieces parts (has_gaps w)) in
     λ i. not ((ap is_word_text (head_is (Template w parts) is) ∙ head_text (Template w parts) is) i
-        && any_after w following i)
+    && any_after w following i)
 
 named_is_none : (w : List ℕ) → IsType (Named w) → is_function (type_layout (Named w)) ≡ false
 named_is_none w is =
     ap is_function (named_text w) ∙ by (is_word_text w) is.part.text (stands_in plain_type_words w)
-        (is_builtin w) is.whole
+    (is_builtin w) is.whole
   where
     by : (x : Bool) → x ≡ true → (plain builtin : Bool) → (plain || not builtin) ≡ true →
         (not x || (builtin && not plain)) ≡ false
@@ -226,7 +226,7 @@ unsupported_begins _ = refl
 unsupported_is_none : (x : Unsupported) → operator_of (unsupported_word x) ≡ None
 unsupported_is_none x =
     no_operator not_unsupported (unsupported_word x) (unsupported_begins x) none_unsupported_others
-        none_unsupported_mathematical
+    none_unsupported_mathematical
 
 typed_is_none : (o : Operator) → is_untyped o ≡ false → TypeIsSound o → operator_of (run_word o) ≡ None
 typed_is_none (CooperativeLoad false w) u is = open_is_none (with_type (codes "coopLoad") w) (load_opens w)
@@ -244,7 +244,7 @@ pub no_type_begins : (v : List ℕ) → is_type (Named v) ≡ false → rule_amo
 no_type_begins v named rule (Named w) is e = false≢true (sym named ∙ (ap (λ x. is_type (Named x)) (sym e) ∙ is.whole))
 no_type_begins v named rule (Template w parts) is e =
     false≢true (sym (fits_none parts)
-        ∙ (ap (λ r. fits r parts) (sym rule ∙ ap (rule_among type_templates) (sym e)) ∙ is.part.0))
+    ∙ (ap (λ r. fits r parts) (sym rule ∙ ap (rule_among type_templates) (sym e)) ∙ is.part.0))
 
 -- a function that takes a type
 record TakesType (v : List ℕ) : Type 0 where
@@ -272,7 +272,7 @@ type_is_no_call v takes w x is e =
 same_call : (v w x : List ℕ) → with_type v w ≡ with_type v x → w ≡ x
 same_call v w x e =
     append_cancel_right w x (codes ">")
-        (ap (drop 1) (append_cancel_left v (codes "<" ++ (w ++ codes ">")) (codes "<" ++ (x ++ codes ">")) e))
+    (ap (drop 1) (append_cancel_left v (codes "<" ++ (w ++ codes ">")) (codes "<" ++ (x ++ codes ">")) e))
 
 other_call : (v u : List ℕ) → TakesType v → TakesType u → bytes_eq v u ≡ false → (w x : List ℕ) →
     with_type v w ≡ with_type u x → ⊥
@@ -287,7 +287,7 @@ unsupported_of code =
     Cast (kind_of (get_or code 2 0)) (slice_get code 3) ∷ PartAt (get_or code 2 0) ∷ ValueOf (drop 2 code) 1 ∷
     []) (get_or code 1 0) (PartAt 0)
     else MatrixLoad (cooperative_of (get_or code 10 0)) (cooperative_of (get_or code 11 0))
-        (role_of (get_or code 12 0)) (truth_of (get_or code 13 0))
+    (role_of (get_or code 12 0)) (truth_of (get_or code 13 0))
 
 unsupported_distinguished : (x : Unsupported) → unsupported_of (unsupported_word x) ≡ one_unsupported x
 unsupported_distinguished (Cast kind None) = λ i. Cast (kind_distinguished kind i) None
@@ -296,7 +296,7 @@ unsupported_distinguished (PartAt index) = refl
 unsupported_distinguished (ValueOf numbers components) = refl
 unsupported_distinguished (MatrixLoad columns rows role row_major) =
     λ i. MatrixLoad (cooperative_distinguished columns i) (cooperative_distinguished rows i)
-        (role_distinguished role i) (truth_distinguished row_major i)
+    (role_distinguished role i) (truth_distinguished row_major i)
 
 unsupported_share : (x y : Unsupported) → unsupported_word x ≡ unsupported_word y → one_unsupported x
     ≡ one_unsupported y
@@ -307,7 +307,7 @@ unsupported_share x y e = sym (unsupported_distinguished x)
 pub no_blank : (w code : List ℕ) → SpellsAType w → w ≡ 32 ∷ code → ⊥
 no_blank w code is e =
     false≢true (ap is_word_text (sym (ap head_word (is.1.1 ∙ e)) ∙ head_is is.0 is.1.0.part)
-        ∙ head_text is.0 is.1.0.part)
+    ∙ head_text is.0 is.1.0.part)
 
 no_unsupported : (w : List ℕ) (x : Unsupported) → SpellsAType w → w ≡ unsupported_word x → ⊥
 no_unsupported w (Cast kind width) is e = no_blank w (unsupported_code (Cast kind width)) is e

@@ -243,7 +243,7 @@ module _ (flags : WriterFlags) (named : ℕ → List ℕ) (m : Module) (info : M
   handle_reads : (operand : ℕ → PlainForm) (like : ℕ → Plain) →
       ((x : ℕ) → W x → plain_read (operand x) ≡ like x) → (h : ℕ) → W h →
       plain_read (own_if own source operand (slice_get f.expressions h))
-          ≡ runs.own_form own like (expression_of own.function h)
+      ≡ runs.own_form own like (expression_of own.function h)
   handle_reads operand like same h w =
       own_if_reads m own source types_spelled places_are f.expressions es operand like h (slice_get f.expressions h)
       (λ e at. all_map same (expression_operands e) (closed.operands h e at w))
@@ -308,7 +308,7 @@ module _ (flags : WriterFlags) (named : ℕ → List ℕ) (m : Module) (info : M
 
       by : (b : Bool) → bound h ≡ b → Writes (if b then h ∷ filter bound hs else filter bound hs) →
           (Writes (filter bound hs) → statements_read following
-              ≡ runs.lets own (named_after own.function h k) hs (after_one own k h s) (statements_read rest)) →
+          ≡ runs.lets own (named_after own.function h k) hs (after_one own k h s) (statements_read rest)) →
           statements_read
           (then_if b (let_form (annotated h) (bound_name own k h) (as_value e)) following) ≡
           let_if b (bound_name own k h)
@@ -320,7 +320,7 @@ module _ (flags : WriterFlags) (named : ℕ → List ℕ) (m : Module) (info : M
           then_if_reads true (annotated h) (bound_name own k h) (as_value e) following
           ∙ λ i. let_if true (bound_name own k h)
           ((value_is e ∙ ap runs.value_form (handle_reads (plain_form own source s) (runs.written_form own s)
-              (plain_reads s) h w.0)) i)
+          (plain_reads s) h w.0)) i)
           (more w.1 i)
       by false is w more = more w
 
@@ -367,8 +367,8 @@ module _ (flags : WriterFlags) (named : ℕ → List ℕ) (m : Module) (info : M
   shape_reads annotated k (shapes.Emit first count) s rest none w = lets_read annotated k (from first count) s rest w
   shape_reads annotated k (shapes.Store pointer value) s rest none w =
       λ i. before (Assign
-          ((place_is (plain_form own source s pointer) ∙ ap runs.place_form (plain_reads s pointer w.0)) i)
-          (value_reads s value w.1.0 i)) (statements_read rest)
+      ((place_is (plain_form own source s pointer) ∙ ap runs.place_form (plain_reads s pointer w.0)) i)
+      (value_reads s value w.1.0 i)) (statements_read rest)
   shape_reads annotated k (shapes.Act action xs outcome) s rest none w =
       ap (λ l. before l (statements_read rest)) (act_reads annotated (runs.word_of own.names action) xs outcome s w)
   shape_reads annotated k (shapes.Barrier bits) s rest none w = barrier_reads (barrier_words bits) rest
@@ -406,10 +406,10 @@ module _ (flags : WriterFlags) (named : ℕ → List ℕ) (m : Module) (info : M
         let other = all_rest W (block_roots bound accept) (block_roots bound reject) w.1 in
         λ i. before (IfElse (value_reads s condition w.0 i) (lines_read annotated k accept s one i)
         ((optional_reads annotated following reject s ∙ lines_read annotated following reject s other) i))
-            (statements_read rest)
+        (statements_read rest)
     line_reads annotated k (switch selector cases) s rest w =
         λ i. before (SwitchOn (value_reads s selector w.0 i) (cases_read_as annotated k [] cases s w.1 i))
-            (statements_read rest)
+        (statements_read rest)
     line_reads annotated k (loop body continuing break_if) s rest w =
         let following = named_by_all own.function (statements_shape d.context body) k in
         let inside = after_all own k (statements_shape d.context body) s in
@@ -419,12 +419,12 @@ module _ (flags : WriterFlags) (named : ℕ → List ℕ) (m : Module) (info : M
         let other = all_front W (block_roots bound continuing) (option_to_list break_if) more in
         let value = all_rest W (block_roots bound continuing) (option_to_list break_if) more in
         ap (λ l. before l (statements_read rest))
-            (loop_reads (lines_form own annotated source k body s) continuing
-            (lines_form own annotated source following continuing inside)
+        (loop_reads (lines_form own annotated source k body s) continuing
+        (lines_form own annotated source following continuing inside)
         (option_map (value_form own source last) break_if) (optional_reads annotated following continuing inside))
         ∙ λ i. before (LoopOf (lines_read annotated k body s one i)
-            (lines_read annotated following continuing inside other i) (value_if_reads last break_if value i))
-            (statements_read rest)
+        (lines_read annotated following continuing inside other i) (value_if_reads last break_if value i))
+        (statements_read rest)
 
     lines_read : (annotated : ℕ → Option TypeSpecifier) (k : ℕ) (b : BlockTree) (s : Handles) →
         Writes (block_roots bound b) →
@@ -435,8 +435,8 @@ module _ (flags : WriterFlags) (named : ℕ → List ℕ) (m : Module) (info : M
         let one = all_front W (statement_roots bound st) (block_roots bound b) w in
         let more = all_rest W (statement_roots bound st) (block_roots bound b) w in
         line_reads annotated k st s (lines_form own annotated source
-            (named_by own.function (statement_shape d.context st) k) b
-            (after own k (statement_shape d.context st) s)) one
+        (named_by own.function (statement_shape d.context st) k) b
+        (after own k (statement_shape d.context st) s)) one
         ∙ ap (runs.form own k (statement_shape d.context st) s)
         (lines_read annotated (named_by own.function (statement_shape d.context st) k) b
         (after own k (statement_shape d.context st) s) more)
@@ -456,7 +456,7 @@ module _ (flags : WriterFlags) (named : ℕ → List ℕ) (m : Module) (info : M
         let one = all_front W (block_roots bound body) (cases_roots bound cs) w in
         let more = all_rest W (block_roots bound body) (cases_roots bound cs) w in
         λ i. group (case_values_read_as labels value i) (lines_read annotated k body s one i)
-            (cases_read_as annotated following [] cs s more i)
+        (cases_read_as annotated following [] cs s more i)
 
 -- the declared type of a local tells the spelling of a pointer to it
 pointer_reads : (m : Module) (ty : ℕ) (t : TypeSpecifier) → type_tree (type_names m) ty ≡ Some t →
@@ -482,10 +482,10 @@ module _ (flags : WriterFlags) (named : ℕ → List ℕ) (m : Module) (info : M
   locals_read formed l [] at = refl
   locals_read formed l (v ∷ vs) at =
       let here : slice_get f.local_variables l ≡ Some v = ap (slice_get f.local_variables) (sym (zero-add l))
-          ∙ sym (at 0) in
+      ∙ sym (at 0) in
       let t = formed l v here in
       let pointer = pointer_reads m v.ty t.0 t.1
-          ∙ sym (mapped_at (λ l. local_pointer m l.ty) [] f.local_variables l v here) in
+      ∙ sym (mapped_at (λ l. local_pointer m l.ty) [] f.local_variables l v here) in
       let rest = locals_read formed (l + 1) vs later in
       λ i.
       record {
@@ -521,7 +521,7 @@ pub written_reads : (flags : WriterFlags) (named : ℕ → List ℕ) (m : Module
 written_reads flags named m info g f es size formed W closed written constants =
     let names = module_names m in
     let locals = locals_read flags named m info g f es size W closed written constants formed 0
-        f.local_variables (λ k. ap (slice_get f.local_variables) (sym (add-zero k))) in
+    f.local_variables (λ k. ap (slice_get f.local_variables) (sym (add-zero k))) in
     λ i. record {
       name = function_name m names g;
       parameters = (names_counted names m g 0 f.arguments.items ∙ ap (names_from (argument_name m names g) 0)

@@ -92,7 +92,7 @@ module _ (m : Module) (info : ModuleInfo) (accepted : IsTrue (is_accepted m info
   shapes_parted count =
       sym (reverse-append (map shape_of (take count known)) (map shape_of (drop count known)))
       ∙ ap reverse (sym (map-append shape_of (take count known) (drop count known))
-          ∙ ap (map shape_of) (take-append-drop count known))
+      ∙ ap (map shape_of) (take-append-drop count known))
 
   pub first_shapes_counted : (count : ℕ) → count ≤ length p.functions → length (first_shapes count) ≡ count
   first_shapes_counted count within =
@@ -105,7 +105,7 @@ module _ (m : Module) (info : ModuleInfo) (accepted : IsTrue (is_accepted m info
   first_shapes_tell count g lt =
       let joined = length-append (others count) (first_shapes count) in
       let all = subst (Tells (shape_numbered m info accepted)) (sym (shapes_parted count))
-          (all_distinguished m info accepted) in
+      (all_distinguished m info accepted) in
       sym (first_numbered (others count) (first_shapes count) g lt) ∙ all g (omega (arith, lt, joined))
 
   module _ (flags : WriterFlags) (named : LabelNames) (are : AreLabelNames m named) where
@@ -258,7 +258,7 @@ module _ (m : Module) (info : ModuleInfo) (accepted : IsTrue (is_accepted m info
         within : g < length p.functions
         within =
             let all : length p.functions ≡ length known = length-reverse (map shape_of known)
-                ∙ length-map known shape_of in
+            ∙ length-map known shape_of in
             let lt = slice_get_within known g (f, es) at in
             omega (arith, all, lt)
 

@@ -60,7 +60,7 @@ turned at [] following tells each = tells
 turned at (f ∷ xs) following tells each =
     turned at xs (f ∷ following)
     (one_more at f following tells (let same : length following ≡ length following
-        + 0 = omega arith in ap at same ∙ each 0 f refl))
+    + 0 = omega arith in ap at same ∙ each 0 f refl))
     (λ i g there. let same : suc (length following) + i ≡ length following + suc i = omega arith in
     ap at same ∙ each (suc i) g there)
 

@@ -215,8 +215,12 @@ module _ (m : Module) (info : ModuleInfo) (f : Function) (es : List ExpressionIn
         let two =
         and_parts (are_passed m.types known one.0.arguments.items xs) (is_answered one.0 g f r) one.2 in
         let callee = following.shape_of_callee g one.0 lt one.1 in (
-          (omega (arith, lt, earlier), no_name, subst (λ o. CallFits shape o xs r) (sym callee.2)
-              (passed one.0.arguments.items xs two.0, answered one.0 g one.1 r two.1)),
+          (
+            omega (arith, lt, earlier),
+            no_name,
+            subst (λ o. CallFits shape o xs r) (sym callee.2)
+                (passed one.0.arguments.items xs two.0, answered one.0 g one.1 r two.1),
+          ),
           by one.0 r two.1,
         )
       where
@@ -256,7 +260,7 @@ module _ (m : Module) (info : ModuleInfo) (f : Function) (es : List ExpressionIn
         (worded, result_at is_uniform_load_result outcome (uniform_load_result context f.expressions outcome) fits)
     line_at breaks continues (call function arguments outcome) within fits worded =
         call_at function arguments outcome (ltb-true function count
-            (and_parts (nat_lt function count) _ within).0) fits worded
+        (and_parts (nat_lt function count) _ within).0) fits worded
     line_at breaks continues (subgroup_ballot outcome predicate) within fits worded =
         (worded, result_at is_ballot_result outcome (ballot_result context f.expressions outcome) fits)
     line_at breaks continues (subgroup_gather mode argument outcome) within fits worded =

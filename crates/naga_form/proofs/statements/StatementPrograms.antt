@@ -178,7 +178,7 @@ module _ (flags : WriterFlags) (m : Module) (info : ModuleInfo) (g : ℕ) (f : i
   after_emit_is k (h ∷ hs) s well room =
       let here = option_to_list (label_of f h) in
       after_emit_is (named_after own.function h k) hs (after_one own k h s)
-          (after_one_is k h s well (room_front k here (labels_of_each f hs) room))
+      (after_one_is k h s well (room_front k here (labels_of_each f hs) room))
       (room_rest k (named_after own.function h k) here (labels_of_each f hs) room (named_one m info f es h k))
 
   -- the labels that a statement without blocks gives
@@ -265,7 +265,7 @@ module _ (flags : WriterFlags) (m : Module) (info : ModuleInfo) (g : ℕ) (f : i
         then_is (bound h) refl w
         (lets_are (named_after own.function h k) hs (after_one own k h s) (after_one_is k h s well here)
         (room_rest k (named_after own.function h k) (option_to_list (label_of f h)) (labels_of_each f hs) room
-            (named_one m info f es h k)) rest is)
+        (named_one m info f es h k)) rest is)
       where
         here : HasRoom k (option_to_list (label_of f h))
         here = room_front k (option_to_list (label_of f h)) (labels_of_each f hs) room
@@ -346,9 +346,14 @@ module _ (flags : WriterFlags) (m : Module) (info : ModuleInfo) (g : ℕ) (f : i
             ),
             is,
           )
-      line_is k (switch selector cs) fit s well room rest is w =
-          ((value_at_is s well selector w.0, cases_are k [] tt cs fit.1 s well room w.1,
-              one_is_written own annotated source k cs fit.0 s), is)
+      line_is k (switch selector cs) fit s well room rest is w = (
+        (
+          value_at_is s well selector w.0,
+          cases_are k [] tt cs fit.1 s well room w.1,
+          one_is_written own annotated source k cs fit.0 s,
+        ),
+        is,
+      )
       line_is k (loop body continuing break_if) fit s well room rest is w =
           let front = room_front k (block_labels f body) (block_labels f continuing) room in
           let beyond = room_beyond k body (block_labels f continuing) room in

@@ -93,7 +93,7 @@ module _ (types : List Type_) (known : List TypeResolution) (selector : ℕ) (cs
           let two =
           and_parts (case_values_are_of s cs)
           (case_values_differ cs && (has_case_value switch_value.Default cs
-              && not (last_falls_through false cs))) one.1 in
+          && not (last_falls_through false cs))) one.1 in
           let three =
           and_parts (case_values_differ cs)
           (has_case_value switch_value.Default cs && not (last_falls_through false cs)) two.1 in

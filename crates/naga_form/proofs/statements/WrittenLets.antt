@@ -172,7 +172,7 @@ module _ (n : Naming) (annotated : ℕ → Option TypeSpecifier) (source : Sourc
         let inside = after_all n k (statements_shape source.declared.context body) s in
         ap (λ ts. ts ++ statements_annotations rest)
         (loop_tells (lines_form n annotated source k body s) continuing
-            (lines_form n annotated source k1 continuing inside) _
+        (lines_form n annotated source k1 continuing inside) _
         (optional_tells k1 continuing inside)
         ∙ annotated_both (statements_named_lets n k (statements_shape source.declared.context body))
         (statements_named_lets n k1 (statements_shape source.declared.context continuing))
@@ -185,7 +185,7 @@ module _ (n : Naming) (annotated : ℕ → Option TypeSpecifier) (source : Sourc
     lines_tell k (statement st b) s =
         let k1 = named_by n.function (statement_shape source.declared.context st) k in
         line_tells k st s (lines_form n annotated source k1 b
-            (after n k (statement_shape source.declared.context st) s))
+        (after n k (statement_shape source.declared.context st) s))
         ∙ annotated_both (statement_named_lets n k (statement_shape source.declared.context st))
         (statements_named_lets n k1 (statements_shape source.declared.context b)) refl
         (lines_tell k1 b (after n k (statement_shape source.declared.context st) s))
@@ -196,7 +196,7 @@ module _ (n : Naming) (annotated : ℕ → Option TypeSpecifier) (source : Sourc
     cases_tell k labels no_cases s = refl
     cases_tell k labels (case value body true cs) s =
         cases_tell (named_by_all n.function (statements_shape source.declared.context body) k)
-            (labels ++ case_value_form value ∷ []) cs s
+        (labels ++ case_value_form value ∷ []) cs s
     cases_tell k labels (case value body false cs) s =
         let k1 = named_by_all n.function (statements_shape source.declared.context body) k in
         annotated_both (statements_named_lets n k (statements_shape source.declared.context body))
@@ -234,7 +234,7 @@ functions_tell flags named names m info g (f ∷ fs) (es ∷ ess) =
     let n = function_naming names (named g) m info g f es in
     let t = names_of m.types names in
     let line = lines_tell n (annotated_type (annotates_types flags) m t es) (function_source flags m info f es)
-        0 f.body (at_start n.function)
+    0 f.body (at_start n.function)
     ∙ (λ i. map (λ b. annotated_spells (annotates_types flags) m t es b.handle i) (function_named_lets n)) in
     λ i. line i ∷ functions_tell flags named names m info (g + 1) fs ess i
 

@@ -90,14 +90,14 @@ module _ (types : List Type_) where
             unwrap_or y (word_of_unspelled_type (identity types b)) → AreAlike types a b
         by (Some x) at (Some y) bt e =
             SpelledAlike (form_read (handle_names types) x)
-                (form_is_read (handle_names types) a ∙ ap (option_map (form_read (handle_names types))) at)
+            (form_is_read (handle_names types) a ∙ ap (option_map (form_read (handle_names types))) at)
             (form_is_read (handle_names types) b ∙ ap (option_map (form_read (handle_names types)))
-                (bt ∙ ap Some (sym e)))
+            (bt ∙ ap Some (sym e)))
         by (Some x) at None bt e = absurd (form_apart a p x (identity_code (identity types b)) at e)
         by None at (Some y) bt e = absurd (form_apart b q y (identity_code (identity types a)) bt (sym e))
         by None at None bt e =
             let same = sym (distinguished_by_itself a p at)
-                ∙ (word_tells types a b e ∙ distinguished_by_itself b q bt) in
+            ∙ (word_tells types a b e ∙ distinguished_by_itself b q bt) in
             Unsupported (form_is_read (handle_names types) a
             ∙ ap (option_map (form_read (handle_names types))) at)
             (form_is_read (handle_names types) b
@@ -114,7 +114,7 @@ module _ (types : List Type_) where
         (handles_are_distinguished types) named b (resolution_is_distinguished types b) q
         ∙ ap (option_map (tree_numbers own_handle)) y in
         ap (λ o. unwrap_or o (word_of_unspelled_type (identity types a))) of_a
-            ∙ sym (ap (λ o. unwrap_or o (word_of_unspelled_type (identity types b))) of_b)
+        ∙ sym (ap (λ o. unwrap_or o (word_of_unspelled_type (identity types b))) of_b)
     to_numbers a b p q (Unsupported x y same) =
         let of_a = form_is_distinguished own_handle (handle_names types)
         (handles_are_distinguished types) named a (resolution_is_distinguished types a) p

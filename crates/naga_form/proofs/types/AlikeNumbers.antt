@@ -74,8 +74,10 @@ abbrev format_row : StorageFormat → List ℕ × List ℕ
 format_row f = (format_word f, level 23 (tag_of format_names f) 0 0 0 0)
 
 abbrev depth_row : (multi : Bool) → ImageDimension → (arrayed : Bool) → List ℕ × List ℕ
-depth_row multi dim arrayed = (image_word (codes "texture_depth_") multi dim arrayed,
-    level 9 (dimension_number dim) (truth_number arrayed) 1 (truth_number multi) 0)
+depth_row multi dim arrayed = (
+  image_word (codes "texture_depth_") multi dim arrayed,
+  level 9 (dimension_number dim) (truth_number arrayed) 1 (truth_number multi) 0,
+)
 
 abbrev word_rows : List (List ℕ × List ℕ)
 word_rows =
@@ -161,7 +163,7 @@ named_numbers distinguished [] is = absurd (true≢false (sym is.word.text))
 named_numbers distinguished (h ∷ []) is = refl
 named_numbers distinguished (x ∷ y ∷ w) is =
     no_row is_taken (level 8 (distinguished (x ∷ y ∷ w)) 0 0 0 0) word_rows (x ∷ y ∷ w) rows_are_taken
-        (λ i. is.own i || is.word.free i)
+    (λ i. is.own i || is.word.free i)
 
 -- ---- words with parts
 -- how the numbers of the parts make those of the whole
@@ -184,12 +186,16 @@ abbrev cooperative_row : (columns rows : CooperativeSize) → List ℕ × Fillin
 cooperative_row c r = (cooperative_word c r, OverRole (cooperative_number c) (cooperative_number r))
 
 abbrev sampled_row : (multi : Bool) → ImageDimension → (arrayed : Bool) → List ℕ × Filling
-sampled_row multi dim arrayed = (image_word (codes "texture_") multi dim arrayed,
-    SampledImage (dimension_number dim) (truth_number arrayed) (truth_number multi))
+sampled_row multi dim arrayed = (
+  image_word (codes "texture_") multi dim arrayed,
+  SampledImage (dimension_number dim) (truth_number arrayed) (truth_number multi),
+)
 
 abbrev storage_row : ImageDimension → (arrayed : Bool) → List ℕ × Filling
-storage_row dim arrayed = (image_word (codes "texture_storage_") false dim arrayed,
-    StorageImage (dimension_number dim) (truth_number arrayed))
+storage_row dim arrayed = (
+  image_word (codes "texture_storage_") false dim arrayed,
+  StorageImage (dimension_number dim) (truth_number arrayed),
+)
 
 abbrev template_rows : List (List ℕ × Filling)
 template_rows =
@@ -582,14 +588,14 @@ module _ (distinguished : List ℕ → ℕ) where
   image_is_distinguished dim arrayed class.External = refl
   image_is_distinguished dim arrayed (class.Storage f access) =
       let access_distinguished = image_access_numbers (has atomic_bit access) (has load_bit access)
-          (has store_bit access) in
+      (has store_bit access) in
       sym ((λ i. Some
       (filled (storage_filling dim arrayed i)
       (letter_in (TypeArgument (Named [])
       (TypeArgument (Named (image_access_word access)) NoTemplateArguments)))
       (format_numbers f i ∷ word_numbers distinguished (image_access_word access) ∷ []))) ∙
       ap (λ x. Some (level 9 (dimension_number dim) (truth_number arrayed) 2 (tag_of format_names f) x))
-          access_distinguished)
+      access_distinguished)
 
   sampler_is_distinguished : (b : Bool) → Some (level 10 (truth_number b) 0 0 0 0)
       ≡ Some (word_numbers distinguished (sampler_word b))
@@ -624,9 +630,9 @@ module _ (distinguished : List ℕ → ℕ) where
     inner_is_distinguished f g same (inner.CooperativeMatrix c r s role) is named =
         over_is_distinguished (scalar_word s) (λ t. of_two (cooperative_word c r) t (Named (role_word role))) _
         (λ w e. (λ i. filled (cooperative_filling c r i) (letter_in (role_parts role))
-            (scalar_numbers s.kind s.width w e i ∷ word_numbers distinguished (role_word role) ∷ [])) ∙
+        (scalar_numbers s.kind s.width w e i ∷ word_numbers distinguished (role_word role) ∷ [])) ∙
         ap (λ x. level 3 (kind_number s.kind) s.width (cooperative_number c) (cooperative_number r) x)
-            (role_numbers role))
+        (role_numbers role))
     inner_is_distinguished f g same (inner.Atomic s) is named =
         over_is_distinguished (scalar_word s) (of_one (codes "atomic")) _ (scalar_part (codes "atomic") _ refl s)
     inner_is_distinguished f g same (inner.Pointer base at) is named =

@@ -112,9 +112,9 @@ kind_of_form y =
 abbrev part_form : (number access : ℕ) → List ℕ → Option (List ℕ)
 part_form number access y =
     if nat_eq (get_or y 0 0) 1 then Some
-        (level 5 number access 0 0 0 ++ level 0 (get_or y 1 0) (get_or y 2 0) 0 0 0) else (
+    (level 5 number access 0 0 0 ++ level 0 (get_or y 1 0) (get_or y 2 0) 0 0 0) else (
     if nat_eq (get_or y 0 0) 2 then Some
-        (level 5 number access 0 0 0 ++ level 1 (get_or y 1 0) (get_or y 2 0) (get_or y 4 0) 0 0) else (
+    (level 5 number access 0 0 0 ++ level 1 (get_or y 1 0) (get_or y 2 0) (get_or y 4 0) 0 0) else (
     if nat_eq (get_or y 0 0) 6 then Some (level 5 number access 0 0 0 ++ drop 6 y) else (
     if nat_eq (get_or y 0 0) 7 then Some (level 5 number access 0 0 0 ++ drop 6 y) else None)))
 
@@ -147,7 +147,7 @@ levels_agree m stand zero k h p q = absurd (omega (arith, p))
 levels_agree m stand (suc n) zero h p q = absurd (omega (arith, q))
 levels_agree m stand (suc n) (suc k) h p q =
     same_found (key_within n m.types) (key_within k m.types) h
-        (λ b lt. levels_agree m stand n k b (omega (arith, p, lt)) (omega (arith, q, lt)))
+    (λ b lt. levels_agree m stand n k b (omega (arith, p, lt)) (omega (arith, q, lt)))
     (slice_get m.types h) (stand h)
 
 pub at_depth : (m : Module) → PartsStand m → (n h : ℕ) → h < n → key_within n m.types h ≡ handle_key m.types h
@@ -176,7 +176,7 @@ module _ (m : Module) (are : TypesAreCounted m) (stand : PartsStand m) where
     Plain : (number access : ℕ) (y : List ℕ) → form ≡ level 5 number access 0 0 0 ++ y → nat_eq (get_or y 0 0) 8
         ≡ false →
         ((index : Option ℕ) → PartIs (part_form number access y) (part_type m.types it index)) →
-            pointee_kind m.types it ≡ kind_of_form y → Pointed it form
+        pointee_kind m.types it ≡ kind_of_form y → Pointed it form
     Whole : (at : AddressSpace) (h : ℕ) → form ≡ following at (level 8 h 0 0 0 0) → it ≡ inner.Pointer h at →
         pointee_kind m.types it ≡ MemberKind h → Pointed it form
 
@@ -199,7 +199,7 @@ module _ (m : Module) (are : TypesAreCounted m) (stand : PartsStand m) where
   OfNoParts None = Unit {0}
   OfNoParts (Some y) =
       (nat_eq (get_or y 0 0) 8 ≡ false) × ((number access : ℕ) → part_form number access y ≡ None)
-          × (kind_of_form y ≡ NoKind)
+      × (kind_of_form y ≡ NoKind)
 
   over_no_parts : (tag : ℕ) (s : Scalar) (c d e : ℕ) →
       OfNoParts (Some (level tag (kind_number s.kind) s.width c d e)) → OfNoParts (over_scalar tag s c d e)
@@ -247,24 +247,24 @@ module _ (m : Module) (are : TypesAreCounted m) (stand : PartsStand m) where
 
     plain : (it : TypeInner) → t.inner ≡ it → (y : List ℕ) → nat_eq (get_or y 0 0) 8 ≡ false →
         ((index : Option ℕ) → PartIs (part_form (space_number at) (access_number at) y)
-            (pointed_part at it index)) → kind_at base it ≡ kind_of_form y →
+        (pointed_part at it index)) → kind_at base it ≡ kind_of_form y →
         (form : Option (List ℕ)) → form ≡ Some y → (x : List ℕ) → form ≡ Some x →
-            Pointed (inner.Pointer base at) (following at x)
+        Pointed (inner.Pointer base at) (following at x)
     plain it is y other parts kind form f x g =
         Plain (space_number at) (access_number at) y (ap (following at) (same_Some x y (sym g ∙ f))) other
         (λ index. subst (PartIs (part_form (space_number at) (access_number at) y))
-            (sym (parts_are it is index)) (parts index))
+        (sym (parts_are it is index)) (parts index))
         (kind_is it is ∙ kind)
 
     partless : (it : TypeInner) → t.inner ≡ it → ((index : Option ℕ) → pointed_part at it index ≡ None) →
         kind_at base it ≡ NoKind →
         (form : Option (List ℕ)) → OfNoParts form → (x : List ℕ) → form ≡ Some x →
-            Pointed (inner.Pointer base at) (following at x)
+        Pointed (inner.Pointer base at) (following at x)
     partless it is none kind None lacks x g = absurd cc
     partless it is none kind (Some y) lacks x g =
         plain it is y lacks.0
         (λ index. subst (λ o. PartIs o (pointed_part at it index))
-            (sym (lacks.1 (space_number at) (access_number at))) (subst (PartIs None) (sym (none index)) tt))
+        (sym (lacks.1 (space_number at) (access_number at))) (subst (PartIs None) (sym (none index)) tt))
         (kind ∙ sym lacks.2) (Some y) refl x g
 
     module _ (n : ℕ) (deep : base ≤ n) where
@@ -273,15 +273,15 @@ module _ (m : Module) (are : TypesAreCounted m) (stand : PartsStand m) where
           ((z : List ℕ) → nat_eq (get_or (size z) 0 0) 8 ≡ false) →
           ((z : List ℕ) → part_form (space_number at) (access_number at) (size z) ≡ Some (following at z)) →
           ((index : Option ℕ) → pointed_part at it index ≡ Some (Value (inner.Pointer element at))) →
-              ((z : List ℕ) → kind_at base it ≡ kind_of_form (size z)) →
+          ((z : List ℕ) → kind_at base it ≡ kind_of_form (size z)) →
           element < base →
           (o : Option (List ℕ)) → key_within n m.types element ≡ o → (x : List ℕ) → option_map size o ≡ Some x →
-              Pointed (inner.Pointer base at) (following at x)
+          Pointed (inner.Pointer base at) (following at x)
       elements it is element size other form parts kind before None f x g = absurd cc
       elements it is element size other form parts kind before (Some z) f x g =
           plain it is (size z) (other z)
           (λ index. subst (λ o. PartIs o (pointed_part at it index)) (sym (form z))
-              (subst (PartIs (Some (following at z))) (sym (parts index))
+          (subst (PartIs (Some (following at z))) (sym (parts index))
           (ap (pointer_key at) (sym (at_depth m stand n element (depth before deep)) ∙ f))))
           (kind z) (Some (size z)) refl x g
         where
@@ -310,12 +310,12 @@ module _ (m : Module) (are : TypesAreCounted m) (stand : PartsStand m) where
           by false word g = absurd cc
           by true word g =
               plain (inner.Matrix columns rows s) is
-                  (level 2 (kind_number s.kind) s.width (vector_number columns) (vector_number rows) 0) refl
+              (level 2 (kind_number s.kind) s.width (vector_number columns) (vector_number rows) 0) refl
               (λ index. value_pointer at named (over_scalar 1 s (vector_number rows) 0 0) _
-                  (scalar_is 1 s (vector_number rows) 0 0 word)) refl _ refl x g
+              (scalar_is 1 s (vector_number rows) 0 0 word)) refl _ refl x g
       pointee (inner.CooperativeMatrix columns rows s role) is x g =
           partless (inner.CooperativeMatrix columns rows s role) is (λ index. refl) refl _
-              (over_no_parts 3 s _ _ _ (refl, λ number access. refl, refl)) x g
+          (over_no_parts 3 s _ _ _ (refl, λ number access. refl, refl)) x g
       pointee (inner.Atomic s) is x g = partless (inner.Atomic s) is (λ index. refl) refl _
           (over_no_parts 4 s 0 0 0 (refl, λ number access. refl, refl)) x g
       pointee (inner.Pointer other to) is x g = partless (inner.Pointer other to) is (λ index. refl) refl _
@@ -324,16 +324,16 @@ module _ (m : Module) (are : TypesAreCounted m) (stand : PartsStand m) where
           partless (inner.ValuePointer k s to) is (λ index. refl) refl _ (value_pointer_no_parts to (value_key k s)) x g
       pointee (inner.Array element size stride) is x g =
           elements (inner.Array element size stride) is element
-              (λ it. level 6 (length_kind size) (length_number size) 0 0 0 ++ it)
+          (λ it. level 6 (length_kind size) (length_number size) 0 0 0 ++ it)
           (λ z. refl) (λ z. refl) (λ index. refl) (λ z. ap ElementKind (counted_by_form size))
           (ltb-true element base (sym (ap (parts_before base) is) ∙ stand base t there))
-              (key_within n m.types element) refl x g
+          (key_within n m.types element) refl x g
       pointee (inner.BindingArray element size) is x g =
           elements (inner.BindingArray element size) is element
-              (λ it. level 7 (length_kind size) (length_number size) 0 0 0 ++ it)
+          (λ it. level 7 (length_kind size) (length_number size) 0 0 0 ++ it)
           (λ z. refl) (λ z. refl) (λ index. refl) (λ z. ap ElementKind (counted_by_form size))
           (ltb-true element base (sym (ap (parts_before base) is) ∙ stand base t there))
-              (key_within n m.types element) refl x g
+          (key_within n m.types element) refl x g
       pointee (inner.Struct members span) is x g =
           Whole at base (ap (following at) (sym (same_Some _ x g))) refl (kind_is (inner.Struct members span) is)
       pointee (inner.Image dim arrayed c) is x g =
@@ -369,7 +369,7 @@ module _ (m : Module) (are : TypesAreCounted m) (stand : PartsStand m) where
           Pointed (inner.ValuePointer size s at) x
       after_word None named true word x g =
           Plain (space_number at) (access_number at) (level 0 (kind_number s.kind) s.width 0 0 0)
-              (same_Some x _ (sym g ∙ ap (pointer_key at) (scalar_is 0 s 0 0 0 word))) refl
+          (same_Some x _ (sym g ∙ ap (pointer_key at) (scalar_is 0 s 0 0 0 word))) refl
           (λ index. tt) refl
       after_word (Some k) named true word x g =
           Plain (space_number at) (access_number at)
@@ -379,13 +379,13 @@ module _ (m : Module) (are : TypesAreCounted m) (stand : PartsStand m) where
           (λ index. value_pointer at named (over_scalar 0 s 0 0 0) _ (scalar_is 0 s 0 0 0 word)) refl
       after_word None named false word x g =
           let none : None ≡ Some x =
-              sym (ap (λ b. pointer_key at (if b then Some (level 0 (kind_number s.kind) s.width 0 0 0)
-              else None)) word) ∙ g in absurd cc
+          sym (ap (λ b. pointer_key at (if b then Some (level 0 (kind_number s.kind) s.width 0 0 0)
+          else None)) word) ∙ g in absurd cc
       after_word (Some k) named false word x g =
           let none : None ≡ Some x =
-              sym (ap (λ b. pointer_key at
-              (if b then Some (level 1 (kind_number s.kind) s.width (vector_number k) 0 0) else None)) word)
-              ∙ g in absurd cc
+          sym (ap (λ b. pointer_key at
+          (if b then Some (level 1 (kind_number s.kind) s.width (vector_number k) 0 0) else None)) word)
+          ∙ g in absurd cc
 
       by : (b : Bool) → is_none (space_word at) ≡ b → (if b then None else pointer_key at (value_key size s))
           ≡ Some x → Pointed (inner.ValuePointer size s at) x
@@ -432,7 +432,7 @@ module _ (m : Module) (are : TypesAreCounted m) (stand : PartsStand m) where
       of_handle zero t there (inner.Pointer base at) is free pointer form = absurd cc
       of_handle (suc n) t there (inner.Pointer base at) is free pointer form =
           pointed_module base at free n
-              (depth (ltb-true base (suc n) (sym (ap (parts_before (suc n)) is) ∙ stand (suc n) t there)))
+          (depth (ltb-true base (suc n) (sym (ap (parts_before (suc n)) is) ∙ stand (suc n) t there)))
           (key_within (suc n) m.types base) refl x form
         where
           depth : base < suc n → base ≤ n
@@ -446,7 +446,7 @@ module _ (m : Module) (are : TypesAreCounted m) (stand : PartsStand m) where
       by h (Some t) there at form =
           of_handle h t there it (same_Some t.inner it at) free pointer
           (ap (named_key_by (key_within h m.types) h) (sym (same_Some t.inner it at))
-              ∙ (sym (ap (found_key_by (key_within h m.types) h) there) ∙ form))
+          ∙ (sym (ap (found_key_by (key_within h m.types) h) there) ∙ form))
 
   -- ---- a part of a pointer is fit
   abbrev pub FitPart : Option TypeResolution → Type 0
@@ -506,7 +506,7 @@ module _ (m : Module) (are : TypesAreCounted m) (stand : PartsStand m) where
       by None at (Some y) bt e = absurd (apart b q y (identity_code (identity m.types a)) bt (sym e))
       by None at None bt e =
           let same = sym (distinguished_by_itself m.types a (fit_of a p) at)
-              ∙ (word_tells m.types a b e ∙ distinguished_by_itself m.types b (fit_of b q) bt) in
+          ∙ (word_tells m.types a b e ∙ distinguished_by_itself m.types b (fit_of b q) bt) in
           Itselves (sym (itself_back (inner_of a m.types)) ∙ (ap itself same ∙ itself_back (inner_of b m.types)))
 
   parts_of_one : (o : Option TypeResolution) → FitPart o → PartsAlike o o
@@ -520,9 +520,12 @@ module _ (m : Module) (are : TypesAreCounted m) (stand : PartsStand m) where
   parts_of_form None None (Some s) f g p q = absurd g
   parts_of_form (Some z) None u f g p q = absurd f
   parts_of_form (Some z) (Some r) None f g p q = absurd g
-  parts_of_form (Some z) (Some r) (Some s) f g p q =
-      (ap (λ o. unwrap_or o (word_of_unspelled_type (identity m.types r))) f
-          ∙ sym (ap (λ o. unwrap_or o (word_of_unspelled_type (identity m.types s))) g), p, q)
+  parts_of_form (Some z) (Some r) (Some s) f g p q = (
+    ap (λ o. unwrap_or o (word_of_unspelled_type (identity m.types r))) f
+        ∙ sym (ap (λ o. unwrap_or o (word_of_unspelled_type (identity m.types s))) g),
+    p,
+    q,
+  )
 
   -- levels that are the same are of one space and one pointee
   record OneLevel (n a : ℕ) (y : List ℕ) (k b : ℕ) (z : List ℕ) : Type 0 where
@@ -534,8 +537,11 @@ module _ (m : Module) (are : TypesAreCounted m) (stand : PartsStand m) where
       x ≡ level 5 k b 0 0 0 ++ z → OneLevel n a y k b z
   one_level n a y k b z x f g =
       let same : level 5 n a 0 0 0 ++ y ≡ level 5 k b 0 0 0 ++ z = sym f ∙ g in
-      record { numbers = ap (λ x. get_or x 1 0) same; accesses = ap (λ x. get_or x 2 0) same;
-          followings = ap (drop 6) same }
+      record {
+        numbers = ap (λ x. get_or x 1 0) same;
+        accesses = ap (λ x. get_or x 2 0) same;
+        followings = ap (drop 6) same;
+      }
 
   -- a struct's form is none of a type that is none
   not_whole : {A : Type 0} (y : List ℕ) (h : ℕ) → nat_eq (get_or y 0 0) 8 ≡ false → y ≡ level 8 h 0 0 0 0 → A
@@ -573,7 +579,7 @@ module _ (m : Module) (are : TypesAreCounted m) (stand : PartsStand m) where
   pub alike_places : (a b : TypeResolution) → IsFit m a → IsFit m b → type_identity m.types a
       ≡ type_identity m.types b →
       (ia ib : TypeInner) → inner_of a m.types ≡ Some ia → inner_of b m.types ≡ Some ib → is_pointer ia ≡ true →
-          is_pointer ib ≡ true → AlikePlaces ia ib
+      is_pointer ib ≡ true → AlikePlaces ia ib
   alike_places a b p q e ia ib at bt first second = by (alike a b p q e)
     where
       free : IsFree ia
@@ -590,24 +596,24 @@ module _ (m : Module) (are : TypesAreCounted m) (stand : PartsStand m) where
       both x (Plain n k y f other parts kind) (Plain l j z g another others other_kind) =
           let one = one_level n k y l j z x f g in
           OneKind (one_kind (pointee_kind m.types ia) y z kind one.followings ∙ sym other_kind)
-              (ap has_members kind ∙ no_members_of_form y) (λ index.
+          (ap has_members kind ∙ no_members_of_form y) (λ index.
           parts_of_form (part_form n k y) (part_type m.types ia index) (part_type m.types ib index) (parts index)
           (subst (λ o. PartIs o (part_type m.types ib index))
-              (sym (λ i. part_form (one.numbers i) (one.accesses i) (one.followings i))) (others index))
+          (sym (λ i. part_form (one.numbers i) (one.accesses i) (one.followings i))) (others index))
           (part_fits ia free first index) (part_fits ib loose second index))
       both x (Plain n k y f other parts kind) (Whole at h g is members) =
           not_whole y h other (one_level n k y (space_number at) (access_number at)
-              (level 8 h 0 0 0 0) x f g).followings
+          (level 8 h 0 0 0 0) x f g).followings
       both x (Whole at h f is members) (Plain n k y g other parts kind) =
           not_whole y h other (one_level n k y (space_number at) (access_number at)
-              (level 8 h 0 0 0 0) x g f).followings
+          (level 8 h 0 0 0 0) x g f).followings
       both x (Whole at h f is members) (Whole to j g other others) =
           let one = one_level (space_number at) (access_number at) (level 8 h 0 0 0 0) (space_number to)
-              (access_number to) (level 8 j 0 0 0 0) x f g in
+          (access_number to) (level 8 j 0 0 0 0) x f g in
           let bases : h ≡ j = ap (λ y. get_or y 1 0) one.followings in
           OneStruct h at to is (other ∙ ap (λ base. inner.Pointer base to) (sym bases)) members
           (one_spelling (space_number at) (access_number at) (space_number to) (access_number to) one.numbers
-              one.accesses)
+          one.accesses)
 
       by : Alike a b → AlikePlaces ia ib
       by (OneForm x f g) = both x (pointed a ia free at first x f) (pointed b ib loose bt second x g)

@@ -57,9 +57,9 @@ scalar_read k n = Named (unwrap_or (scalar_word_of (kind_of k) n) [])
 abbrev space_read : ℕ → Option (List ℕ)
 space_read n =
     get_or (Some (codes "function") ∷ Some (codes "private") ∷ Some (codes "workgroup") ∷ Some (codes "uniform")
-        ∷ Some (codes "storage") ∷ None ∷
+    ∷ Some (codes "storage") ∷ None ∷
     Some (codes "immediate") ∷ Some (codes "task_payload") ∷ Some (codes "ray_payload")
-        ∷ Some (codes "incoming_ray_payload") ∷ []) n None
+    ∷ Some (codes "incoming_ray_payload") ∷ []) n None
 
 abbrev buffer_access_read : ℕ → Option (List ℕ)
 buffer_access_read n = get_or (None ∷ Some (codes "read_write") ∷ Some (codes "atomic") ∷ []) n None
@@ -71,7 +71,7 @@ pointer_read (Some word) access pointee = pointer_tree word access pointee
 abbrev array_read : (under : Names) → List ℕ → (length number : ℕ) → TypeSpecifier → TypeSpecifier
 array_read under word l n element =
     get_or (Template word (TypeArgument element (SizeArgument n NoTemplateArguments)) ∷ of_two word element
-        (Named (under.override_name n)) ∷ []) l (of_one word element)
+    (Named (under.override_name n)) ∷ []) l (of_one word element)
 
 abbrev access_read : ℕ → List ℕ
 access_read n = get_or (codes "write" ∷ codes "read" ∷ codes "read_write" ∷ codes "atomic" ∷ []) n []
@@ -85,7 +85,7 @@ image_read dim arrayed c d e =
     of_one (image_word (codes "texture_") (truth_of e) dim arrayed) (scalar_read d 4) ∷
     Named (image_word (codes "texture_depth_") (truth_of d) dim arrayed) ∷
     of_two (image_word (codes "texture_storage_") false dim arrayed) (Named (format_word (format_read d)))
-        (Named (access_read e)) ∷
+    (Named (access_read e)) ∷
     []
     ) c (Named (codes "texture_external"))
 
@@ -255,14 +255,14 @@ image_is_read under dim arrayed (class.Sampled k multi) =
     let s : Scalar = record { kind = k; width = 4 } in
     over_is_read under (scalar_word s) (of_one (image_word (codes "texture_") multi dim arrayed)) _
     (λ i. of_one (image_word (codes "texture_") (truth_distinguished multi i) (dimension_distinguished dim i)
-        (truth_distinguished arrayed i)) (scalar_is_read s i))
+    (truth_distinguished arrayed i)) (scalar_is_read s i))
 image_is_read under dim arrayed (class.Depth multi) =
     λ i. Some (Named (image_word (codes "texture_depth_") (sym (truth_distinguished multi) i)
     (sym (dimension_distinguished dim) i) (sym (truth_distinguished arrayed) i)))
 image_is_read under dim arrayed class.External = refl
 image_is_read under dim arrayed (class.Storage f access) =
     let access_distinguished = image_access_is_read (has atomic_bit access) (has load_bit access)
-        (has store_bit access) in
+    (has store_bit access) in
     λ i. Some (of_two
     (image_word (codes "texture_storage_") false (sym (dimension_distinguished dim) i)
     (sym (truth_distinguished arrayed) i))
@@ -277,12 +277,12 @@ module _ (under : Names) where
   inner_is_read f g same (inner.Vector n s) = value_form_is_read under (Some n) s
   inner_is_read f g same (inner.Matrix columns rows s) =
       over_is_read under (scalar_word s) (of_one (matrix_word columns rows)) _
-          (λ i. of_one (matrix_word (vector_distinguished columns i) (vector_distinguished rows i))
-          (scalar_is_read s i))
+      (λ i. of_one (matrix_word (vector_distinguished columns i) (vector_distinguished rows i))
+      (scalar_is_read s i))
   inner_is_read f g same (inner.CooperativeMatrix columns rows s role) =
       over_is_read under (scalar_word s) (λ t. of_two (cooperative_word columns rows) t (Named (role_word role))) _
       (λ i. of_two (cooperative_word (cooperative_distinguished columns i) (cooperative_distinguished rows i))
-          (scalar_is_read s i) (Named (role_word (role_distinguished role i))))
+      (scalar_is_read s i) (Named (role_word (role_distinguished role i))))
   inner_is_read f g same (inner.Atomic s) = over_is_read under (scalar_word s) (of_one (codes "atomic")) _
       (λ i. of_one (codes "atomic") (scalar_is_read s i))
   inner_is_read f g same (inner.Pointer base at) = pointer_is_read under at (g base) (f base) (same base)

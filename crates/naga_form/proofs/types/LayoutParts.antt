@@ -75,7 +75,7 @@ place_is : (f : ℕ → Option Layout) (k : ir_member.StructMember) (p : Placed)
     (k.binding ≡ None) × (f k.ty ≡ Some p.layout)
 place_is f k p is =
     let parts = if_some (is_none k.binding)
-        (option_map (λ l. record { layout = l; offset = k.offset }) (f k.ty)) p is in
+    (option_map (λ l. record { layout = l; offset = k.offset }) (f k.ty)) p is in
     let own = map_some (λ (l : Layout). record { layout = l; offset = k.offset }) (f k.ty) p parts.1 in
     (none k.binding parts.0, own.1 ∙ ap (λ l. Some l) (ap (λ (p : Placed). p.layout) own.2))
   where
@@ -100,14 +100,14 @@ module _ (m : Module) (names : NameMap) (t : TypeNames) (h : ℕ) (f : List ℕ 
     (reads : (b : ℕ) (l : Layout) → b < h → layout_in m b ≡ Some l → type_layout_by f (type_form t b) ≡ Some l) where
   one_laid : (i : ℕ) (k : ir_member.StructMember) (p : Placed) (w : Member) →
       placed_member (layout_in m) k ≡ Some p → nat_lt k.ty h ≡ true → w.layout ≡ p.layout → written_size m h i
-          ≡ w.given →
+      ≡ w.given →
       member_laid f (member_form names t m h (i, k)) ≡ Some w
   one_laid i k p w placed before have given =
       let is = place_is (layout_in m) k p placed in
       ap (option_map (λ l. record { layout = l; given = size_read (member_attributes (written_size m h i) k.binding) }))
       (reads k.ty p.layout (ltb-true k.ty h before) is.1)
       ∙ (ap (λ b. Some
-          (record { layout = p.layout; given = size_read (member_attributes (written_size m h i) b) })) is.0
+      (record { layout = p.layout; given = size_read (member_attributes (written_size m h i) b) })) is.0
       ∙ (ap (λ g. Some (record { layout = p.layout; given = g })) (size_is (written_size m h i) ∙ given)
       ∙ ap (λ l. Some (record { layout = l; given = w.given })) (sym have)))
 
@@ -138,9 +138,9 @@ module _ (m : Module) (names : NameMap) (t : TypeNames) (h : ℕ) (f : List ℕ 
           let rest =
           left ws have.1
           (λ j v at. let next : i + 1 + j ≡ i + suc j = omega arith in ap (written_size m h) next
-              ∙ sizes (suc j) v at) in
+          ∙ sizes (suc j) v at) in
           ap (option_and_then (λ k. option_map (λ ks. k ∷ ks)
-              (members_laid f (map (member_form names t m h) (enumerate_from (i + 1) more))))) one
+          (members_laid f (map (member_form names t m h) (enumerate_from (i + 1) more))))) one
           ∙ ap (option_map (λ ks. w ∷ ks)) rest
 
 -- ---- types
@@ -206,7 +206,7 @@ module _ (m : Module) (structs : List Struct) (count : ℕ → ℕ) (order : Sta
       IsConcerned h it ks
   concerned_parts h it ks is =
       let parts = if_some (is_declared m.special_types h it)
-          (option_and_then concerned_only (placed_members (layout_in m) (members_of it))) ks is in
+      (option_and_then concerned_only (placed_members (layout_in m) (members_of it))) ks is in
       let own = then_some concerned_only (placed_members (layout_in m) (members_of it)) ks parts.1 in
       let only = only_concerned own.0 ks own.2 in record {
         declared = parts.0;
@@ -217,7 +217,7 @@ module _ (m : Module) (structs : List Struct) (count : ℕ → ℕ) (order : Sta
   concerned_from : (h : ℕ) (it : TypeInner) (ks : List Placed) → IsConcerned h it ks → concerned_of m h it ≡ Some ks
   concerned_from h it ks is =
       ap (λ b. if b then option_and_then concerned_only (placed_members (layout_in m) (members_of it))
-          else None) is.declared
+      else None) is.declared
       ∙ (ap (option_and_then concerned_only) is.placed ∙ ap (λ b. if b then Some ks else None) is.concerned)
 
   sizes_are : (h : ℕ) (it : TypeInner) (ks : List Placed) → IsTypeAt h it → IsConcerned h it ks → (j : ℕ) (w : Member) →
@@ -236,9 +236,9 @@ module _ (m : Module) (structs : List Struct) (count : ℕ → ℕ) (order : Sta
   struct_members_read h it ks f type is reads =
       ap (option_and_then (λ s. members_laid f s.members)) (type.declared is.declared).found
       ∙ laid_from m (module_names m) (type_names m) h f reads 0 (members_of it) ks
-          (written_members (span_of it) ks) is.placed
+      (written_members (span_of it) ks) is.placed
       (members_before h it type.before) (sized_have_layouts (greatest_placed 0 ks) (span_of it) ks)
-          (sizes_are h it ks type is)
+      (sizes_are h it ks type is)
 
   -- ---- at a handle
   -- The type at a handle, if it has a layout, is read as it is, at depths and levels that suffice.
@@ -274,7 +274,7 @@ module _ (m : Module) (structs : List Struct) (count : ℕ → ℕ) (order : Sta
     named_read it ks l type is laid zero le = absurd (omega arith)
     named_read it ks l type is laid (suc levels) le =
         ap (option_and_then struct_layout) (struct_members_read h it ks (struct_within levels structs) type is
-            (forms_read levels (omega arith)))
+        (forms_read levels (omega arith)))
         ∙ laid
 
     struct_is_read : (depth levels : ℕ) (it : TypeInner) (ks : List Placed) (l : Layout) → IsTypeAt h it →
@@ -287,14 +287,14 @@ module _ (m : Module) (structs : List Struct) (count : ℕ → ℕ) (order : Sta
           is = refl;
           reads =
               ap (scalar_or_struct (struct_within levels structs) ((type_names m).struct_name h))
-                  (no_scalar ((type_names m).struct_name h) own.named)
+              (no_scalar ((type_names m).struct_name h) own.named)
               ∙ named_read it ks l type is laid levels (subst (λ c. c ≤ levels) own.next le);
         }
 
     array_read : (n : ArraySize) (length : Option ℕ) → told_length n ≡ Some length →
         (f : List ℕ → Option Layout) (e : Layout) (tree : TypeSpecifier) →
         type_layout_by f tree ≡ Some e → type_layout_by f (array_tree (type_names m) (codes "array") n tree)
-            ≡ array_layout length e
+        ≡ array_layout length e
     array_read (size.Constant number) length told f e tree reads =
         ap (option_and_then (array_layout (Some (non_zero_u32_get number)))) reads
         ∙ ap (λ n. array_layout n e) (same_Some (Some (non_zero_u32_get number)) length told)
@@ -306,10 +306,10 @@ module _ (m : Module) (structs : List Struct) (count : ℕ → ℕ) (order : Sta
         base < h →
         option_and_then (λ length. option_and_then (array_layout length) (layout_in m base)) (told_length n) ≡ Some l →
         IsRead structs levels l (option_map (array_tree (type_names m) (codes "array") n)
-            (tree_within depth (type_names m) base))
+        (tree_within depth (type_names m) base))
     array_is_read depth levels base n l deep le lt is =
         let told = then_some (λ length. option_and_then (array_layout length) (layout_in m base))
-            (told_length n) l is in
+        (told_length n) l is in
         let element = then_some (array_layout told.0) (layout_in m base) l told.2 in
         let fewer = more (suc base) (suc h) (omega arith) in
         let r = below base lt element.0 element.1 depth levels (omega arith) (omega arith) in record {
@@ -355,7 +355,7 @@ module _ (m : Module) (structs : List Struct) (count : ℕ → ℕ) (order : Sta
         array_is_read depth levels base n l deep le (ltb-true base h type.before) is
     inner_is_read depth levels deep le (inner.Struct members span) type l is =
         let declared = if_some (not (is_undeclared m.special_types h))
-            (kept_struct (layout_in m) members.items span) l is in
+        (kept_struct (layout_in m) members.items span) l is in
         let kept = then_some (kept_members span) (placed_members (layout_in m) members.items) l declared.1 in
         let is = concerns kept.0 span l kept.2 in
         struct_is_read depth levels (inner.Struct members span) kept.0 l type
@@ -367,7 +367,7 @@ module _ (m : Module) (structs : List Struct) (count : ℕ → ℕ) (order : Sta
   unfolding layout_at
   has_type h l is =
       let found = then_some (λ ty. named_layout_by (module_rule m) (layout_within h (module_rule m) m.types) h
-          ty.inner) (slice_get m.types h) l is in
+      ty.inner) (slice_get m.types h) l is in
       (found.0, found.1)
 
   below_read : (n h : ℕ) → h < n → Reads h
@@ -377,9 +377,9 @@ module _ (m : Module) (structs : List Struct) (count : ℕ → ℕ) (order : Sta
       let own = has_type h l is in
       let named = sym (layout_is (module_rule m) m.types order h own.0 own.1) ∙ is in
       subst (λ o. IsRead structs levels l (found_tree_by (type_names m) (tree_within depth (type_names m)) h o))
-          (sym own.1)
+      (sym own.1)
       (inner_is_read h (λ b low. below_read n b (omega arith)) depth levels (omega arith) le own.0.inner
-          (type_at h own.0 own.1) l named)
+      (type_at h own.0 own.1) l named)
 
   -- ---- structs that are concerned, at as many levels as suffice
   concerned_is : (h : ℕ) (ty : Type_) (ks : List Placed) → slice_get m.types h ≡ Some ty → concerned_members m h
@@ -394,7 +394,7 @@ module _ (m : Module) (structs : List Struct) (count : ℕ → ℕ) (order : Sta
 
     pub members_are_read :
         members_named (struct_within levels structs) structs ((type_names m).struct_name h)
-            ≡ Some (written_members (span_at m h) ks)
+        ≡ Some (written_members (span_at m h) ks)
     members_are_read =
         struct_members_read h ty.inner ks (struct_within levels structs) (type_at h ty at) (concerned_is h ty ks at is)
         (forms_read h (below_read h) levels (omega (arith, enough)))

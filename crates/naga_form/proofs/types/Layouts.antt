@@ -122,11 +122,11 @@ stands_there w (x ∷ xs) i s place at = by (bytes_eq w x.name) refl place (λ i
     by : (b : Bool) → bytes_eq w x.name ≡ b →
         (if b then Some 0 else option_map (λ i. suc i) (place_among w (map (λ s. s.name) xs))) ≡ Some i →
         ((i : ℕ) → place_among w (map (λ s. s.name) xs) ≡ Some i → slice_get xs i ≡ Some s →
-            find (λ s. bytes_eq s.name w) xs ≡ Some s) →
+        find (λ s. bytes_eq s.name w) xs ≡ Some s) →
         (if bytes_eq x.name w then Some x else find (λ s. bytes_eq s.name w) xs) ≡ Some s
     by true same place left =
         ap (λ b. if b then Some x else find (λ s. bytes_eq s.name w) xs)
-            ((bytes_eq-Decides x.name w).1 (sym ((bytes_eq-Decides w x.name).0 same)))
+        ((bytes_eq-Decides x.name w).1 (sym ((bytes_eq-Decides w x.name).0 same)))
         ∙ (ap (slice_get (x ∷ xs)) (same_Some 0 i place) ∙ at)
     by false other place left =
         let k = map_some (λ (i : ℕ). suc i) (place_among w (map (λ s. s.name) xs)) i place in
@@ -163,7 +163,7 @@ module _ (m : Module) (info : ModuleInfo) (flags : WriterFlags) (labels : LabelN
       let has = type_has m h ty at in record {
         found =
             subst (λ w. struct_named program.structs w
-                ≡ Some (record { name = w; members = (form (h, ty)).members })) (sym same)
+            ≡ Some (record { name = w; members = (form (h, ty)).members })) (sym same)
             (stands_there (name_in (module_names m) (key.Type_ h)) program.structs (struct_number m h) (form (h, ty))
             (struct_found m info flags labels h ty at is) (struct_at m info flags labels h ty at is));
         named = subst IsIdentifier (sym same) (item_is_identifier m (key.Type_ h, has.0) has.1);
@@ -183,28 +183,28 @@ module _ (m : Module) (info : ModuleInfo) (flags : WriterFlags) (labels : LabelN
     are_kept_here h ks is concerned =
         all_kept ks concerned
         (false_from_ne_true (is_off_alignment ks)
-            (λ e. forms.offsets h OffAlignment (record { members = ks; concerned = is; stands = e })))
+        (λ e. forms.offsets h OffAlignment (record { members = ks; concerned = is; stands = e })))
         (false_from_ne_true (overlaps ks) (λ e. forms.offsets h Overlapping
-            (record { members = ks; concerned = is; stands = e })))
+        (record { members = ks; concerned = is; stands = e })))
 
     keeps_one : (h : ℕ) (ty : Type_) (ks : List Placed) → slice_get m.types h ≡ Some ty → concerned_members m h
         ≡ Some ks →
         AllAligned ks → is_concerned ks ≡ true → KeepsLayout program.structs ((type_names m).struct_name h)
-            (span_at m h) ks
+        (span_at m h) ks
     unfolding struct_layout_read
     keeps_one h ty [] at is aligned concerned = absurd cc
     keeps_one h ty (k ∷ left) at is aligned concerned =
         let kept = are_kept_here h (k ∷ left) is concerned in record {
           offsets =
               ap (option_map offsets_of) (members_are_read m program.structs count order are_found more h ty
-                  (k ∷ left) at is (length program.structs) (are_counted (suc h)))
+              (k ∷ left) at is (length program.structs) (are_counted (suc h)))
               ∙ ap (λ os. Some os) (offsets_kept (span_at m h) k left aligned kept);
           size = λ room.
               ap (option_and_then (λ l. l.size))
               (struct_is_laid m program.structs count order are_found more h ty (k ∷ left) at is
-                  (length program.structs) (are_counted (suc h))
+              (length program.structs) (are_counted (suc h))
               (ended (span_at m h) (greatest_placed 0 (k ∷ left)) (last_of k left))
-                  (struct_kept (span_at m h) k left aligned kept))
+              (struct_kept (span_at m h) k left aligned kept))
               ∙ span_kept (span_at m h) k left aligned kept room;
         }
 
@@ -215,7 +215,7 @@ module _ (m : Module) (info : ModuleInfo) (flags : WriterFlags) (labels : LabelN
         named_layout_by (module_rule m) (layout_in m) h it ≡ Some l
     own_layout h (inner.Struct members span) ks l declared placed kept laid =
         ap (λ b. if b then kept_struct (layout_in m) members.items span else None)
-            (and_parts true (not (is_undeclared m.special_types h)) declared).1
+        (and_parts true (not (is_undeclared m.special_types h)) declared).1
         ∙ (ap (option_and_then (kept_members span)) placed
         ∙ (ap (λ b. if b then struct_layout (written_members span ks) else None) kept ∙ laid))
     own_layout h _ ks l declared placed kept laid = absurd cc
@@ -234,7 +234,7 @@ module _ (m : Module) (info : ModuleInfo) (flags : WriterFlags) (labels : LabelN
         let whole = ended (span_at m h) (greatest_placed 0 (k ∷ left)) (last_of k left) in
         let laid = struct_kept (span_at m h) k left aligned kept in
         struct_is_laid m program.structs count order are_found more h ty (k ∷ left) at is
-            (length program.structs) (are_counted (suc h)) whole laid
+        (length program.structs) (are_counted (suc h)) whole laid
         ∙ ap (λ l. Some l)
         (sym (told_alike (module_rule m) m.types h l whole told
         (layout_is (module_rule m) m.types order h ty at
@@ -247,7 +247,7 @@ module _ (m : Module) (info : ModuleInfo) (flags : WriterFlags) (labels : LabelN
         let parts = concerned_parts m program.structs count order are_found more h own.0.inner ks own.2 in
         subst (λ w. struct_layout_read program.structs w ≡ Some l) (or_nothing (module_names m (key.Type_ h)))
         (tells_one h own.0 ks l own.1 is (members_aligned (layout_in m) (all_aligned (module_rule m) m.types)
-            (members_of own.0.inner) ks parts.placed)
+        (members_of own.0.inner) ks parts.placed)
         parts.concerned parts.declared parts.placed told)
 
     keeps : KeepsLayouts m program
@@ -256,7 +256,7 @@ module _ (m : Module) (info : ModuleInfo) (flags : WriterFlags) (labels : LabelN
         let parts = concerned_parts m program.structs count order are_found more h own.0.inner ks own.2 in
         subst (λ w. KeepsLayout program.structs w (span_at m h) ks) (or_nothing (module_names m (key.Type_ h)))
         (keeps_one h own.0 ks own.1 is (members_aligned (layout_in m) (all_aligned (module_rule m) m.types)
-            (members_of own.0.inner) ks parts.placed) parts.concerned)
+        (members_of own.0.inner) ks parts.placed) parts.concerned)
 
 -- an accepted module's layouts are kept, where all that it declares has a form
 pub keeps_layouts : (m : Module) (info : ModuleInfo) (flags : WriterFlags) (labels : LabelNames) →

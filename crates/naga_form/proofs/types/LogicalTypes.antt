@@ -74,7 +74,7 @@ module _ (m : ir_module.Module) where
             ≡ level 0 3 1 0 0 0 → is_bool_of s.kind s.width ≡ true
         by true e =
             ap (λ k. is_bool_of k s.width) (boolean_kind s.kind (ap (λ xs. get_or xs 1 0) e))
-                ∙ ap (λ w. is_bool_of kind.Bool w) (ap (λ xs. get_or xs 2 0) e)
+            ∙ ap (λ w. is_bool_of kind.Bool w) (ap (λ xs. get_or xs 2 0) e)
         by false e = let blank : 32 ≡ 0 = ap (λ xs. get_or xs 0 0) e in absurd (omega (arith, blank))
 
     boolean_values : (r : TypeResolution) → IsFit m r → type_of_values m r ≡ BooleanType →
@@ -112,7 +112,7 @@ module _ (m : ir_module.Module) (info : ModuleInfo) (are : TypesAreCounted m) (f
       own_alike p wants =
           (bytes_eq-Decides (type_identity m.types own.0) (type_identity m.types p)).0
           (sym (ap (λ w. is_expected m.types w own.0) wants)
-              ∙ sound.typed h (expression.Binary op left right) own.0 at own.1)
+          ∙ sound.typed h (expression.Binary op left right) own.0 at own.1)
 
       by : (x : ValueType) → value left ≡ x → (z : ValueType) → value h ≡ z → LogicalFits x z
       by BooleanType is z gives =
@@ -123,5 +123,5 @@ module _ (m : ir_module.Module) (info : ModuleInfo) (are : TypesAreCounted m) (f
           ∙ values_by_numbers m are own.0 boolean (sound.fits h own.0 own.1) (refl, tt, refl)
           (own_alike boolean (wanted ∙ (ap (λ o. logical_type (option_and_then (λ r. inner_of r m.types) o)) operand.1
           ∙ ap (λ c. if c then LikeThis boolean else Anything)
-              (boolean_values m are operand.0 (sound.fits left operand.0 operand.1) truth))))
+          (boolean_values m are operand.0 (sound.fits left operand.0 operand.1) truth))))
       by x is z gives = tt

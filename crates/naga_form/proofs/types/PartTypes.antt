@@ -46,7 +46,7 @@ module _ (m : Module) (info : ModuleInfo) (accepted : IsTrue (is_accepted m info
       let here : 0 + h ≡ h = omega arith in
       ends_before h t.inner
       (sym (ap (λ n. parts_before n t.inner) here) ∙ placed_at (λ here (t : Type_). parts_before here t.inner) 0
-          m.types h t
+      m.types h t
       (and_parts (parts_stand_before m.types) _ (types_range m info accepted)).0 at)
 
   -- so do those of a type that is known

@@ -81,8 +81,11 @@ module _ (m : ir_module.Module) where
       by : (o : Option TypeInner) → inner_of r m.types ≡ o → option_map_or is_integer o false ≡ true →
           (w : Bytes) × (type_of_values m r ≡ IntegerType w)
       by None at is = absurd cc
-      by (Some (inner.Scalar s)) at is = (word_of_values m r, values_are m r (inner.Scalar s) at
-          ∙ integer_of s.kind (word_of_values m r) is)
+      by (Some (inner.Scalar s)) at is = (
+        word_of_values m r,
+        values_are m r (inner.Scalar s) at
+            ∙ integer_of s.kind (word_of_values m r) is,
+      )
       by (Some _) at is = absurd cc
 
 module _ (m : ir_module.Module) (info : ModuleInfo) (accepted : IsTrue (is_accepted m info))
@@ -160,7 +163,7 @@ module _ (m : ir_module.Module) (info : ModuleInfo) (accepted : IsTrue (is_accep
       index_values =
           integer_values m i.r
           (sym (ap (λ o. option_map_or is_integer (option_and_then (λ r. inner_of r m.types) o) false) i.there)
-              ∙ demanded.1)
+          ∙ demanded.1)
 
       element_fits : (whole : Bytes) → type_of_values m b.r ≡ PointerType whole → (n : ℤ) →
           IsPart (parts whole) (step_at (parts whole) n) (type_of_values m (own accessed at).r)
@@ -168,12 +171,12 @@ module _ (m : ir_module.Module) (info : ModuleInfo) (accepted : IsTrue (is_accep
           let a = pointer_is base b whole is in
           let p = some_there (part_type m.types a.it None)
           (sym (ap (λ o. option_map_or (has_computed_parts m.types)
-              (option_and_then (λ r. inner_of r m.types) o) false) b.there
+          (option_and_then (λ r. inner_of r m.types) o) false) b.there
           ∙ ap (λ o. option_map_or (has_computed_parts m.types) o false) a.itself) ∙ demanded.0) in
           element_at m info accepted distinguished b.r whole a p.0 p.1 (own accessed at).r (own accessed at).fit
           (own_alike accessed at p.0
           (ap (λ o. only (option_and_then (λ it. part_type m.types it None)
-              (option_and_then (λ r. inner_of r m.types) o))) b.there
+          (option_and_then (λ r. inner_of r m.types) o))) b.there
           ∙ (ap (λ o. only (option_and_then (λ it. part_type m.types it None) o)) a.itself ∙ ap only p.1)))
 
       access_by : (x : ValueType) → type_of_values m b.r ≡ x → (y : ValueType) → type_of_values m i.r ≡ y →
@@ -190,7 +193,7 @@ module _ (m : ir_module.Module) (info : ModuleInfo) (accepted : IsTrue (is_accep
         let operands = operands_known m info (Some function) g sound h (expression.Access base index) at in
         let b = known_as base operands.0.0 operands.0.1 in let i = known_as index operands.1.0.0 operands.1.0.1 in
         access_by base index at b i (handle_type shape base) (sym b.values) (handle_type shape index)
-            (sym i.values) (handle_type shape h) (sym (own (expression.Access base index) at).values)
+        (sym i.values) (handle_type shape h) (sym (own (expression.Access base index) at).values)
 
     -- a part that is named
     module _ (base index : ℕ)
@@ -206,13 +209,13 @@ module _ (m : ir_module.Module) (info : ModuleInfo) (accepted : IsTrue (is_accep
           supported
           (part_of m info (types_known es) index s a.it a.points (handle_of b.r)
           (sym (ap (option_and_then (λ r. option_and_then
-              (λ it. selector (declared m info (types_known es)) (handle_of r) it index) (inner_of r m.types))) b.there
+          (λ it. selector (declared m info (types_known es)) (handle_of r) it index) (inner_of r m.types))) b.there
           ∙ ap (option_and_then (λ it. selector (declared m info (types_known es)) (handle_of b.r) it index))
-              a.itself) ∙ selected)
+          a.itself) ∙ selected)
           (sym (ap (λ o. option_map_or (λ it. is_part_number m.types it index)
-              (option_and_then (λ r. inner_of r m.types) o) false) b.there
+          (option_and_then (λ r. inner_of r m.types) o) false) b.there
           ∙ ap (λ o. option_map_or (λ it. is_part_number m.types it index) o false) a.itself)
-              ∙ sound.demands h named at))
+          ∙ sound.demands h named at))
         where
           a : IsPointer m info accepted distinguished b.r whole
           a = pointer_is base b whole is
@@ -222,20 +225,20 @@ module _ (m : ir_module.Module) (info : ModuleInfo) (accepted : IsTrue (is_accep
           part_wanted p part =
               own_alike named at p
               (ap (λ o. if_any (option_and_then (λ it. part_type m.types it (Some index))
-                  (option_and_then (λ r. inner_of r m.types) o))) b.there
+              (option_and_then (λ r. inner_of r m.types) o))) b.there
               ∙ (ap (λ o. if_any (option_and_then (λ it. part_type m.types it (Some index)) o)) a.itself
-                  ∙ ap if_any part))
+              ∙ ap if_any part))
 
           supported : NamedPart m info (types_known es) a.it index s →
               IsPart (parts whole) (step_to (parts whole) s) (type_of_values m (own named at).r)
           supported (ElementPart p there any step) =
               element_to m info accepted distinguished b.r whole a p any (own named at).r (own named at).fit
-                  (part_wanted p there) s (pos index) step
+              (part_wanted p there) s (pos index) step
           supported (MemberPart k) =
               member_to m info accepted distinguished b.r whole a index s (types_known es) k (own named at).r
-                  (own named at).fit
+              (own named at).fit
               (part_wanted (Value (inner.Pointer k.member.ty k.at))
-                  (member_is m info (types_known es) a.it index s k)) (record {
+              (member_is m info (types_known es) a.it index s k)) (record {
                 function = Some function;
                 group = g;
                 sound = sound;
@@ -264,13 +267,13 @@ module _ (m : ir_module.Module) (info : ModuleInfo) (accepted : IsTrue (is_accep
         let operands = operands_known m info (Some function) g sound h (expression.AccessIndex base index) at in
         let b = known_as base operands.0.0 operands.0.1 in
         named_by base index at b s selected (handle_type shape base) (sym b.values) (handle_type shape h)
-            (sym (own (expression.AccessIndex base index) at).values)
+        (sym (own (expression.AccessIndex base index) at).values)
 
     -- `&&` and `||`
     logical_fits : (op : BinaryOperator) (left right : ℕ) → slice_get function.expressions h
         ≡ Some (expression.Binary op left right) →
         binary_type op (known_inner m.types g.known left) ≡ logical_type (known_inner m.types g.known left) →
-            LogicalFits (handle_type shape left) (handle_type shape h)
+        LogicalFits (handle_type shape left) (handle_type shape h)
     logical_fits op left right at wanted =
         let same = λ (k : ℕ). handle_type_is m info function es k in
         subst (λ k. LogicalFits k (handle_type shape h)) (sym (same left))
@@ -349,8 +352,8 @@ module _ (m : ir_module.Module) (info : ModuleInfo) (accepted : IsTrue (is_accep
         (length components.items))) (no_constructor (Handle ty) (length components.items))
     shape_fits (expression.As operand to convert) at =
         applied_fits Result (operand ∷ []) tt
-            (Some (cast (expression_context m (types_known es)) to convert
-            (type_known (expression_context m (types_known es)) operand))) (no_cast _ _ _)
+        (Some (cast (expression_context m (types_known es)) to convert
+        (type_known (expression_context m (types_known es)) operand))) (no_cast _ _ _)
     shape_fits (expression.Load pointer) at = by (is_atomic_pointer (expression_context m (types_known es)) pointer)
       where
         by : (b : Bool) → PartsFit parts shape (handle_type shape h)
@@ -360,8 +363,8 @@ module _ (m : ir_module.Module) (info : ModuleInfo) (accepted : IsTrue (is_accep
     shape_fits (expression.ImageQuery image q) at = applied_fits Result _ tt (Some (query_operator q)) (no_query q)
     shape_fits (expression.CooperativeLoad columns rows role place) at =
         applied_fits Result _ tt
-            (Some (matrix_load (expression_context m (types_known es)) columns rows role place))
-            (no_matrix_load place.row_major _ _)
+        (Some (matrix_load (expression_context m (types_known es)) columns rows role place))
+        (no_matrix_load place.row_major _ _)
     shape_fits (expression.ImageSample image sampler gather coordinate array_index offset level depth_ref clamp) at = tt
     shape_fits e at = tt
 
@@ -369,7 +372,7 @@ module _ (m : ir_module.Module) (info : ModuleInfo) (accepted : IsTrue (is_accep
     pub parts_fit : PartsFit (module_shape m info).parts shape (handle_type shape h) (expression_of shape h)
     parts_fit =
         subst (PartsFit parts shape (handle_type shape h)) (sym (expression_is m info function es h))
-            (by (slice_get function.expressions h) refl)
+        (by (slice_get function.expressions h) refl)
       where
         by : (o : Option ir.Expression) → slice_get function.expressions h ≡ o →
             PartsFit parts shape (handle_type shape h)

@@ -97,8 +97,8 @@ member_found (l ∷ ms) i k at only = by i at only (same_bytes k.0 l.0) refl (λ
         ((j : ℕ) (x : Bytes × Bytes) → slice_get (l ∷ ms) j ≡ Some x → x.0 ≡ k.0 → i ≡ j) →
         (b : Bool) → same_bytes k.0 l.0 ≡ b →
         ((i : ℕ) → slice_get ms i ≡ Some k →
-            ((j : ℕ) (x : Bytes × Bytes) → slice_get ms j ≡ Some x → x.0 ≡ k.0 → i ≡ j) → member_pointer ms k.0
-            ≡ Some k.1) →
+        ((j : ℕ) (x : Bytes × Bytes) → slice_get ms j ≡ Some x → x.0 ≡ k.0 → i ≡ j) → member_pointer ms k.0
+        ≡ Some k.1) →
         cond b (Some l.1) (member_pointer ms k.0) ≡ Some k.1
     by zero at only true same more = ap (λ x. Some x.1) (same_Some l k at)
     by zero at only false same more =
@@ -191,10 +191,10 @@ module _ (m : ir_module.Module) (info : ModuleInfo) (accepted : IsTrue (is_accep
     first : IsFirst
     first =
         let place = in_flat_map (λ g. g.known) (groups_of m info) a.group_there.0 a.group r a.group_there.1
-            (a.handle, a.known) in
+        (a.handle, a.known) in
         let found = first_found is_so (pointer_types m info) place.0 r
         (in_left (flat_map (λ g. g.known) (groups_of m info))
-            (own_types m ++ flat_map (pointers_in m) place_spaces) place.0 r place.1)
+        (own_types m ++ flat_map (pointers_in m) place_spaces) place.0 r place.1)
         (ap (λ v. same_type v (PointerType whole)) a.values ∙ same_type_self (PointerType whole)) in
         let values = same_type_true (type_of_values m found.first) (PointerType whole) found.passes in
         let fit = pointer_types_fit found.among.0 found.first found.among.1 in
@@ -209,13 +209,13 @@ module _ (m : ir_module.Module) (info : ModuleInfo) (accepted : IsTrue (is_accep
           places =
               alike_places m are stand r found.first a.fit fit
               (numbers_by_values m are r found.first a.fit fit (a.values ∙ sym values)) a.it k.it a.itself
-                  k.itself a.points k.points;
+              k.itself a.points k.points;
         }
 
     table_is : place_parts m info whole ≡ pointee_parts m info whole first.it
     table_is =
         ap (λ o. option_map_or (λ r. option_map_or (pointee_parts m info whole) (inner_of r m.types) NoParts) o
-            NoParts) first.spelled
+        NoParts) first.spelled
         ∙ ap (λ o. option_map_or (pointee_parts m info whole) o NoParts) first.itself
 
     -- ---- elements
@@ -260,7 +260,7 @@ module _ (m : ir_module.Module) (info : ModuleInfo) (accepted : IsTrue (is_accep
               IsFit m q → part_type m.types first.it None ≡ Some q → word_of_values m p ≡ word_of_values m q
           words_alike q alike fit other is =
               own_word m p (word_of_values m q) (values_by_numbers m are p q fit other alike
-                  ∙ part_points m first.it first.points None q is)
+              ∙ part_points m first.it first.points None q is)
 
           by_parts : kind ≡ pointee_kind m.types first.it → (o u : Option TypeResolution) →
               part_type m.types a.it None ≡ o → part_type m.types first.it None ≡ u →
@@ -288,7 +288,7 @@ module _ (m : ir_module.Module) (info : ModuleInfo) (accepted : IsTrue (is_accep
             (type_of_values m own)
         element_at z =
             subst (λ whole. IsPart whole (step_at whole z) (type_of_values m own)) (sym has_table.table)
-                (by kind has_table.elements)
+            (by kind has_table.elements)
           where
             by : (k : PartKind) → are_elements k ≡ true → IsPart (parts_of_kind k (word_of_values m p))
                 (step_at (parts_of_kind k (word_of_values m p)) z) (type_of_values m own)
@@ -303,7 +303,7 @@ module _ (m : ir_module.Module) (info : ModuleInfo) (accepted : IsTrue (is_accep
         element_to s z step =
             subst (λ whole. IsPart whole (step_to whole s) (type_of_values m own)) (sym has_table.table)
             (subst (λ o. IsPart (parts_of_kind kind (word_of_values m p)) o (type_of_values m own))
-                (sym (step (word_of_values m p))) (by kind has_table.elements))
+            (sym (step (word_of_values m p))) (by kind has_table.elements))
           where
             by : (k : PartKind) → are_elements k ≡ true → IsPart (parts_of_kind k (word_of_values m p))
                 (Some (At z)) (type_of_values m own)
@@ -367,7 +367,7 @@ module _ (m : ir_module.Module) (info : ModuleInfo) (accepted : IsTrue (is_accep
       table_of_members : place_parts m info whole ≡ Members entries
       table_of_members =
           table_is ∙ (ap (pointee_parts m info whole) one_struct.itself
-              ∙ ap (λ o. option_map_or (parts_at m info whole one_struct.to k.base) o NoParts) inner_is)
+          ∙ ap (λ o. option_map_or (parts_at m info whole one_struct.to k.base) o NoParts) inner_is)
 
       entry_there : slice_get entries index ≡ Some entry
       entry_there = made_at (λ p. member_part m info whole one_struct.to k.base p.0 p.1.ty) k.members.items
@@ -414,15 +414,15 @@ module _ (m : ir_module.Module) (info : ModuleInfo) (accepted : IsTrue (is_accep
         by_form : (b : Bool) → is_spelled m.types (by_type one_struct.to) ≡ b →
             type_of_values m own ≡ PointerType (word_of_values m (if b then by_type one_struct.to
             else unwrap_or (slice_get (flat_map (members_taken m info whole word) (groups_of m info)) 0)
-                (by_type one_struct.to)))
+            (by_type one_struct.to)))
         by_form true is = spelled (type_key m.types (by_type one_struct.to)) refl is
         by_form false is =
             let other = unwrap_or (slice_get (flat_map (members_taken m info whole word) (groups_of m info)) 0)
-                (by_type one_struct.to) in
+            (by_type one_struct.to) in
             let one : type_of_values m own ≡ type_of_values m other =
-                type_of_first m info accepted distinguished whole word own taking (by_type one_struct.to) in
+            type_of_first m info accepted distinguished whole word own taking (by_type one_struct.to) in
             own_pointer ∙ ap PointerType
-                (sym (own_word m other (word_of_values m (by_type k.at)) (sym one ∙ own_pointer)))
+            (sym (own_word m other (word_of_values m (by_type k.at)) (sym one ∙ own_pointer)))
 
         member_values : type_of_values m own ≡ PointerType entry.1
         member_values = by_form (is_spelled m.types (by_type one_struct.to)) refl
@@ -432,5 +432,5 @@ module _ (m : ir_module.Module) (info : ModuleInfo) (accepted : IsTrue (is_accep
             subst (λ whole. IsPart whole (step_to whole s) (type_of_values m own)) (sym table_of_members)
             (subst (λ s. IsPart (Members entries) (step_to (Members entries) s) (type_of_values m own)) (sym k.selected)
             (subst (λ o. IsPart (Members entries) (option_map (λ pointer. Field word) o) (type_of_values m own))
-                (sym found)
+            (sym found)
             (member_values ∙ ap (λ o. PointerType (unwrap_or o [])) (sym found))))

@@ -133,16 +133,16 @@ letter_step : (count index : ℕ) → nat_lt index count ≡ true → (letter : 
     option_and_then (step_to_component count) (component_number letter) ≡ Some (At (pos index))
 letter_step count zero within letter at =
     subst (λ w. option_and_then (step_to_component count) (component_number w) ≡ Some (At (pos 0)))
-        (same_Some _ letter at) (ap (λ b. cond b (Some (At (pos 0))) None) within)
+    (same_Some _ letter at) (ap (λ b. cond b (Some (At (pos 0))) None) within)
 letter_step count (suc zero) within letter at =
     subst (λ w. option_and_then (step_to_component count) (component_number w) ≡ Some (At (pos 1)))
-        (same_Some _ letter at) (ap (λ b. cond b (Some (At (pos 1))) None) within)
+    (same_Some _ letter at) (ap (λ b. cond b (Some (At (pos 1))) None) within)
 letter_step count (suc (suc zero)) within letter at =
     subst (λ w. option_and_then (step_to_component count) (component_number w) ≡ Some (At (pos 2)))
-        (same_Some _ letter at) (ap (λ b. cond b (Some (At (pos 2))) None) within)
+    (same_Some _ letter at) (ap (λ b. cond b (Some (At (pos 2))) None) within)
 letter_step count (suc (suc (suc zero))) within letter at =
     subst (λ w. option_and_then (step_to_component count) (component_number w) ≡ Some (At (pos 3)))
-        (same_Some _ letter at) (ap (λ b. cond b (Some (At (pos 3))) None) within)
+    (same_Some _ letter at) (ap (λ b. cond b (Some (At (pos 3))) None) within)
 letter_step count (suc (suc (suc (suc index)))) within letter at = absurd cc
 
 -- ---- parts through pointers
@@ -169,7 +169,7 @@ module _ (m : ir_module.Module) (info : ModuleInfo) (known : ℕ → Option Type
     ElementPart : (p : TypeResolution) → part_type m.types it (Some index) ≡ Some p → part_type m.types it None
         ≡ Some p →
         ((w : Bytes) → step_to (parts_of_kind (pointee_kind m.types it) w) s ≡ Some (At (pos index))) →
-            IsPart it index s
+        IsPart it index s
     MemberPart : IsMember it index s → IsPart it index s
 
   module _ (index : ℕ) (s : Selector) where
@@ -181,11 +181,11 @@ module _ (m : ir_module.Module) (info : ModuleInfo) (known : ℕ → Option Type
         (it : TypeInner) → t.inner ≡ it →
         (p : TypeResolution) → pointed_part space it (Some index) ≡ Some p → pointed_part space it None ≡ Some p →
         ((w : Bytes) → step_to (parts_of_kind (kind_at base it) w) s ≡ Some (At (pos index))) →
-            IsPart (inner.Pointer base space) index s
+        IsPart (inner.Pointer base space) index s
     element_after base space t there it is p here any step =
         let at = following base t there it is in
         ElementPart p (ap (option_and_then (λ it. pointed_part space it (Some index))) at ∙ here)
-            (ap (option_and_then (λ it. pointed_part space it None)) at ∙ any)
+        (ap (option_and_then (λ it. pointed_part space it None)) at ∙ any)
         (λ w. ap (λ o. step_to (parts_of_kind (option_map_or (kind_at base) o NoKind) w) s) at ∙ step w)
 
     numbered : (whole : Parts) → (step_to whole (ElementAt index) ≡ Some (At (pos index))) →
@@ -202,7 +202,7 @@ module _ (m : ir_module.Module) (info : ModuleInfo) (known : ℕ → Option Type
 
     component : (count : ℕ) → nat_lt index count ≡ true → (o : Option Bytes) → slice_get component_letters index ≡ o →
         Some (option_map_or MemberNamed o (ElementAt index)) ≡ Some s → (w : Bytes) →
-            step_to (Components count w) s ≡ Some (At (pos index))
+        step_to (Components count w) s ≡ Some (At (pos index))
     component count within None at selected w = numbered (Components count w) (component_within count within) selected
     component count within (Some letter) at selected w =
         ap (step_to (Components count w)) (sym (same_Some _ s selected)) ∙ letter_step count index within letter at
@@ -210,16 +210,16 @@ module _ (m : ir_module.Module) (info : ModuleInfo) (known : ℕ → Option Type
     pointee_part : (base : ℕ) (space : AddressSpace) (t : Type_) → slice_get m.types base ≡ Some t →
         (it : TypeInner) → t.inner ≡ it →
         own_selector context (Some base) it index ≡ Some s → option_map_or (λ count. nat_lt index count)
-            (value_part_count it) true ≡ true → IsPart (inner.Pointer base space) index s
+        (value_part_count it) true ≡ true → IsPart (inner.Pointer base space) index s
     pointee_part base space t there (inner.Vector n scalar) is selected within =
         element_after base space t there (inner.Vector n scalar) is
-            (Value (inner.ValuePointer None scalar space)) refl refl
+        (Value (inner.ValuePointer None scalar space)) refl refl
         (component (vector_number n) within (slice_get component_letters index) refl selected)
     pointee_part base space t there (inner.Matrix columns rows scalar) is selected within =
         element_after base space t there (inner.Matrix columns rows scalar) is
         (Value (inner.ValuePointer (Some rows) scalar space)) refl refl
-            (λ w. numbered (Elements (Some (vector_number columns)) w)
-            (component_within (vector_number columns) within) selected)
+        (λ w. numbered (Elements (Some (vector_number columns)) w)
+        (component_within (vector_number columns) within) selected)
     pointee_part base space t there (inner.Array item n stride) is selected within =
         element_after base space t there (inner.Array item n stride) is (Value (inner.Pointer item space)) refl refl
         (λ w. numbered (Elements (element_count n) w) (element_within (element_count n) within) selected)
@@ -251,8 +251,8 @@ module _ (m : ir_module.Module) (info : ModuleInfo) (known : ℕ → Option Type
         by : (o : Option Type_) → slice_get m.types base ≡ o →
             option_and_then (λ it. own_selector context (Some base) it index) (option_map (λ t. t.inner) o) ≡ Some s →
             option_map_or (λ count. nat_lt index count)
-                (option_and_then value_part_count (option_map (λ t. t.inner) o)) true ≡ true →
-                IsPart (inner.Pointer base space) index s
+            (option_and_then value_part_count (option_map (λ t. t.inner) o)) true ≡ true →
+            IsPart (inner.Pointer base space) index s
         by None there selected within = absurd cc
         by (Some t) there selected within = pointee_part base space t there t.inner refl selected within
     part_of (inner.ValuePointer (Some n) scalar space) points whole selected within =
@@ -287,7 +287,7 @@ module _ (m : ir_module.Module) (info : ModuleInfo) (whole : Bytes) where
 
       of_type : (it : TypeInner) → pointed_part at it None ≡ Some p →
           (are_elements (kind_at base it) ≡ true)
-              × (parts_at m info whole at base it ≡ parts_of_kind (kind_at base it) (word_of_values m p))
+          × (parts_at m info whole at base it ≡ parts_of_kind (kind_at base it) (word_of_values m p))
       of_type (inner.Vector n s) is = (refl, spelled (ComponentKind (vector_number n)) _ is)
       of_type (inner.Matrix columns rows s) is = (refl, spelled (ElementKind (Some (vector_number columns))) _ is)
       of_type (inner.Array item count stride) is = (refl, spelled (ElementKind (element_count count)) _ is)
@@ -304,7 +304,7 @@ module _ (m : ir_module.Module) (info : ModuleInfo) (whole : Bytes) where
             parts =
                 ap (λ o. option_map_or (parts_at m info whole at base) o NoParts) there
                 ∙ (known.1 ∙ sym
-                    (ap (λ o. parts_of_kind (option_map_or (kind_at base) o NoKind) (word_of_values m p)) there));
+                (ap (λ o. parts_of_kind (option_map_or (kind_at base) o NoKind) (word_of_values m p)) there));
           }
   has_elements (inner.ValuePointer (Some n) s at) points p is = record {
     elements = refl;

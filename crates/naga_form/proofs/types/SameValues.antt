@@ -98,7 +98,7 @@ none_below : (p : ℕ → Bool) (n : ℕ) → ((k : ℕ) → k < n → p k ≡ f
 none_below p zero not_so = refl
 none_below p (suc n) not_so =
     (λ i. if not_so n (omega arith) i then Some n else search_below p n)
-        ∙ none_below p n (λ k lt. not_so k (omega (arith, lt)))
+    ∙ none_below p n (λ k lt. not_so k (omega (arith, lt)))
 
 -- ---- what is asked of lengths
 -- a length is a number of 32 bits
@@ -256,8 +256,8 @@ module _ (m : Module) (are : TypesAreCounted m) where
       handle_named (names.struct_name h) ≡ h
   struct_handle h t at is =
       ap (λ x. unwrap_or x
-          (unwrap_or (search_below (λ o. bytes_eq (names.override_name o) (names.struct_name h))
-          (length m.overrides)) 0))
+      (unwrap_or (search_below (λ o. bytes_eq (names.override_name o) (names.struct_name h))
+      (length m.overrides)) 0))
       (found_below (is_struct_named (names.struct_name h)) (length m.types) h (slice_get_within m.types h t at)
       (and_from (is_struct_at h) (bytes_eq (names.struct_name h) (names.struct_name h))
       (ap (λ o. option_map_or (λ t. is_struct t.inner) o false) at ∙ is)
@@ -270,21 +270,21 @@ module _ (m : Module) (are : TypesAreCounted m) where
           let u = struct_at k parts.0 in
           are.names.structs k h u.0 t u.1 at u.2 is
           (same_name (key.Type_ k) (key.Type_ h)
-              ((bytes_eq-Decides (names.struct_name k) (names.struct_name h)).0 parts.1))
+          ((bytes_eq-Decides (names.struct_name k) (names.struct_name h)).0 parts.1))
 
   override_handle : (o : ℕ) → o < length m.overrides → handle_named (names.override_name o) ≡ o
   override_handle o lt =
       ap (λ x. unwrap_or x
-          (unwrap_or (search_below (λ k. bytes_eq (names.override_name k) (names.override_name o))
-          (length m.overrides)) 0))
+      (unwrap_or (search_below (λ k. bytes_eq (names.override_name k) (names.override_name o))
+      (length m.overrides)) 0))
       (none_below (is_struct_named (names.override_name o)) (length m.types)
-          (λ h le. not_both h (is_struct_named (names.override_name o) h) refl))
+      (λ h le. not_both h (is_struct_named (names.override_name o) h) refl))
       ∙ ap (λ x. unwrap_or x 0)
       (found_below (λ k. bytes_eq (names.override_name k) (names.override_name o)) (length m.overrides) o lt
       ((bytes_eq-Decides (names.override_name o) (names.override_name o)).1 refl)
       (λ k le at. are.names.overrides k o le lt
       (same_name (key.Override k) (key.Override o)
-          ((bytes_eq-Decides (names.override_name k) (names.override_name o)).0 at))))
+      ((bytes_eq-Decides (names.override_name k) (names.override_name o)).0 at))))
     where
       not_both : (h : ℕ) (b : Bool) → is_struct_named (names.override_name o) h ≡ b →
           is_struct_named (names.override_name o) h ≡ false
@@ -293,7 +293,7 @@ module _ (m : Module) (are : TypesAreCounted m) where
           let t = struct_at h parts.0 in
           absurd (are.names.apart h o t.0 t.1 t.2 lt
           (same_name (key.Type_ h) (key.Override o)
-              ((bytes_eq-Decides (names.struct_name h) (names.override_name o)).0 parts.1)))
+          ((bytes_eq-Decides (names.struct_name h) (names.override_name o)).0 parts.1)))
       not_both h false named = named
 
   size_distinguished : (n : ArraySize) → size_within (length m.overrides) n ≡ true →
@@ -302,7 +302,7 @@ module _ (m : Module) (are : TypesAreCounted m) where
   size_distinguished (size.Pending o) within =
       let lt = ltb-true o (length m.overrides) within in
       named_numbers handle_named (names.override_name o) (override_identifier m o lt)
-          ∙ ap (λ x. level 8 x 0 0 0 0) (override_handle o lt)
+      ∙ ap (λ x. level 8 x 0 0 0 0) (override_handle o lt)
   size_distinguished size.Dynamic within = tt
 
   inner_distinguished : (it : TypeInner) → length_within (length m.overrides) it ≡ true →
@@ -315,7 +315,7 @@ module _ (m : Module) (are : TypesAreCounted m) where
   are_distinguished = record {
     structs = λ h t at is. let lt = slice_get_within m.types h t at in
         named_numbers handle_named (names.struct_name h) (struct_identifier m h lt)
-            ∙ ap (λ x. level 8 x 0 0 0 0) (struct_handle h t at is);
+        ∙ ap (λ x. level 8 x 0 0 0 0) (struct_handle h t at is);
     lengths = λ h t at. inner_distinguished t.inner (are.types.within h t at);
   }
 
@@ -370,7 +370,7 @@ module _ (m : Module) (are : TypesAreCounted m) where
       ≡ word_of_values m b → type_identity m.types a ≡ type_identity m.types b
   numbers_by_words a b p q e =
       identity_is a p ∙ (by (resolution_tree names a) refl (resolution_tree names b) refl
-          (sym (word_is a) ∙ (e ∙ word_is b)) ∙ sym (identity_is b q))
+      (sym (word_is a) ∙ (e ∙ word_is b)) ∙ sym (identity_is b q))
     where
       by : (x : Option TypeSpecifier) → resolution_tree names a ≡ x → (y : Option TypeSpecifier) →
           resolution_tree names b ≡ y → word_of x a ≡ word_of y b → identity_of x a ≡ identity_of y b
@@ -539,10 +539,10 @@ module _ (m : Module) (are : TypesAreCounted m) where
       (type_key m.types b) (inner_of b m.types) w
   one_form a b p q (Some x) at k w =
       ap (λ o. values_by_form o (inner_of a m.types) w) at
-          ∙ sym (ap (λ o. values_by_form o (inner_of b m.types) w) (sym k.kinds.0 ∙ at))
+      ∙ sym (ap (λ o. values_by_form o (inner_of b m.types) w) (sym k.kinds.0 ∙ at))
   one_form a b p q None at k w =
       let inners = inner_by_identity a b (distinguished_by_itself m.types a (is_fit a p) at)
-          (distinguished_by_itself m.types b (is_fit b q) (sym k.kinds.0 ∙ at)) (k.kinds.1 at) in
+      (distinguished_by_itself m.types b (is_fit b q) (sym k.kinds.0 ∙ at)) (k.kinds.1 at) in
       λ i. values_by_form (k.kinds.0 i) (inners i) w
     where
       inner_by_identity : (a b : TypeResolution) →

@@ -81,7 +81,7 @@ module _ (names : List ℕ → Option Item) where
       let w = map_some Named (scalar_word s) t e in
       subst NamesNothing w.2
       (plain_items w.0 (in_front scalar_words (sampler_words ++ (ray_words ++ depth_image_words)) w.0
-          (value_words.scalars.each s w.0 w.1)))
+      (value_words.scalars.each s w.0 w.1)))
 
   -- a word with one part that names nothing
   one_items : (w : List ℕ) (x : TypeSpecifier) → NamesNothing x → NamesNothing (of_one w x)
@@ -180,7 +180,7 @@ module _ (m : Module) (names : List ℕ → Option Item) (are : ItemsAreNamed m 
       over_array w rule b l free within t e =
           let x = map_some (array_tree n w l) (f b) t e in
           subst (λ t. Names_ t (own b ++ length_meant m l)) x.2
-              (array_items w rule l within x.0 (own b) (all b free x.0 x.1))
+          (array_items w rule l within x.0 (own b) (all b free x.0 x.1))
 
       -- a type that is no struct
       inner_items : (h : ℕ) (it : TypeInner) → names_undeclared_by m.special_types undeclared h it ≡ false →
@@ -192,7 +192,7 @@ module _ (m : Module) (names : List ℕ → Option Item) (are : ItemsAreNamed m 
       inner_items h (inner.CooperativeMatrix c r s l) free within t e =
           mapped_items names (λ x. of_two (cooperative_word c r) x (Named (role_word l)))
           (λ x none. parts_items names (cooperative_word c r)
-              (TypeArgument x (TypeArgument (Named (role_word l)) NoTemplateArguments))
+          (TypeArgument x (TypeArgument (Named (role_word l)) NoTemplateArguments))
           TakesRole (cooperative_rule c r) refl)
           (scalar_tree s) (scalar_items names s) t e
       inner_items h (inner.Atomic s) free within t e = of_scalar names _ s t e
@@ -203,7 +203,7 @@ module _ (m : Module) (names : List ℕ → Option Item) (are : ItemsAreNamed m 
           by (Some space) e =
               let x = map_some (pointer_tree space (space_access_word a)) (f base) t e in
               subst (λ t. Names_ t (own base)) x.2
-                  (pointer_items names space (space_access_word a) x.0 ∙ all base free x.0 x.1)
+              (pointer_items names space (space_access_word a) x.0 ∙ all base free x.0 x.1)
       inner_items h (inner.ValuePointer v s a) free within t e = by (space_word a) e
         where
           by : (o : Option (List ℕ)) → value_pointer_tree_in o (space_access_word a) (value_tree v s) ≡ Some t →
@@ -211,8 +211,8 @@ module _ (m : Module) (names : List ℕ → Option Item) (are : ItemsAreNamed m 
           by None e = absurd cc
           by (Some space) e =
               mapped_items names (pointer_tree space (space_access_word a))
-                  (λ x none. pointer_items names space (space_access_word a) x ∙ none) (value_tree v s)
-                  (value_items names v s) t e
+              (λ x none. pointer_items names space (space_access_word a) x ∙ none) (value_tree v s)
+              (value_items names v s) t e
       inner_items h (inner.Array base l stride) free within t e = over_array _ refl base l free within t e
       inner_items h (inner.BindingArray base l) free within t e = over_array _ refl base l free within t e
       inner_items h (inner.Struct members span) free within t e = absurd cc
@@ -271,13 +271,13 @@ module _ (m : Module) (names : List ℕ → Option Item) (are : ItemsAreNamed m 
             ≡ Some x → Names_ x (items_within k m b)) →
             (o : Option Type_) → slice_get m.types h ≡ o →
             option_map_or (λ u. names_undeclared_by m.special_types (names_undeclared_within k m) h u.inner) o
-                false ≡ false →
+            false ≡ false →
             found_tree_by n (tree_within k n) h o ≡ Some t →
             Names_ t (option_map_or (λ u. items_by m (items_within k m) h u.inner) o [])
         by all None at free e = absurd cc
         by all (Some u) at free e =
             found_items (tree_within k n) (items_within k m) (names_undeclared_within k m) all h u at free
-                (lengths h u at) t e
+            (lengths h u at) t e
 
     -- a type of the module, or one by itself
     pub resolution_named : (r : TypeResolution) → names_undeclared m r ≡ false →
@@ -287,7 +287,7 @@ module _ (m : Module) (names : List ℕ → Option Item) (are : ItemsAreNamed m 
     resolution_named (Handle h) free within t e = within_items (suc h) h free t e
     resolution_named (Value it) free within t e =
         inner_items (type_tree n) (handle_items m) (λ b. names_undeclared_within (suc b) m b)
-            (λ b. within_items (suc b) b) 0 it (own it free e) (within it refl) t e
+        (λ b. within_items (suc b) b) 0 it (own it free e) (within it refl) t e
       where
         own : (it : TypeInner) → names_undeclared m (Value it) ≡ false → inner_tree_by n (type_tree n) it ≡ Some t →
             names_undeclared_by m.special_types (λ b. names_undeclared_within (suc b) m b) 0 it ≡ false

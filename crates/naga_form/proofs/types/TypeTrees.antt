@@ -210,10 +210,10 @@ module _ (text_of_appended : (first second : List Piece) → text (first ++ seco
       (known_none ps (access_segments access) e)
   pointer_row space None ps (Some t) e =
       rw (known_append ps (access_segments None) (type_layout t) _ e refl)
-          (rw (text_of_appended (type_pieces t) (mark GreaterThan ∷ [])) refl)
+      (rw (text_of_appended (type_pieces t) (mark GreaterThan ∷ [])) refl)
   pointer_row space (Some a) ps (Some t) e =
       rw (known_append ps (access_segments (Some a)) (type_layout t) _ e refl)
-          (rw (text_of_appended (type_pieces t) (mark Comma ∷ Blank ∷ word a ∷ mark GreaterThan ∷ [])) refl)
+      (rw (text_of_appended (type_pieces t) (mark Comma ∷ Blank ∷ word a ∷ mark GreaterThan ∷ [])) refl)
 
   pointer_in_row : (space access : Option (List ℕ)) (ps : List Segment) (o : Option TypeSpecifier) →
       known_text ps ≡ option_map type_layout o → known_text (pointer_segments space access ps) ≡
@@ -238,16 +238,16 @@ module _ (text_of_appended : (first second : List Piece) → text (first ++ seco
   array_row n knows w gaps (size.Constant number) ps (Some t) e =
       rw (known_append ps (length_segments (writer_context n knows) (size.Constant number)) (type_layout t) _ e refl)
       (rw gaps (rw (text_of_appended (type_pieces t)
-          (mark Comma ∷ Blank ∷ plain (non_zero_u32_get number) ∷ mark GreaterThan ∷ []))
+      (mark Comma ∷ Blank ∷ plain (non_zero_u32_get number) ∷ mark GreaterThan ∷ []))
       (ap (λ v. Some (w ++ (codes "<" ++ (type_layout t ++ (codes ", " ++ (v ++ (codes ">" ++ [])))))))
-          (sym (append-nil (decimal (non_zero_u32_get number)))))))
+      (sym (append-nil (decimal (non_zero_u32_get number)))))))
   array_row n knows w gaps (size.Pending handle) ps (Some t) e =
       rw (known_append ps (length_segments (writer_context n knows) (size.Pending handle)) (type_layout t) _ e refl)
       (rw gaps (rw (text_of_appended (type_pieces t)
-          (mark Comma ∷ Blank ∷ word (n.override_name handle) ∷ mark GreaterThan ∷ [])) refl))
+      (mark Comma ∷ Blank ∷ word (n.override_name handle) ∷ mark GreaterThan ∷ [])) refl))
   array_row n knows w gaps size.Dynamic ps (Some t) e =
       rw (known_append ps (length_segments (writer_context n knows) size.Dynamic) (type_layout t) _ e refl)
-          (rw (text_of_appended (type_pieces t) (mark GreaterThan ∷ [])) refl)
+      (rw (text_of_appended (type_pieces t) (mark GreaterThan ∷ [])) refl)
 
   -- a type, from the types that it names
   inner_row : (n : Names) (knows : ℕ → Bool) (f : ℕ → List Segment) (g : ℕ → Option TypeSpecifier) →
@@ -266,7 +266,7 @@ module _ (text_of_appended : (first second : List Piece) → text (first ++ seco
       pointer_in_row (space_word space) (space_access_word space) (f base) (g base) (same base)
   inner_row n knows f g same (inner.ValuePointer size scalar space) =
       value_pointer_row (space_word space) (space_access_word space) (value_segments true size scalar)
-          (value_tree size scalar) (value_row size scalar)
+      (value_tree size scalar) (value_row size scalar)
   inner_row n knows f g same (inner.Array base size stride) = array_row n knows (codes "array") refl size
       (f base) (g base) (same base)
   inner_row n knows f g same (inner.Struct members span) = refl
@@ -409,8 +409,10 @@ pointer_is a w at (Some m) access x is =
         and_from (bytes_eq (codes "storage") w) (is_type x && stands_in access_words m)
             ((bytes_eq-Decides (codes "storage") w).1 known.0)
             (and_from (is_type x) (stands_in access_words m) is.whole known.1),
-        (table_word address_space_words w address_spaces_free (value_words.spaces.each a w at),
-            (is.part, (table_word access_words m accesses_free known.1, tt))),
+        (
+          table_word address_space_words w address_spaces_free (value_words.spaces.each a w at),
+          (is.part, (table_word access_words m accesses_free known.1, tt)),
+        ),
       );
       whole = refl;
     }
@@ -501,20 +503,22 @@ image_tree_is dim arrayed (class.Sampled k multi) t e =
     })
 image_tree_is dim arrayed (class.Depth multi) t e =
     subst IsType (same_Some (Named (image_word (codes "texture_depth_") multi dim arrayed)) t e)
-        (plain_is (image_word (codes "texture_depth_") multi dim arrayed) (depth_is_plain multi dim arrayed))
+    (plain_is (image_word (codes "texture_depth_") multi dim arrayed) (depth_is_plain multi dim arrayed))
 image_tree_is dim arrayed class.External t e = subst IsType (same_Some (Named (codes "texture_external")) t e)
     (plain_is (codes "texture_external") refl)
 image_tree_is dim arrayed (class.Storage f a) t e =
     let format = value_words.formats.each f (format_word f) refl in
     let access = value_words.accesses.each a (image_access_word a) refl in
     subst IsType (same_Some (of_two (image_word (codes "texture_storage_") false dim arrayed)
-        (Named (format_word f)) (Named (image_access_word a))) t e)
+    (Named (format_word f)) (Named (image_access_word a))) t e)
     (record {
       part = (
         rw (storage_rule dim arrayed) (and_from (stands_in format_words (format_word f))
             (stands_in access_words (image_access_word a)) format access),
-        (table_word format_words (format_word f) formats_free format,
-            (table_word access_words (image_access_word a) accesses_free access, tt)),
+        (
+          table_word format_words (format_word f) formats_free format,
+          (table_word access_words (image_access_word a) accesses_free access, tt),
+        ),
       );
       whole = refl;
     })
@@ -538,8 +542,14 @@ module _ (n : Names) (count : ℕ) (named : AreNamed n count) where
   array_is word rule (size.Constant number) within x is = sized_is word x (non_zero_u32_get number) rule is within
   array_is word rule (size.Pending o) within x is =
       let name = named.overrides o within in
-      record { part = (rw rule (and_from (is_type x) (not (is_builtin (n.override_name o))) is.whole
-          (ap not name.own)), (is.part, (name.word, tt))); whole = refl }
+      record {
+        part = (
+          rw rule (and_from (is_type x) (not (is_builtin (n.override_name o))) is.whole
+              (ap not name.own)),
+          (is.part, (name.word, tt)),
+        );
+        whole = refl;
+      }
   array_is word rule size.Dynamic within x is = dynamic_is word x rule is
 
   array_tree_is : (word : List ℕ) → rule_among type_templates word ≡ TakesElements →

@@ -10,7 +10,7 @@ use Rattle.fault_details.proofs.order.is_in_order.Goals as goal
 pub loop-index-preserved : goal.loop-index-preserved
 loop-index-preserved c =
     one_more c.args.«module».now.types c.loop-index.index (length c.args.«module».now.overrides)
-        c.index.result.now (search rules) (search rules) c.loop-index.invariant
+    c.index.result.now (search rules) (search rules) c.loop-index.invariant
 
 pub returns-then-not-stands_following : goal.returns-then-not-stands_following
 returns-then-not-stands_following c = (

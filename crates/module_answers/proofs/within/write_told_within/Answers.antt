@@ -21,12 +21,12 @@ returns-in-Some-clause-accepted c = sym c.write_told.ensures.accepted ∙ ap is_
 pub returns-in-Some-clause-told : goal.returns-in-Some-clause-told
 returns-in-Some-clause-told c =
     subst (λ r. IfOk r (λ _. IsToldModule c.args.«module».now c.write_told.new.«module»)) c.in-Ok.is
-        c.write_told.ensures.told
+    c.write_told.ensures.told
 
 pub returns-in-Some-clause-counted : goal.returns-in-Some-clause-counted
 returns-in-Some-clause-counted c =
     subst (λ r. IfOk r (λ _. IsCounted c.write_told.new.«module» c.args.info.now c.write_told.new.info))
-        c.in-Ok.is c.write_told.ensures.counted
+    c.in-Ok.is c.write_told.ensures.counted
 
 pub returns-in-Some-clause-written : goal.returns-in-Some-clause-written
 returns-in-Some-clause-written c =
@@ -36,10 +36,10 @@ returns-in-Some-clause-written c =
     let w = c.in-Ok.written in
     let v = c.in-Some.whole in
     let written =
-        subst (λ r. IfOk r (λ w. AnswersWriting flags m info w.answer w.refusal c.new-empty.result.text
-        w.sink.text c.new-empty.result.failures w.sink.failures)) c.in-Ok.is c.write_told.ensures.written in
+    subst (λ r. IfOk r (λ w. AnswersWriting flags m info w.answer w.refusal c.new-empty.result.text
+    w.sink.text c.new-empty.result.failures w.sink.failures)) c.in-Ok.is c.write_told.ensures.written in
     let begun = subst (λ s. AnswersWriting flags m info w.answer w.refusal s.text w.sink.text s.failures
-        w.sink.failures) c.new-empty.ensures written in (
+    w.sink.failures) c.new-empty.ensures written in (
       w.sink.failures,
       as_kept flags m info w.answer v.answer w.refusal v.refusal w.sink.text (string_bytes v.sink) w.sink.failures
           (subst (λ o. IfSome o (λ v. v.answer ≡ w.answer)) c.in-Some.is c.kept.ensures.answer)
@@ -59,27 +59,27 @@ returns-in-None-clause-unwritten c =
     let info = c.write_told.new.info in
     let w = c.in-Ok.written in
     let written =
-        subst (λ r. IfOk r (λ w. AnswersWriting flags m info w.answer w.refusal c.new-empty.result.text
-        w.sink.text c.new-empty.result.failures w.sink.failures)) c.in-Ok.is c.write_told.ensures.written in
+    subst (λ r. IfOk r (λ w. AnswersWriting flags m info w.answer w.refusal c.new-empty.result.text
+    w.sink.text c.new-empty.result.failures w.sink.failures)) c.in-Ok.is c.write_told.ensures.written in
     is_too_long flags c.args.limits c.args.«module».now m c.args.info.now info w.answer w.refusal w.sink.text
-        w.sink.failures
+    w.sink.failures
     c.in_ok-look_into.ensures.flat
     (sym c.write_told.ensures.accepted ∙ ap is_ok c.in-Ok.is)
     (subst (λ r. IfOk r (λ _. IsCounted m c.args.info.now info)) c.in-Ok.is c.write_told.ensures.counted)
     (subst (λ s. AnswersWriting flags m info w.answer w.refusal s.text w.sink.text s.failures w.sink.failures)
-        c.new-empty.ensures written)
+    c.new-empty.ensures written)
     (subst (λ o. IfNone o (c.args.limits.text < length w.sink.text)) c.in-None.is c.kept.ensures.too_long)
 
 pub returns-in-None-clause-too_long : goal.returns-in-None-clause-too_long
 returns-in-None-clause-too_long c =
     λ _. subst (λ r. IfOk r (λ _. IsToldModule c.args.«module».now c.write_told.new.«module»)) c.in-Ok.is
-        c.write_told.ensures.told
+    c.write_told.ensures.told
 
 pub returns-in-Err-clause-unwritten : goal.returns-in-Err-clause-unwritten
 returns-in-Err-clause-unwritten c =
     let untouched =
-        subst (λ r. IfErr r (λ _. (c.write_told.new.«module» ≡ c.args.«module».now)
-        × (c.write_told.new.info ≡ c.args.info.now))) c.in-Err.is c.write_told.ensures.untouched in (
+    subst (λ r. IfErr r (λ _. (c.write_told.new.«module» ≡ c.args.«module».now)
+    × (c.write_told.new.info ≡ c.args.info.now))) c.in-Err.is c.write_told.ensures.untouched in (
       c.in_ok-look_into.ensures.flat,
       subst (λ r. IfErr r (Fails c.args.«module».now c.args.info.now)) c.in-Err.is c.write_told.ensures.fault,
       untouched.0,

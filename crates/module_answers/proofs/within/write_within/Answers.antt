@@ -20,7 +20,7 @@ returns-in-Some-clause-accepted c = sym c.write.ensures.accepted ∙ ap is_ok c.
 pub returns-in-Some-clause-counted : goal.returns-in-Some-clause-counted
 returns-in-Some-clause-counted c =
     subst (λ r. IfOk r (λ _. IsCounted c.args.«module».now c.args.info.now c.write.new.info)) c.in-Ok.is
-        c.write.ensures.counted
+    c.write.ensures.counted
 
 pub returns-in-Some-clause-written : goal.returns-in-Some-clause-written
 returns-in-Some-clause-written c =
@@ -30,10 +30,10 @@ returns-in-Some-clause-written c =
     let w = c.in-Ok.written in
     let v = c.in-Some.whole in
     let written =
-        subst (λ r. IfOk r (λ w. AnswersWriting flags m info w.answer w.refusal c.new-empty.result.text
-        w.sink.text c.new-empty.result.failures w.sink.failures)) c.in-Ok.is c.write.ensures.written in
+    subst (λ r. IfOk r (λ w. AnswersWriting flags m info w.answer w.refusal c.new-empty.result.text
+    w.sink.text c.new-empty.result.failures w.sink.failures)) c.in-Ok.is c.write.ensures.written in
     let begun = subst (λ s. AnswersWriting flags m info w.answer w.refusal s.text w.sink.text s.failures
-        w.sink.failures) c.new-empty.ensures written in (
+    w.sink.failures) c.new-empty.ensures written in (
       w.sink.failures,
       as_kept flags m info w.answer v.answer w.refusal v.refusal w.sink.text (string_bytes v.sink) w.sink.failures
           (subst (λ o. IfSome o (λ v. v.answer ≡ w.answer)) c.in-Some.is c.kept.ensures.answer)
@@ -53,15 +53,15 @@ returns-in-None-clause-unwritten c =
     let info = c.write.new.info in
     let w = c.in-Ok.written in
     let written =
-        subst (λ r. IfOk r (λ w. AnswersWriting flags m info w.answer w.refusal c.new-empty.result.text
-        w.sink.text c.new-empty.result.failures w.sink.failures)) c.in-Ok.is c.write.ensures.written in
+    subst (λ r. IfOk r (λ w. AnswersWriting flags m info w.answer w.refusal c.new-empty.result.text
+    w.sink.text c.new-empty.result.failures w.sink.failures)) c.in-Ok.is c.write.ensures.written in
     is_too_long flags c.args.limits c.args.«module».now m c.args.info.now info w.answer w.refusal w.sink.text
-        w.sink.failures
+    w.sink.failures
     c.in_ok-look_into.ensures.flat
     (sym c.write.ensures.accepted ∙ ap is_ok c.in-Ok.is)
     (subst (λ r. IfOk r (λ _. IsCounted m c.args.info.now info)) c.in-Ok.is c.write.ensures.counted)
     (subst (λ s. AnswersWriting flags m info w.answer w.refusal s.text w.sink.text s.failures w.sink.failures)
-        c.new-empty.ensures written)
+    c.new-empty.ensures written)
     (subst (λ o. IfNone o (c.args.limits.text < length w.sink.text)) c.in-None.is c.kept.ensures.too_long)
 
 pub returns-in-Err-clause-unwritten : goal.returns-in-Err-clause-unwritten

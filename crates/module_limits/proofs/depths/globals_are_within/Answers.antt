@@ -24,6 +24,6 @@ loop-expression-preserved c = record {
 pub returns-then-deepest-levels : goal.returns-then-deepest-levels
 returns-then-deepest-levels c =
     stops (global_parts c.args.constants.now) _ _ _ _ _ _ _ _
-        (c.deepest_global_part-deepest.ensures
-        ∙ ap (λ ds. deepest ds (global_parts c.args.constants.now c.in-Some.expression.now))
-        c.deref.ensures.value) c.in-Some.ensures.steps c.loop-expression.invariant.left c.if-deepest-levels.true
+    (c.deepest_global_part-deepest.ensures
+    ∙ ap (λ ds. deepest ds (global_parts c.args.constants.now c.in-Some.expression.now))
+    c.deref.ensures.value) c.in-Some.ensures.steps c.loop-expression.invariant.left c.if-deepest-levels.true

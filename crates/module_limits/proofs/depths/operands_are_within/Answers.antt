@@ -23,6 +23,6 @@ loop-expression-preserved c = record {
 pub returns-then-deepest-levels : goal.returns-then-deepest-levels
 returns-then-deepest-levels c =
     stops expression_operands _ _ _ _ _ _ _ _
-        (c.deepest_operand-deepest.ensures
-        ∙ ap (λ ds. deepest ds (expression_operands c.in-Some.expression.now)) c.deref.ensures.value)
-        c.in-Some.ensures.steps c.loop-expression.invariant.left c.if-deepest-levels.true
+    (c.deepest_operand-deepest.ensures
+    ∙ ap (λ ds. deepest ds (expression_operands c.in-Some.expression.now)) c.deref.ensures.value)
+    c.in-Some.ensures.steps c.loop-expression.invariant.left c.if-deepest-levels.true

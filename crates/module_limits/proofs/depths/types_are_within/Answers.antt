@@ -22,5 +22,5 @@ loop-ty-preserved c = record {
 pub returns-then-deepest-levels : goal.returns-then-deepest-levels
 returns-then-deepest-levels c =
     stops (λ t. type_parts t.inner) _ _ _ _ _ _ _ _
-        (c.deepest_type_part-deepest.ensures ∙ ap (λ ds. deepest ds (type_parts c.in-Some.ty.now.inner))
-        c.deref.ensures.value) c.in-Some.ensures.steps c.loop-ty.invariant.left c.if-deepest-levels.true
+    (c.deepest_type_part-deepest.ensures ∙ ap (λ ds. deepest ds (type_parts c.in-Some.ty.now.inner))
+    c.deref.ensures.value) c.in-Some.ensures.steps c.loop-ty.invariant.left c.if-deepest-levels.true

@@ -7,4 +7,4 @@ abbrev pub invariant-loop-handle : goal.invariant-loop-handle
 invariant-loop-handle l =
     list_any (λ p. spells_known_halves l.module.types p.1 (slice_get l.info.functions.items p.0)) l.handle-iterator
     ≡ list_any (λ p. spells_known_halves l.module.types p.1 (slice_get l.info.functions.items p.0))
-        (enumerate_from 0 l.module.functions)
+    (enumerate_from 0 l.module.functions)

@@ -10,7 +10,7 @@ returns-then-is_some c =
     let types = c.args.module.now.types
     in let v = operation types c.args.used.now
     in let uses_at =
-        λ (n : ℕ). option_map_or (uses_of types) (slice_get (groups_of c.args.module.now c.args.info.now) n) []
+    λ (n : ℕ). option_map_or (uses_of types) (slice_get (groups_of c.args.module.now c.args.info.now) n) []
     in let found : is_some (first_answer (uses_at c.loop-place.place) v) ≡ true =
     ap is_some (sym c.group_answer-found.ensures) ∙ sym c.is_some.ensures ∙ c.if-is_some.true
     in c.group_answer-found.ensures
@@ -21,7 +21,7 @@ loop-place-preserved c =
     let types = c.args.module.now.types
     in let v = operation types c.args.used.now
     in let uses_at =
-        λ (n : ℕ). option_map_or (uses_of types) (slice_get (groups_of c.args.module.now c.args.info.now) n) []
+    λ (n : ℕ). option_map_or (uses_of types) (slice_get (groups_of c.args.module.now c.args.info.now) n) []
     in let none : is_some (first_answer (uses_at c.loop-place.place) v) ≡ false =
     ap is_some (sym c.group_answer-found.ensures) ∙ sym c.is_some.ensures ∙ c.if-is_some.false
     in let next : c.loop-place.place + 1 ≡ suc c.loop-place.place = omega arith

@@ -16,7 +16,7 @@ pub loop-info-preserved : goal.loop-info-preserved
 unfolding without_count
 loop-info-preserved c =
     IsWritten-more (without_uses c.args.infos.now) c.args.infos.now c.loop-info.infos c.loop-info.info-index _
-        c.loop-info-test.true c.loop-info.invariant
+    c.loop-info-test.true c.loop-info.invariant
     (ap without_count (IsWritten-read (without_uses c.args.infos.now) c.args.infos.now c.loop-info.infos
-        c.loop-info.info-index c.info-item.result c.loop-info.invariant)
+    c.loop-info.info-index c.info-item.result c.loop-info.invariant)
     ∙ get_or-without_uses c.args.infos.now c.loop-info.info-index c.info-item.result _ c.loop-info-test.true)

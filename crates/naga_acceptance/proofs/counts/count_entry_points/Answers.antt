@@ -22,8 +22,8 @@ loop-index-preserved c =
     elim c.if-index-entry_points.branch [
       | then-index-entry_points w ↦
           let here : slice_get (functions_of c.args.entry_points.now) c.loop-index.index
-              ≡ Some (slice_index_or c.args.entry_points.now
-              c.loop-index.index w.index-entry_points-index.result).function =
+          ≡ Some (slice_index_or c.args.entry_points.now
+          c.loop-index.index w.index-entry_points-index.result).function =
           slice_get-functions_of c.args.entry_points.now c.loop-index.index
           (slice_index_or c.args.entry_points.now c.loop-index.index
           w.index-entry_points-index.result)
@@ -49,12 +49,12 @@ loop-index-preserved c =
           c.loop-index-test.true))
       | else-index-entry_points w ↦
           let past : length (functions_of c.args.entry_points.now) ≤ c.loop-index.index =
-              omega (arith, length-functions_of c.args.entry_points.now, w.if-index-entry_points.false)
+          omega (arith, length-functions_of c.args.entry_points.now, w.if-index-entry_points.false)
           in rw (w.infos-is, set-get_or)
           (IsWritten-kept
           (all_with_counts (functions_of c.args.entry_points.now) c.args.infos.now)
           c.args.infos.now c.loop-index.infos c.loop-index.index c.index-infos-index.result
           c.loop-index-test.true c.loop-index.invariant
           (get_or-all_with_counts_past (functions_of c.args.entry_points.now) c.args.infos.now
-              c.loop-index.index c.index-infos-index.result past))
+          c.loop-index.index c.index-infos-index.result past))
     ]

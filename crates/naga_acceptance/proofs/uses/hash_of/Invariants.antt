@@ -11,4 +11,4 @@ abbrev pub invariant-loop-operand : goal.invariant-loop-operand
 invariant-loop-operand l =
     lists_mixed l.hash (map (identity_at l.types (known_types l.used.known)) l.operand-iterator)
     ≡ lists_mixed (all_mixed 0 (key l.types l.used.key))
-        (map (identity_at l.types (known_types l.used.known)) (expression_operands l.used.expression.now))
+    (map (identity_at l.types (known_types l.used.known)) (expression_operands l.used.expression.now))

@@ -10,7 +10,7 @@ returns-in-Less c =
     let word = comparison_key c.new.result.case c.new.result.wanted.now in
     let told = c.in-Less.ensures.order
     ∙ ap (λ m. word_cmp (comparison_key c.new.result.case m.now) word)
-        (last.1 (record { ref_ptr = (0, 0); now = [] })) in
+    (last.1 (record { ref_ptr = (0, 0); now = [] })) in
     place_after _ _ c.requires.sorted (length members) (sym (keys_length c.args.case members)) last.0
     (order_at members (length members - 1) _ Less (omega (arith, last.0)) c.new.ensures.case c.new.ensures.wanted told)
 
@@ -21,6 +21,8 @@ returns-in-Equal c =
     let word = comparison_key c.new.result.case c.new.result.wanted.now in
     let told = c.in-Equal.ensures.order
     ∙ ap (λ m. word_cmp (comparison_key c.new.result.case m.now) word)
-        (last.1 (record { ref_ptr = (0, 0); now = [] })) in
-    (length members - 1, equal_at members (length members - 1) _ (omega (arith, last.0)) c.new.ensures.case
-        c.new.ensures.wanted told)
+    (last.1 (record { ref_ptr = (0, 0); now = [] })) in (
+      length members - 1,
+      equal_at members (length members - 1) _ (omega (arith, last.0)) c.new.ensures.case
+          c.new.ensures.wanted told,
+    )

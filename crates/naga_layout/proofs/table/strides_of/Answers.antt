@@ -14,7 +14,7 @@ loop-index-preserved c =
     c.from_index-handle.ensures
     (c.arrays_are_kept-kept.ensures
     ∙ sym (kept_is (written_rule marks) types c.requires.ordered c.from_index-handle.result c.index.result.now
-        c.index.ensures)))
+    c.index.ensures)))
     c.in_ok-push.ensures.items
 
 pub returns : goal.returns
@@ -25,4 +25,4 @@ returns c =
     let all : c.loop-index.index ≡ length c.args.types.now = omega (arith, end, test, last) in
     all_marked c.args.undeclared.now c.args.types.now c.loop-index.marks.items (c.loop-index.invariant.0 ∙ all)
     (subst (λ n. TellStridesBefore c.args.undeclared.now c.args.types.now n c.loop-index.marks.items) all
-        c.loop-index.invariant.1)
+    c.loop-index.invariant.1)

@@ -24,8 +24,13 @@ kept_new-returns-clause-layout t c =
     ∙ told_is (layout_at told_rule c.args.types.now) c.args.handle c.index.result.now.inner))
 
 pub kept_struct-loop-member-init : goal.kept_struct-loop-member-init
-kept_struct-loop-member-init t c = (None, refl, refl, c.requires.told,
-    struct_left told_rule c.args.types.now c.args.span c.args.members.now)
+kept_struct-loop-member-init t c = (
+  None,
+  refl,
+  refl,
+  c.requires.told,
+  struct_left told_rule c.args.types.now c.args.span c.args.members.now,
+)
 
 pub kept_struct-loop-member-preserved : goal.kept_struct-loop-member-preserved
 kept_struct-loop-member-preserved t c =

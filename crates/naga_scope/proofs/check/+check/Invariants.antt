@@ -43,11 +43,11 @@ invariant-check_lines-loop-statement l = record {
   check : check_all (naming_of l.known) l.scope.named l.number
       (statements_in l.known (block_of (drop l.statement-index l.statements))) (handles_at l.scope)
       ≡ check_all (naming_of l.known) l.initial.scope.named l.first
-          (statements_in l.known (block_of l.statements)) (handles_at l.initial.scope);
+      (statements_in l.known (block_of l.statements)) (handles_at l.initial.scope);
   following : after_each (naming_of l.known) l.scope.named
       (statements_in l.known (block_of (drop l.statement-index l.statements))) (handles_at l.scope)
       ≡ after_each (naming_of l.known) l.initial.scope.named (statements_in l.known (block_of l.statements))
-          (handles_at l.initial.scope);
+      (handles_at l.initial.scope);
   named : named_by_all (shape_of l.known)
       (statements_in l.known (block_of (drop l.statement-index l.statements))) l.scope.named
       ≡ named_by_all (shape_of l.known) (statements_in l.known (block_of l.statements)) l.initial.scope.named;
@@ -66,7 +66,7 @@ invariant-check_cases-loop-case l = record {
   check : check_cases (naming_of l.known) l.scope.named l.number
       (cases_in l.known (cases_of (drop l.case-index l.cases))) (handles_at l.scope)
       ≡ check_cases (naming_of l.known) l.initial.scope.named l.first (cases_in l.known (cases_of l.cases))
-          (handles_at l.initial.scope);
+      (handles_at l.initial.scope);
   named : named_by_cases (shape_of l.known) (cases_in l.known (cases_of (drop l.case-index l.cases))) l.scope.named
       ≡ named_by_cases (shape_of l.known) (cases_in l.known (cases_of l.cases)) l.initial.scope.named;
   results : CaseResultsFit (length (expressions_of l.known)) (cases_of (drop l.case-index l.cases));

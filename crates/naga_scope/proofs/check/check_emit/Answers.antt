@@ -31,7 +31,7 @@ returns-in_err-check_one-clause-check c =
     let s = handles_at c.loop-index.scope in
     let rest = from (i + 1) (e - (i + 1)) in
     let fault = sym (c.in_err-check_one.ensures.check
-        ∙ ap (λ h. check_emitted n.function s number h) c.from_index.ensures) in
+    ∙ ap (λ h. check_emitted n.function s number h) c.from_index.ensures) in
     given_back c.from_residual.result c.in_err-check_one.field-0.0 c.from_residual.ensures.1
     ∙ sym (ap (λ hs. check_emit n k number hs s) (range_more i e c.loop-index-test.true)
     ∙ ap (λ r. result_and r (check_emit n (named_after n.function i k) number rest (after_one n k i s))) fault)
@@ -59,7 +59,7 @@ loop-index-preserved c =
     let rest = from (i + 1) (e - (i + 1)) in
     let more = range_more i e c.loop-index-test.true in
     let may = sym (c.in_ok-check_one.ensures.check
-        ∙ ap (λ h. check_emitted n.function s number h) c.from_index.ensures) in
+    ∙ ap (λ h. check_emitted n.function s number h) c.from_index.ensures) in
     let following = c.in_ok-check_one.ensures.after refl ∙ ap (λ h. after_one n k h s) c.from_index.ensures in
     let named = c.in_ok-check_one.ensures.named refl ∙ ap (λ h. named_after n.function h k) c.from_index.ensures in
     record {

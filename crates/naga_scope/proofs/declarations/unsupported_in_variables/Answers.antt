@@ -9,11 +9,11 @@ returns-in-Some-unsupported_value c =
     let m = c.args.module.now in
     let here =
     here_left (λ i (g : GlobalVariable). ValueHasForm m g.ty g.init) m.global_variables
-        c.loop-handle.handle-iterator c.next.new.self c.in-Some.handle c.in-Some.variable.now c.in-Some.ensures.steps
+    c.loop-handle.handle-iterator c.next.new.self c.in-Some.handle c.in-Some.variable.now c.in-Some.ensures.steps
     c.loop-handle.invariant in
     let earlier =
     before_left (λ i (g : GlobalVariable). ValueHasForm m g.ty g.init) m.global_variables
-        c.loop-handle.handle-iterator c.next.new.self c.in-Some.handle c.in-Some.variable.now c.in-Some.ensures.steps
+    c.loop-handle.handle-iterator c.next.new.self c.in-Some.handle c.in-Some.variable.now c.in-Some.ensures.steps
     c.loop-handle.invariant in
     (c.in-Some.handle, c.in-Some.variable.now, here, refl, earlier, c.in-Some-unsupported_value.ensures)
 
@@ -21,11 +21,11 @@ pub loop-handle-preserved : goal.loop-handle-preserved
 loop-handle-preserved c =
     let m = c.args.module.now in
     next_left (λ i (g : GlobalVariable). ValueHasForm m g.ty g.init) m.global_variables
-        c.loop-handle.handle-iterator c.next.new.self c.in-Some.handle c.in-Some.variable.now c.in-Some.ensures.steps
+    c.loop-handle.handle-iterator c.next.new.self c.in-Some.handle c.in-Some.variable.now c.in-Some.ensures.steps
     c.in_default.ensures c.loop-handle.invariant
 
 pub returns : goal.returns
 returns c =
     let m = c.args.module.now in
     none_left (λ i (g : GlobalVariable). ValueHasForm m g.ty g.init) m.global_variables
-        c.loop-handle.handle-iterator c.in-None.ensures.steps.0 c.loop-handle.invariant
+    c.loop-handle.handle-iterator c.in-None.ensures.steps.0 c.loop-handle.invariant

@@ -8,4 +8,4 @@ abbrev pub invariant-loop-statement : goal.invariant-loop-statement
 invariant-loop-statement l =
     NamedSoFar l.initial.namer [] (flat_map (own_labels l.function) (trees_of l.statements))
     (flat_map (own_labels l.function) (trees_of (drop l.statement-index l.statements))) l.namer
-        (map string_bytes l.names.items)
+    (map string_bytes l.names.items)

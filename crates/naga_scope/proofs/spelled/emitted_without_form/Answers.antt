@@ -17,10 +17,10 @@ returns-then-is_bound_unsupported c =
     let i = c.loop-index.index in
     let e = c.args.range.end in
     let passes = sym (c.is_bound_unsupported.ensures ∙ ap (λ h. bound h && p h) c.from_index-handle.ensures)
-        ∙ c.if-is_bound_unsupported.true in
+    ∙ c.if-is_bound_unsupported.true in
     ap Some c.from_index-handle.ensures
     ∙ (sym (ap (λ hs. find p (filter bound hs)) (range_more i e c.loop-index-test.true)
-        ∙ kept_found p bound i (from (i + 1) (e - (i + 1))) passes)
+    ∙ kept_found p bound i (from (i + 1) (e - (i + 1))) passes)
     ∙ c.loop-index.invariant)
 
 pub loop-index-preserved : goal.loop-index-preserved
@@ -30,9 +30,9 @@ loop-index-preserved c =
     let i = c.loop-index.index in
     let e = c.args.range.end in
     let fails = sym (c.is_bound_unsupported.ensures ∙ ap (λ h. bound h && p h) c.from_index-handle.ensures)
-        ∙ c.if-is_bound_unsupported.false in
+    ∙ c.if-is_bound_unsupported.false in
     sym (ap (λ hs. find p (filter bound hs)) (range_more i e c.loop-index-test.true)
-        ∙ kept_not_found p bound i (from (i + 1) (e - (i + 1))) fails)
+    ∙ kept_not_found p bound i (from (i + 1) (e - (i + 1))) fails)
     ∙ c.loop-index.invariant
 
 pub returns : goal.returns
@@ -40,4 +40,4 @@ returns c =
     let p = is_unsupported_let c.args.known.now.shader.now c.args.known.now.info.now in
     let bound = bound_in c.args.known.now in
     sym (ap (λ hs. find p (filter bound hs))
-        (range_none c.loop-index.index c.args.range.end c.loop-index-test.false)) ∙ c.loop-index.invariant
+    (range_none c.loop-index.index c.args.range.end c.loop-index-test.false)) ∙ c.loop-index.invariant

@@ -12,7 +12,7 @@ loop-statement-preserved c =
     let ss = c.args.statements.now in
     let count = c.loop-statement.invariant.count in
     let at = tree_at ss c.loop-statement.statement-index c.loop-statement.number c.statement-item.result count
-        c.loop-statement-test.true c.statement-item.is in
+    c.loop-statement-test.true c.statement-item.is in
     record {
       count = omega (arith, count);
       passed = one_passed (λ i st. own_unsupported st ≡ None) (trees_of ss) c.loop-statement.number
@@ -27,4 +27,4 @@ returns c =
     let past = c.loop-statement-test.false in
     let same = length-map c.args.statements.now (λ s. tree_of s.now) in
     all_passed (λ i st. own_unsupported st ≡ None) sts c.loop-statement.number
-        (omega (arith, count, past, same)) c.loop-statement.invariant.passed
+    (omega (arith, count, past, same)) c.loop-statement.invariant.passed

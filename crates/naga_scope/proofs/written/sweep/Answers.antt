@@ -39,17 +39,17 @@ loop-end-preserved-in-Some c =
       bound = omega (arith, bound);
       swept = λ writes just.
           swept_next es writes c.args.lines.now c.loop-end.lines c.note_operands.new.lines x e line
-              c.loop-end.invariant.size at below is
+          c.loop-end.invariant.size at below is
           c.note_operands.ensures
           (subst (SweptTo es writes c.args.lines.now c.loop-end.lines) (sym last)
-              (c.loop-end.invariant.swept writes just));
+          (c.loop-end.invariant.swept writes just));
       found =
           subst (FoundFrom formed es x c.note_operands.new.lines)
           (sym (c.found_with-found.ensures
-              ∙ ap (λ h. found_with c.loop-end.found line h c.expression_has_form-has_form.result)
-              c.from_index-handle.ensures))
+          ∙ ap (λ h. found_with c.loop-end.found line h c.expression_has_form-has_form.result)
+          c.from_index-handle.ensures))
           (found_next formed es c.loop-end.lines c.note_operands.new.lines x e line
-              c.expression_has_form-has_form.result c.loop-end.found at below is
+          c.expression_has_form-has_form.result c.loop-end.found at below is
           (sym (c.expression_has_form-has_form.ensures es c.requires.constants)) c.note_operands.ensures
           (subst (λ k. FoundFrom formed es k c.loop-end.lines c.loop-end.found) (sym last) c.loop-end.invariant.found));
     }
@@ -69,7 +69,7 @@ loop-end-preserved c =
       swept = λ writes just.
           swept_passed es writes c.args.lines.now c.loop-end.lines x none
           (subst (SweptTo es writes c.args.lines.now c.loop-end.lines) (sym last)
-              (c.loop-end.invariant.swept writes just));
+          (c.loop-end.invariant.swept writes just));
       found = found_passed formed es c.loop-end.lines x c.loop-end.found none
           (subst (λ k. FoundFrom formed es k c.loop-end.lines c.loop-end.found) (sym last) c.loop-end.invariant.found);
     }

@@ -11,4 +11,4 @@ pub returns : goal.returns
 returns g c =
     writes_as (sym (case_values_row _ _ (sym c.is_default_alone.ensures ∙ c.if-is_default_alone.false)))
     (writes_then c.put-2.ensures (writes_then c.write_waiting.ensures
-        (writes_then c.write_case_value.ensures c.put-3.ensures)))
+    (writes_then c.write_case_value.ensures c.put-3.ensures)))

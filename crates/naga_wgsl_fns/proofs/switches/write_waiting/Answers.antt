@@ -7,6 +7,6 @@ pub loop-case-preserved : goal.loop-case-preserved
 loop-case-preserved g c =
     leaves_more _ _ _ _ _ _ _
     (leaves_more _ _ _ _ _ _ _ c.loop-case.invariant
-        (waiting_more c.args.waiting.now c.loop-case.case-index c.case-item.result c.loop-case-test.true
-        c.case-item.is) c.write_case_value.ensures)
+    (waiting_more c.args.waiting.now c.loop-case.case-index c.case-item.result c.loop-case-test.true
+    c.case-item.is) c.write_case_value.ensures)
     refl c.put.ensures

@@ -7,7 +7,7 @@ use Rattle.naga_wgsl_out.proofs.enables.of_variables.Goals as goal
 pub loop-variable-init : goal.loop-variable-init
 loop-variable-init c =
     found_in_pairs (λ (x : Extension) (v : GlobalVariable). x.for_space v.space) _ _ c.args.variables.now
-        c.none-found.ensures
+    c.none-found.ensures
     (c.into_iter-variable-iterator.ensures.into_iter_gives ∙ c.iter-variable-items.ensures)
 
 pub loop-variable-preserved : goal.loop-variable-preserved

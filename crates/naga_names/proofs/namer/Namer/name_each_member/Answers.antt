@@ -9,7 +9,7 @@ use Rattle.naga_names.proofs.namer.Namer.name_each_member.Goals as goal
 pub returns-in_default-clause-err : goal.returns-in_default-clause-err
 returns-in_default-clause-err c =
     member_key_refused c.args.self.now (names_in c.args.output.now) c.args.ty c.args.members.now
-        c.loop-index.index c.loop-index.self (names_in c.loop-index.output) c.index-members-index.result
+    c.loop-index.index c.loop-index.self (names_in c.loop-index.output) c.index-members-index.result
     c.loop-index-test.true c.index-members-index.is c.in_default.ensures c.loop-index.invariant.named
 
 pub returns-in_err-put_name-clause-err : goal.returns-in_err-put_name-clause-err

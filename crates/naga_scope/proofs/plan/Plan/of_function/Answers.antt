@@ -65,7 +65,7 @@ pub check_function-checked-requires : goal.check_function-checked-requires
 check_function-checked-requires c =
     let k = c.args.known.now in
     let changes = all_changes k _ (ap trees_of c.as_slice-statements.ensures.value ∙ c.in_ok-found.ensures)
-        c.in-Some.changes c.in-Some.ensures in
+    c.in-Some.changes c.in-Some.ensures in
     let start = c.in_ok-scope.ensures.start (λ number. []) k.shader.now k.module_info.now k.info.now in
     record {
       at = record {
@@ -90,23 +90,23 @@ returns-in-Some-first c =
     let sts = trees_of c.as_slice-statements.result.now in
     let trees = ap trees_of c.as_slice-statements.ensures.value ∙ c.in_ok-found.ensures in
     let small = few_trees c.as_slice-statements.result.now c.in_ok-found.found.items
-        c.as_slice-statements.ensures.value (omega (arith, c.in_ok-found.found.ok.0, c.in_ok-found.found.small)) in
+    c.as_slice-statements.ensures.value (omega (arith, c.in_ok-found.found.ok.0, c.in_ok-found.found.small)) in
     let found = first_found c.args.explicit k.shader.now k.module_info.now k.function.now k.info.now
-        c.args.namer.now sts trees c.requires.ordered small
+    c.args.namer.now sts trees c.requires.ordered small
     c.check_function-checked.result c.check_function-checked.ensures.check
     c.unsupported_statement.result c.unsupported_statement.ensures
     c.in_ok-written.written c.in_ok-written.ensures
     c.declared_without_form.result c.declared_without_form.ensures
     c.annotated_without_form.result c.annotated_without_form.ensures in
     let first = subst (FoundBelow c.args.explicit k.shader.now k.module_info.now k.function.now k.info.now
-        c.args.namer.now 5) (sym c.first_lack-first.ensures ∙ c.in-Some-first.is) found in
+    c.args.namer.now 5) (sym c.first_lack-first.ensures ∙ c.in-Some-first.is) found in
     record {
       ok = tt;
       named = tt;
       err = first.refused;
       first = first_to_plan c.args.explicit k.shader.now k.module_info.now k.function.now k.info.now c.args.namer.now
           (LabelsGetNames c.args.namer.now k.function.now)
-              (none_full (named_all k sts trees c.in_ok-named.ensures.ok)) c.in-Some-first.error first;
+          (none_full (named_all k sts trees c.in_ok-named.ensures.ok)) c.in-Some-first.error first;
       begun = begun_all k sts trees c.in_ok-named.ensures.ok;
     }
 
@@ -117,9 +117,9 @@ returns-clause-ok c =
     let sts = trees_of c.as_slice-statements.result.now in
     let trees = ap trees_of c.as_slice-statements.ensures.value ∙ c.in_ok-found.ensures in
     let small = few_trees c.as_slice-statements.result.now c.in_ok-found.found.items
-        c.as_slice-statements.ensures.value (omega (arith, c.in_ok-found.found.ok.0, c.in_ok-found.found.small)) in
+    c.as_slice-statements.ensures.value (omega (arith, c.in_ok-found.found.ok.0, c.in_ok-found.found.small)) in
     let nothing = nothing_found c.args.explicit k.shader.now k.module_info.now f k.info.now c.args.namer.now sts
-        trees c.requires.ordered small
+    trees c.requires.ordered small
     c.check_function-checked.result c.check_function-checked.ensures.check
     c.unsupported_statement.result c.unsupported_statement.ensures
     c.in_ok-written.written c.in_ok-written.ensures
@@ -128,8 +128,8 @@ returns-clause-ok c =
     (sym c.first_lack-first.ensures ∙ c.in_default-first.is) in
     let kept = c.check_function-checked.ensures.kept in
     let at_first =
-        subst (HasRoom c.in_ok-scope.scope) (all_changes k sts trees c.in-Some.changes c.in-Some.ensures)
-        c.in_ok-scope.ensures.room in
+    subst (HasRoom c.in_ok-scope.scope) (all_changes k sts trees c.in-Some.changes c.in-Some.ensures)
+    c.in_ok-scope.ensures.room in
     record {
       in_scope = nothing.0;
       starts = λ named. c.restart.ensures.start named k.shader.now k.module_info.now k.info.now;
@@ -150,35 +150,35 @@ pub returns-in_err-named-clause-err : goal.returns-in_err-named-clause-err
 returns-in_err-named-clause-err c =
     let k = c.args.known.now in
     let refused = refused_all k _ (ap trees_of c.as_slice-statements.ensures.value ∙ c.in_ok-found.ensures)
-        c.in_err-named.ensures.err in
+    c.in_err-named.ensures.err in
     if_err c.from_residual-in_err-named.result (Unnamed c.in_err-named.field-0.0)
-        (IsRefusalToPlanFor c.args.explicit k c.args.namer.now)
+    (IsRefusalToPlanFor c.args.explicit k c.args.namer.now)
     c.from_residual-in_err-named.ensures.1 refused.why
 
 pub returns-in_err-named-clause-begun : goal.returns-in_err-named-clause-begun
 returns-in_err-named-clause-begun c =
     on_err c.from_residual-in_err-named.result
     (refused_begun (refused_all c.args.known.now _
-        (ap trees_of c.as_slice-statements.ensures.value ∙ c.in_ok-found.ensures) c.in_err-named.ensures.err))
+    (ap trees_of c.as_slice-statements.ensures.value ∙ c.in_ok-found.ensures) c.in_err-named.ensures.err))
 
 pub returns-clause-named : goal.returns-clause-named
 returns-clause-named c =
     named_all c.args.known.now _ (ap trees_of c.as_slice-statements.ensures.value ∙ c.in_ok-found.ensures)
-        c.in_ok-named.ensures.ok
+    c.in_ok-named.ensures.ok
 
 pub returns-in_default-clause-begun : goal.returns-in_default-clause-begun
 returns-in_default-clause-begun c =
     begun_all c.args.known.now _ (ap trees_of c.as_slice-statements.ensures.value ∙ c.in_ok-found.ensures)
-        c.in_ok-named.ensures.ok
+    c.in_ok-named.ensures.ok
 
 pub returns-in_err-scope-clause-begun : goal.returns-in_err-scope-clause-begun
 returns-in_err-scope-clause-begun c =
     on_err c.from_residual-in_err-scope.result
     (begun_all c.args.known.now _ (ap trees_of c.as_slice-statements.ensures.value ∙ c.in_ok-found.ensures)
-        c.in_ok-named.ensures.ok)
+    c.in_ok-named.ensures.ok)
 
 pub returns-in_err-written-clause-begun : goal.returns-in_err-written-clause-begun
 returns-in_err-written-clause-begun c =
     on_err c.from_residual-in_err-written.result
     (begun_all c.args.known.now _ (ap trees_of c.as_slice-statements.ensures.value ∙ c.in_ok-found.ensures)
-        c.in_ok-named.ensures.ok)
+    c.in_ok-named.ensures.ok)

@@ -16,7 +16,7 @@ loop-self-preserved c = record {
 pub returns-clause-named : goal.returns-clause-named
 returns-clause-named c =
     sym (back_named c.args.mark c.loop-self.self _ refl)
-        ∙ ap (λ (s : TextPoint). s.named) c.loop-self.invariant.leads ∙ back_named c.args.mark c.args.self.now _ refl
+    ∙ ap (λ (s : TextPoint). s.named) c.loop-self.invariant.leads ∙ back_named c.args.mark c.args.self.now _ refl
 
 pub returns-clause-restores : goal.returns-clause-restores
 returns-clause-restores c before at reverts =

@@ -77,14 +77,14 @@ invariant-write_lines-loop-statement g l = record {
   leaves : Leaves (output_view g.W.TextSink.text g.W.TextSink.failures l.initial.out)
       (output_view g.W.TextSink.text g.W.TextSink.failures l.out)
       (block_text l.self l.initial.at.scope.named (handles_in l.self l.initial.at.scope.table)
-          l.initial.at.indent (block_of l.statements))
+      l.initial.at.indent (block_of l.statements))
       (block_text l.self l.at.scope.named (handles_in l.self l.at.scope.table) l.initial.at.indent
-          (block_of (drop l.statement-index l.statements)));
+      (block_of (drop l.statement-index l.statements)));
   block : CanWriteBlock l.self (block_of (drop l.statement-index l.statements));
   following : after_statements l.self l.at.scope.named (block_of (drop l.statement-index l.statements))
       (handles_in l.self l.at.scope.table)
       ≡ after_statements l.self l.initial.at.scope.named (block_of l.statements)
-          (handles_in l.self l.initial.at.scope.table);
+      (handles_in l.self l.initial.at.scope.table);
   named : named_following l.self (block_of (drop l.statement-index l.statements)) l.at.scope.named
       ≡ named_following l.self (block_of l.statements) l.initial.at.scope.named;
   kept : Extends l.initial.at.scope l.at.scope;
@@ -102,9 +102,9 @@ invariant-write_cases-loop-index g l = record {
   leaves : Leaves (output_view g.W.TextSink.text g.W.TextSink.failures l.initial.out)
       (output_view g.W.TextSink.text g.W.TextSink.failures l.out)
       (cases_text l.self l.initial.at.scope.named (handles_in l.self l.initial.at.scope.table)
-          l.initial.at.indent [] (cases_of l.cases))
+      l.initial.at.indent [] (cases_of l.cases))
       (cases_text l.self l.at.scope.named (handles_in l.self l.initial.at.scope.table) l.initial.at.indent
-          (case_values_between l.first l.index l.cases) (cases_of (drop l.index l.cases)));
+      (case_values_between l.first l.index l.cases) (cases_of (drop l.index l.cases)));
   cases : CanWriteCases l.self (cases_of (drop l.index l.cases));
   first : l.first ≤ l.index;
   named : named_after_cases l.self (cases_of (drop l.index l.cases)) l.at.scope.named

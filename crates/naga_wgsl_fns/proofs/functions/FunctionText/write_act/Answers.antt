@@ -16,7 +16,7 @@ pub write_act_line-requires-clause-operands : goal.write_act_line-requires-claus
 write_act_line-requires-clause-operands g c =
     let self = c.args.self.now in
     subst (AreInText self) (act_roots (bound self) (tree_of c.args.statement.now) c.requires.act)
-        c.requires.statement.roots
+    c.requires.statement.roots
 
 pub returns-in-Some-clause-text : goal.returns-in-Some-clause-text
 returns-in-Some-clause-text g c =
@@ -26,7 +26,7 @@ returns-in-Some-clause-text g c =
     let i = c.args.at.now.indent in
     writes_as
     (ap (λ word. act_text self s i word (own_operands st) (own_result st)) c.act_str-word.ensures
-        ∙ act_is self c.args.at.now.scope.named s i st c.requires.act)
+    ∙ act_is self c.args.at.now.scope.named s i st c.requires.act)
     c.write_act_line.ensures
 
 pub returns-in_default-clause-text : goal.returns-in_default-clause-text
@@ -37,7 +37,7 @@ returns-in_default-clause-text g c =
     let i = c.args.at.now.indent in
     writes_as
     (ap (λ word. act_text self s i word (own_operands st) (own_result st)) c.act_str-word.ensures
-        ∙ act_is self c.args.at.now.scope.named s i st c.requires.act)
+    ∙ act_is self c.args.at.now.scope.named s i st c.requires.act)
     c.write_act_line.ensures
 
 pub returns-in-Some-clause-after : goal.returns-in-Some-clause-after
@@ -52,7 +52,7 @@ pub returns-in-Some-clause-passed : goal.returns-in-Some-clause-passed
 returns-in-Some-clause-passed g c =
     let st = tree_of c.args.statement.now in
     let one : statement_changes st ≡ 1 = act_changes st c.requires.act ∙ ap (λ o. length (option_to_list o))
-        (sym c.result.ensures ∙ c.in-Some.is) in
+    (sym c.result.ensures ∙ c.in-Some.is) in
     let log = c.give.ensures.counted.log in
     let names = c.give.ensures.counted.names in
     record {

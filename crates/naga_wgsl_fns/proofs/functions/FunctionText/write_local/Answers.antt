@@ -17,4 +17,4 @@ pub returns : goal.returns
 returns g c =
     writes_as (sym (local_row c.args.self.now c.args.handle c.index-local.result.now c.index-local.ensures))
     (writes_then c.put.ensures (writes_then c.write_local_name.ensures
-        (writes_then c.put-2.ensures (writes_then c.write_type.ensures c.write_first_value.ensures))))
+    (writes_then c.put-2.ensures (writes_then c.write_type.ensures c.write_first_value.ensures))))

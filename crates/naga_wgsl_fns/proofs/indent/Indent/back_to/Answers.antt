@@ -22,7 +22,7 @@ truncate-requires c within =
     let wide : c.len-width.result ≡ length (string_bytes c.self.inside.blanks) = search rules in
     let less : c.args.level ≤ c.self.inside.level = omega (arith, c.self.view_is, c.requires) in
     let at : c.len-width.result - (c.self.inside.level - c.args.level) * 4 ≡ 4 * c.args.level =
-        omega (arith, long, wide, less) in
+    omega (arith, long, wide, less) in
     cut_at _ _ _ _ c.self.invariant less at
 
 pub invariant_of-self : goal.invariant_of-self
@@ -31,5 +31,5 @@ invariant_of-self c =
     let wide : c.len-width.result ≡ length (string_bytes c.self.inside.blanks) = search rules in
     let less : c.args.level ≤ c.self.inside.level = omega (arith, c.self.view_is, c.requires) in
     let at : c.len-width.result - (c.self.inside.level - c.args.level) * 4 ≡ 4 * c.args.level =
-        omega (arith, long, wide, less) in
+    omega (arith, long, wide, less) in
     c.truncate.ensures.bytes ∙ cut_is _ _ _ _ c.self.invariant less at

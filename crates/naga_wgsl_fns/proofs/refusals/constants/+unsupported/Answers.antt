@@ -47,7 +47,7 @@ unsupported_global-returns t c =
           (subst (NamesGlobal m e) c.representative.ensures (c.unsupported_representative.ensures.names e told));
       carries = is.carries c.unsupported_representative.result
           (subst (λ h. CarriesOfGlobal m h c.unsupported_representative.result)
-              c.representative.ensures c.unsupported_representative.ensures.carries);
+          c.representative.ensures c.unsupported_representative.ensures.carries);
     }
 
 -- ---- a literal
@@ -108,7 +108,7 @@ unsupported_representative-returns-in-ZeroValue t c =
       carries = unsupported.of_type c.args.«module».now c.args.handle c.in-ZeroValue.ty
           (expression.ZeroValue c.in-ZeroValue.ty)
           (c.index.ensures ∙ ap Some c.in-ZeroValue.is) refl refl
-              c.type_without_form.result c.type_without_form.ensures.carries;
+          c.type_without_form.result c.type_without_form.ensures.carries;
     }
 
 pub unsupported_representative-returns-in-None : goal.unsupported_representative-returns-in-None

@@ -15,8 +15,8 @@ returns-in-ImageSample-clause-names c es unsupported error told =
     let named =
     subst
     (λ compares. (offset : Bool) → IsFalse (sampling_is_written way.gather way.level compares way.clamp_to_edge
-        && offset) →
+    && offset) →
     Tells c.sampling_without_form.result
-        (NamesSampling (sampling_is_written way.gather way.level compares way.clamp_to_edge) offset))
+    (NamesSampling (sampling_is_written way.gather way.level compares way.clamp_to_edge) offset))
     c.is_some.ensures c.sampling_without_form.ensures in
     subst (λ e. NamesExpression m info es e error) (sym way.is) (named _ lacks error told)
