@@ -33,7 +33,7 @@ use Rattle.naga_ir.specs.declared.types.TypeInner.{TypeInner}
 use Rattle.naga_ir.specs.declared.types.TypeInner.TheVariants as inner
 use Rattle.naga_ir.specs.declared.types.VectorSize.{VectorSize}
 use Rattle.naga_ir.specs.declared.expression.SwizzleComponent.{SwizzleComponent}
-use Rattle.module_meaning.specs.TypeIdentity.{vector_number}
+use Rattle.module_meaning.specs.TypeIdentity.{component_count}
 use Rattle.naga_info.specs.Resolution.{inner_of}
 use Rattle.naga_info.specs.declared.info.ExpressionInfo.{ExpressionInfo}
 use Rattle.naga_info.specs.declared.info.ModuleInfo.{ModuleInfo}
@@ -239,9 +239,9 @@ module _ (m : Module) (f : Option Function) (known : List TypeResolution) (argum
   letters_told : (n : VectorSize) (pattern : List SwizzleComponent) (r : TypeResolution) (it : TypeInner) →
       inner_of r m.types ≡ Some it →
       is_in_class m.types class.Vector it ≡ true → is_swizzled n pattern it ≡ false →
-      IsSome (first_reason (letter_reason m.types r) (take (vector_number n) pattern))
+      IsSome (first_reason (letter_reason m.types r) (take (component_count n) pattern))
   letters_told n pattern r (inner.Vector size scalar) is vector fails =
-      lacking_told r (inner.Vector size scalar) is (take (vector_number n) pattern) fails
+      lacking_told r (inner.Vector size scalar) is (take (component_count n) pattern) fails
   letters_told n pattern r _ is vector fails = absurd (true≢false (sym vector))
 
   operands_told : (e : Expression) → operands_fit m.types known e ≡ false → all_below h (expression_operands e) ≡ true →
@@ -278,7 +278,7 @@ module _ (m : Module) (f : Option Function) (known : List TypeResolution) (argum
           let here : known_inner m.types known vector ≡ Some it.0 =
           ap (option_and_then (λ r. inner_of r m.types)) k.1 ∙ it.1 in
           some_second (class_reason m.types known class.Vector vector) (swizzle_reason m.types known n pattern vector)
-          (some_then (λ r. first_reason (letter_reason m.types r) (take (vector_number n) pattern))
+          (some_then (λ r. first_reason (letter_reason m.types r) (take (component_count n) pattern))
           (slice_get known vector) k.0 k.1
           (letters_told n pattern k.0 it.0 it.1
           (sym (ap (λ o. option_map_or (is_in_class m.types class.Vector) o false) here) ∙ is)

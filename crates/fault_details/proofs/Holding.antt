@@ -28,7 +28,7 @@ use Rattle.naga_ir.specs.declared.types.TypeInner.{TypeInner}
 use Rattle.naga_ir.specs.declared.types.TypeInner.TheVariants as inner
 use Rattle.naga_ir.specs.declared.expression.SwizzleComponent.{SwizzleComponent}
 use Rattle.module_meaning.specs.acceptance.StatementsFit.{components_pointer}
-use Rattle.module_meaning.specs.TypeIdentity.{vector_number}
+use Rattle.module_meaning.specs.TypeIdentity.{component_count}
 use Rattle.naga_info.specs.declared.info.ModuleInfo.{ModuleInfo}
 use Rattle.naga_info.specs.declared.info.TypeResolution.{TypeResolution}
 use Rattle.naga_info.specs.declared.info.TypeResolution.TheVariants.{Handle, Value}
@@ -58,8 +58,8 @@ use Rattle.fault_details.specs.Reasons.{absent, class_reason, declared_reason, e
 use Rattle.fault_details.specs.Reasons.{first_reason, index_reason}
 use Rattle.fault_details.specs.Reasons.{initialiser_reason, item_reason, known_reason}
 use Rattle.fault_details.specs.Reasons.{case_value_reason}
-use Rattle.fault_details.specs.Reasons.{label_type_reason}
-use Rattle.fault_details.specs.Reasons.{label_types_reason, length_reason}
+use Rattle.fault_details.specs.Reasons.{case_value_type_reason}
+use Rattle.fault_details.specs.Reasons.{case_value_types_reason, length_reason}
 use Rattle.fault_details.specs.Reasons.{name_reason, names_reason, need_unless, not_before}
 use Rattle.fault_details.specs.Reasons.{number_reason, operand_reason}
 use Rattle.fault_details.specs.Reasons.{own_name_reason, own_reason, own_type_reason, part_reason}
@@ -291,8 +291,8 @@ module _ (m : Module) where
   operand_holds known (expression.Swizzle count vector pattern) =
       or_holds (IsReason m) (class_reason m.types known class.Vector vector)
       (swizzle_reason m.types known count pattern vector) (class_holds known class.Vector vector)
-      (then_holds (IsReason m) (λ r. first_reason (letter_reason m.types r) (take (vector_number count) pattern))
-      (λ r. first_holds (letter_reason m.types r) (letter_holds r) (take (vector_number count) pattern))
+      (then_holds (IsReason m) (λ r. first_reason (letter_reason m.types r) (take (component_count count) pattern))
+      (λ r. first_holds (letter_reason m.types r) (letter_holds r) (take (component_count count) pattern))
       (slice_get known vector))
   operand_holds known (expression.Load pointer) = class_holds known class.Pointer pointer
   operand_holds known (expression.CooperativeLoad columns rows role data_) =
@@ -301,22 +301,22 @@ module _ (m : Module) where
 
   -- ---- statements
 
-  label_type_holds : (s : Scalar) (v : SwitchValue) → Holds (label_type_reason s v)
-  label_type_holds s (switch_value.I32 number) = unless_holds (IsReason m) (is_signed s.kind) _
+  case_value_type_holds : (s : Scalar) (v : SwitchValue) → Holds (case_value_type_reason s v)
+  case_value_type_holds s (switch_value.I32 number) = unless_holds (IsReason m) (is_signed s.kind) _
       (signed_apart m.types s.width s.kind)
-  label_type_holds s (switch_value.U32 number) = unless_holds (IsReason m) (is_unsigned s.kind) _
+  case_value_type_holds s (switch_value.U32 number) = unless_holds (IsReason m) (is_unsigned s.kind) _
       (unsigned_apart m.types s.width s.kind)
-  label_type_holds s switch_value.Default = tt
+  case_value_type_holds s switch_value.Default = tt
 
-  label_types_hold : (s : Scalar) (cs : CaseTrees) → Holds (label_types_reason s cs)
+  label_types_hold : (s : Scalar) (cs : CaseTrees) → Holds (case_value_types_reason s cs)
   label_types_hold s no_cases = tt
   label_types_hold s (case v b falls cs) =
-      or_holds (IsReason m) (label_type_reason s v) (label_types_reason s cs) (label_type_holds s v)
+      or_holds (IsReason m) (case_value_type_reason s v) (case_value_types_reason s cs) (case_value_type_holds s v)
       (label_types_hold s cs)
 
   case_value_holds : (cs : CaseTrees) (it : TypeInner) → Holds (case_value_reason cs it)
   case_value_holds cs (inner.Scalar s) =
-      or_holds (IsReason m) (label_types_reason s cs) _ (label_types_hold s cs)
+      or_holds (IsReason m) (case_value_types_reason s cs) _ (label_types_hold s cs)
       (three_needs (case_values_differ cs) (has_case_value switch_value.Default cs)
       (not (last_falls_through false cs)) need.DistinctCaseValues need.Default need.End)
   case_value_holds cs _ = tt

@@ -33,8 +33,8 @@ use Rattle.module_meaning.specs.acceptance.StatementsFit.{last_falls_through, se
 use Rattle.module_meaning.specs.acceptance.StatementsFit.{selects, value_has_type}
 use Rattle.module_meaning.specs.TypeParts.{known_inner, known_pointee, pointee_type}
 use Rattle.fault_details.specs.Reasons.{Reason, OtherClass, OtherType, Unexpected, class_reason}
-use Rattle.fault_details.specs.Reasons.{is_in_class, case_value_reason, label_type_reason}
-use Rattle.fault_details.specs.Reasons.{label_types_reason}
+use Rattle.fault_details.specs.Reasons.{is_in_class, case_value_reason, case_value_type_reason}
+use Rattle.fault_details.specs.Reasons.{case_value_types_reason}
 use Rattle.fault_details.specs.Reasons.{need_unless, number_reason, passed_reason, return_reason}
 use Rattle.fault_details.specs.Reasons.{store_reason, stored_reason, switch_reason, type_reason}
 use Rattle.fault_details.specs.Reasons.{unlike}
@@ -161,17 +161,17 @@ module _ (types : List Type_) (known : List TypeResolution) where
 
   -- ---- switches
 
-  label_type_told : (s : Scalar) (v : SwitchValue) → case_value_is_of s v ≡ false → IsSome (label_type_reason s v)
+  label_type_told : (s : Scalar) (v : SwitchValue) → case_value_is_of s v ≡ false → IsSome (case_value_type_reason s v)
   label_type_told s (switch_value.I32 number) fails = some_unless _ _ fails
   label_type_told s (switch_value.U32 number) fails = some_unless _ _ fails
   label_type_told s switch_value.Default fails = absurd (true≢false fails)
 
-  label_types_told : (s : Scalar) (cs : CaseTrees) → case_values_are_of s cs ≡ false → IsSome (label_types_reason s cs)
+  label_types_told : (s : Scalar) (cs : CaseTrees) → case_values_are_of s cs ≡ false → IsSome (case_value_types_reason s cs)
   label_types_told s no_cases fails = absurd (true≢false fails)
   label_types_told s (case v b falls cs) fails =
       ⊎_elim
-      (λ first. some_first (label_type_reason s v) (label_types_reason s cs) (label_type_told s v first))
-      (λ later. some_second (label_type_reason s v) (label_types_reason s cs) (label_types_told s cs later))
+      (λ first. some_first (case_value_type_reason s v) (case_value_types_reason s cs) (label_type_told s v first))
+      (λ later. some_second (case_value_type_reason s v) (case_value_types_reason s cs) (label_types_told s cs later))
       (and_cases (case_value_is_of s v) (case_values_are_of s cs) fails)
 
   need_told : (test : Bool) (it : Need) → test ≡ false → IsSome (need_unless test it)
@@ -184,8 +184,8 @@ module _ (types : List Type_) (known : List TypeResolution) where
       let default = need_unless (has_case_value switch_value.Default cs) need.Default in
       let end = need_unless (not (last_falls_through false cs)) need.End in
       ⊎_elim
-      (λ a. some_first (label_types_reason s cs) (option_or differ (option_or default end)) (label_types_told s cs a))
-      (λ others. some_second (label_types_reason s cs) (option_or differ (option_or default end)) (⊎_elim
+      (λ a. some_first (case_value_types_reason s cs) (option_or differ (option_or default end)) (label_types_told s cs a))
+      (λ others. some_second (case_value_types_reason s cs) (option_or differ (option_or default end)) (⊎_elim
       (λ b. some_first differ (option_or default end) (need_told _ _ b))
       (λ last. some_second differ (option_or default end) (⊎_elim
       (λ c. some_first default end (need_told _ _ c))

@@ -70,7 +70,7 @@ use Rattle.module_meaning.specs.acceptance.StatementsFit.{is_signed, is_uniform_
 use Rattle.module_meaning.specs.acceptance.StatementsFit.{is_unsigned}
 use Rattle.module_meaning.specs.acceptance.StatementsFit.{case_values_differ, last_falls_through}
 use Rattle.module_meaning.specs.acceptance.StatementsFit.{selects}
-use Rattle.module_meaning.specs.TypeIdentity.{vector_number}
+use Rattle.module_meaning.specs.TypeIdentity.{component_count}
 use Rattle.module_meaning.specs.TypeParts.{has_computed_parts, inner_at, known_inner}
 use Rattle.module_meaning.specs.TypeParts.{known_pointee, part_count, points_to_atomic}
 use Rattle.module_meaning.specs.TypeParts.{vector_scalar}
@@ -277,7 +277,7 @@ index_reason index count = if nat_lt index count then None else Some (PastParts 
 
 -- Does the type have a component for the letter?
 abbrev pub has_letter : SwizzleComponent → TypeInner → Bool
-has_letter letter (inner.Vector n s) = nat_lt (tag_of letter_type letter) (vector_number n)
+has_letter letter (inner.Vector n s) = nat_lt (tag_of letter_type letter) (component_count n)
 has_letter letter it = false
 
 -- a type that has none
@@ -292,7 +292,7 @@ abbrev pub swizzle_reason :
     (vector : ℕ) → Option Reason
 swizzle_reason types known chosen letters vector =
     option_and_then
-    (λ r. first_reason (letter_reason types r) (take (vector_number chosen) letters))
+    (λ r. first_reason (letter_reason types r) (take (component_count chosen) letters))
     (slice_get known vector)
 
 -- what an expression asks of its operands
@@ -327,23 +327,23 @@ scalar_unless test wanted got =
     if test then None
     else Some (OtherType (Value (inner.Scalar wanted)) (Value (inner.Scalar got)))
 
-abbrev pub label_type_reason : Scalar → SwitchValue → Option Reason
-label_type_reason s (switch_value.I32 number) =
+abbrev pub case_value_type_reason : Scalar → SwitchValue → Option Reason
+case_value_type_reason s (switch_value.I32 number) =
     scalar_unless (is_signed s.kind) s (scalar_of kind.Sint 4)
-label_type_reason s (switch_value.U32 number) =
+case_value_type_reason s (switch_value.U32 number) =
     scalar_unless (is_unsigned s.kind) s (scalar_of kind.Uint 4)
-label_type_reason s switch_value.Default = None
+case_value_type_reason s switch_value.Default = None
 
 -- the first case value of another scalar
-abbrev pub label_types_reason : Scalar → CaseTrees → Option Reason
-label_types_reason s no_cases = None
-label_types_reason s (case v b falls cs) =
-    option_or (label_type_reason s v) (label_types_reason s cs)
+abbrev pub case_value_types_reason : Scalar → CaseTrees → Option Reason
+case_value_types_reason s no_cases = None
+case_value_types_reason s (case v b falls cs) =
+    option_or (case_value_type_reason s v) (case_value_types_reason s cs)
 
 -- case values of a selector that is this scalar
 abbrev pub case_value_reason : CaseTrees → TypeInner → Option Reason
 case_value_reason cs (inner.Scalar s) =
-    option_or (label_types_reason s cs)
+    option_or (case_value_types_reason s cs)
     (option_or (need_unless (case_values_differ cs) need.DistinctCaseValues)
     (option_or (need_unless (has_case_value switch_value.Default cs) need.Default)
     (need_unless (not (last_falls_through false cs)) need.End)))

@@ -29,7 +29,7 @@ pub found_beside : (explicit : Bool) (m : Module) (info : ModuleInfo) (answer : 
     IsErrAnd answer TellsOfModule →
     (before after : ℕ) × RefusesOnlyFor answer explicit m info before after →
     MatchOption found (NothingIsRefused explicit m info) (StandsIn explicit m info) →
-    IfSome found (λ refusal. IsFirst explicit m info refusal.place) →
+    IfSome found (λ refusal. IsFirst explicit m info refusal.position) →
     TellsBeside explicit m info answer found
 found_beside explicit m info (Ok x) found tells reason stands first = absurd tells
 found_beside explicit m info (Err e) None tells reason nothing first =

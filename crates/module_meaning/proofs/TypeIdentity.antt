@@ -34,7 +34,7 @@ use Rattle.naga_ir.specs.declared.types.TypeInner.{TypeInner}
 use Rattle.naga_ir.specs.declared.types.TypeInner.TheVariants as inner
 use Rattle.naga_words.specs.Spelling.{is_struct}
 use Rattle.module_meaning.specs.TypeIdentity.{Identity, Nothing, StructAt, Itself, truth_number}
-use Rattle.module_meaning.specs.TypeIdentity.{kind_number, vector_number, components_number}
+use Rattle.module_meaning.specs.TypeIdentity.{kind_number, component_count, components_number}
 use Rattle.module_meaning.specs.TypeIdentity.{cooperative_number, role_number, space_number}
 use Rattle.module_meaning.specs.TypeIdentity.{space_bits, dimension_number, length_kind}
 use Rattle.module_meaning.specs.TypeIdentity.{length_number}
@@ -67,7 +67,7 @@ scalar_distinguished s = λ i. record { kind = kind_distinguished s.kind i; widt
 abbrev pub vector_of : ℕ → VectorSize
 vector_of n = get_or (vector.Bi ∷ vector.Bi ∷ vector.Bi ∷ vector.Tri ∷ vector.Quad ∷ []) n vector.Bi
 
-pub vector_distinguished : (n : VectorSize) → vector_of (vector_number n) ≡ n
+pub vector_distinguished : (n : VectorSize) → vector_of (component_count n) ≡ n
 vector_distinguished vector.Bi = refl
 vector_distinguished _ = refl
 

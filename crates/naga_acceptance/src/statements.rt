@@ -139,10 +139,10 @@ pub fn selects(scalar: Scalar) -> bool
 }
 
 /// Whether the case value is of the selector's type.
-pub(crate) fn case_value_is_of(scalar: Scalar, label: SwitchValue) -> bool
-    ensures { result ≡ case_value_is_of scalar label }
+pub(crate) fn case_value_is_of(scalar: Scalar, case_value: SwitchValue) -> bool
+    ensures { result ≡ case_value_is_of scalar case_value }
 {
-    match (label, scalar.kind) {
+    match (case_value, scalar.kind) {
         (SwitchValue::I32(_), ScalarKind::Sint) => true,
         (SwitchValue::U32(_), ScalarKind::Uint) => true,
         (SwitchValue::Default, _) => true,
@@ -174,11 +174,11 @@ fn is_same_case_value(a: SwitchValue, b: SwitchValue) -> bool
 }
 
 /// Whether one of the cases has the value.
-pub fn has_case_value(label: SwitchValue, cases: &[SwitchCase]) -> bool
-    ensures { result ≡ has_case_value label (cases_of cases.now) }
+pub fn has_case_value(case_value: SwitchValue, cases: &[SwitchCase]) -> bool
+    ensures { result ≡ has_case_value case_value (cases_of cases.now) }
 {
     for case in cases {
-        if is_same_case_value(label, case.value) {
+        if is_same_case_value(case_value, case.value) {
             return true;
         }
     }
@@ -198,11 +198,11 @@ fn is_before(a: SwitchValue, b: SwitchValue) -> bool
     }
 }
 
-fn is_after(last: Option<SwitchValue>, label: SwitchValue) -> bool
-    ensures { result ≡ is_after last label }
+fn is_after(last: Option<SwitchValue>, case_value: SwitchValue) -> bool
+    ensures { result ≡ is_after last case_value }
 {
     match last {
-        Some(last) => is_before(last, label),
+        Some(last) => is_before(last, case_value),
         None => true,
     }
 }

@@ -19,7 +19,7 @@ use Rattle.wgsl_layout.specs.declared.layouts.Placed.{Placed}
 use Rattle.naga_layout.specs.Types.{Rule, StandInOrder, has_row, inner_layout_by, kept_members}
 use Rattle.naga_layout.specs.Types.{laid_array, layout_at, layout_within, named_layout_by}
 use Rattle.naga_layout.specs.Types.{parts_before, placed_member, placed_members, told_length}
-use Rattle.naga_layout.specs.Types.{told_rule}
+use Rattle.naga_layout.specs.Types.{user_rule}
 
 -- layouts that agree on the types before h agree on what is over these alone
 module _ (f g : ℕ → Option Layout) (n : ℕ) (same : (h : ℕ) → h < n → f h ≡ g h) where
@@ -76,6 +76,6 @@ module _ (rule : Rule) (types : List Type_) (order : StandInOrder types) where
 
 -- what is told to users counts each struct as declared
 pub told_is : (f : ℕ → Option Layout) (h : ℕ) (it : TypeInner) →
-    named_layout_by told_rule f h it ≡ inner_layout_by true f it
+    named_layout_by user_rule f h it ≡ inner_layout_by true f it
 told_is f h (inner.Struct members span) = refl
 told_is f h _ = refl

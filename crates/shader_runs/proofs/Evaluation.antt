@@ -3,7 +3,7 @@ use Rattle.std.proofs.Common.{◌≡◌, ℕ, Bool, true, false, cond, List, [],
 use Rattle.std.proofs.Common.{refl, sym, ap, ◌∙◌, true≢false, ℤ, option_map, subst}
 use Rattle.std.specs.Prelude.{option_and_then}
 use Rattle.std.specs.Prelude.{IsTrue}
-use Rattle.shader_runs.specs.Value.{Bytes, PartTypes, place_at, place_to, Selector, MemberNamed}
+use Rattle.shader_runs.specs.Value.{Bytes, PartTypes, position_at, place_to, Selector, MemberNamed}
 use Rattle.shader_runs.specs.Value.{ValueType, PointerType, has_type, has_types, Value, Truth}
 use Rattle.shader_runs.specs.Value.{Whole, Pointer, Spelled, PartWord, IndexWord, ShortCircuit}
 use Rattle.shader_runs.specs.Value.{truth_in, integer_in, place_in, Place, type_of}
@@ -246,11 +246,11 @@ module _ (c : Call) (d : Respond) (names : Scope) where
       Means c d names (AsPlace (Index (place_form b) (value_form i))) (Some v)
   index_place pt b i x y v mb mi h e =
       let q = pointer_typed c.environment.parts (PointerType pt) tt x h in
-      element q.0 (ap place_in q.1) (option_and_then (place_at c.environment.parts q.0) (integer_in y)) refl
+      element q.0 (ap place_in q.1) (option_and_then (position_at c.environment.parts q.0) (integer_in y)) refl
       (sym (ap (λ x. index_value_of c.environment.parts c.meaning x y) q.1) ∙ e)
     where
       element : (p : Place) → place_in x ≡ Some p → (o : Option Place) →
-          option_and_then (place_at c.environment.parts p) (integer_in y) ≡ o →
+          option_and_then (position_at c.environment.parts p) (integer_in y) ≡ o →
           option_map Pointer o ≡ Some v →
           Means c d names (AsPlace (Index (place_form b) (value_form i))) (Some v)
       element p q None s e = absurd (none-some v e)
@@ -280,10 +280,10 @@ module _ (c : Call) (d : Respond) (names : Scope) where
   access_means k b i x y v mb mi h e =
       index_means b i x y v mb mi (typed_not_pointer c.environment.parts k x refl h) e
 
-  part_place : (pt : Bytes) (x : Selector) (b : Plain) (y v : Value) → Means c d names b (Some y) →
+  part_position : (pt : Bytes) (x : Selector) (b : Plain) (y v : Value) → Means c d names b (Some y) →
       IsTrue (has_type c.environment.parts (PointerType pt) y) → part_value c.environment.parts c.meaning x y ≡ Some v →
       Means c d names (AsPlace (PartOf x (place_form b))) (Some v)
-  part_place pt x b y v mb h e =
+  part_position pt x b y v mb h e =
       let q = pointer_typed c.environment.parts (PointerType pt) tt y h in
       part q.0 q.1 (place_to c.environment.parts q.0 x) refl
       (sym (ap (part_value c.environment.parts c.meaning x) q.1) ∙ e)
@@ -309,7 +309,7 @@ module _ (c : Call) (d : Respond) (names : Scope) where
   pub part_means : (k : ValueType) (x : Selector) (b : Plain) (y v : Value) →
       Means c d names b (Some y) → IsTrue (has_type c.environment.parts k y) →
       part_value c.environment.parts c.meaning x y ≡ Some v → Means c d names (part_form k x b) (Some v)
-  part_means (PointerType s) x b y v mb h e = part_place s x b y v mb h e
+  part_means (PointerType s) x b y v mb h e = part_position s x b y v mb h e
   part_means k x b y v mb h e = part_value_means x b y v mb (typed_not_pointer c.environment.parts k y refl h) e
 
   swizzled_value : (letters : Bytes) (y v : Value) → place_in y ≡ None → swizzle_value c.meaning letters y

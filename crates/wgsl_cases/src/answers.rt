@@ -153,7 +153,7 @@ fn push_place(
     requires { IsTrue (is_accepted known.now.module known.now.info) }
 {
     if let Some(refusal) = unwritable(alloc, &known.module, &known.info, flags)? {
-        let place = JsonRefusalPosition::of(&known.module, refusal.place);
+        let position = JsonRefusalPosition::of(&known.module, refusal.position);
         let told = format!(in alloc; "at: {place}\n")?;
         text.push_str(told.as_str())?;
     }

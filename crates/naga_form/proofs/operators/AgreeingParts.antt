@@ -36,7 +36,7 @@ use Rattle.module_meaning.specs.ExpressionShapes.{swizzle_letters}
 use Rattle.module_meaning.specs.acceptance.InfoSizes.{resolution_is_fit}
 use Rattle.module_meaning.specs.Names.{module_names, name_in, ItemsAreDistinguished}
 use Rattle.module_meaning.specs.acceptance.Ranges.{parts_before}
-use Rattle.module_meaning.specs.TypeIdentity.{level, vector_number, kind_number, identity}
+use Rattle.module_meaning.specs.TypeIdentity.{level, component_count, kind_number, identity}
 use Rattle.module_meaning.specs.TypeIdentity.{word_of_unspelled_type}
 use Rattle.module_meaning.specs.TypeParts.{is_part_number, value_part_count}
 use Rattle.naga_form.proofs.operators.Signatures.{declared_for}
@@ -88,23 +88,23 @@ module _ (m : Module) (info : ModuleInfo) where
 
   -- none of a vector
   vector_distinguished : (n : VectorSize) (s : Scalar) (r : TypeResolution) →
-      struct_distinguished (identity_by (over_scalar 1 s (vector_number n) 0 0) r) ≡ None
+      struct_distinguished (identity_by (over_scalar 1 s (component_count n) 0 0) r) ≡ None
   vector_distinguished n s r = by (is_some (scalar_word s))
     where
       by : (b : Bool) →
           struct_distinguished
-          (identity_by (if b then Some (level 1 (kind_number s.kind) s.width (vector_number n) 0 0) else None) r) ≡ None
+          (identity_by (if b then Some (level 1 (kind_number s.kind) s.width (component_count n) 0 0) else None) r) ≡ None
       by true = refl
       by false = refl
 
   pointee_vector : (at : AddressSpace) (n : VectorSize) (s : Scalar) (r : TypeResolution) →
-      struct_distinguished (identity_by (pointer_key at (over_scalar 1 s (vector_number n) 0 0)) r) ≡ None
+      struct_distinguished (identity_by (pointer_key at (over_scalar 1 s (component_count n) 0 0)) r) ≡ None
   pointee_vector at n s r = by (is_some (scalar_word s))
     where
       by : (b : Bool) →
           struct_distinguished
           (identity_by (pointer_key at
-          (if b then Some (level 1 (kind_number s.kind) s.width (vector_number n) 0 0) else None)) r) ≡ None
+          (if b then Some (level 1 (kind_number s.kind) s.width (component_count n) 0 0) else None)) r) ≡ None
       by true = refl
       by false = refl
 
@@ -226,7 +226,7 @@ module _ (m : Module) (info : ModuleInfo) where
           ByNumber (sym (same_Some _ s selected))
       of_handle h t there (inner.ValuePointer None scalar at) is form index s selected within = absurd cc
       of_handle h t there (inner.Vector n scalar) is form index s selected within =
-          named (Handle h) (Some h) (over_scalar 1 scalar (vector_number n) 0 0) form index s
+          named (Handle h) (Some h) (over_scalar 1 scalar (component_count n) 0 0) form index s
           (inner.Vector n scalar) (vector_distinguished n scalar (Handle h)) tt selected within
       of_handle h t there (inner.Struct members span) is form index s selected within =
           named (Handle h) (Some h) (Some (level 8 h 0 0 0 0)) form index s (inner.Struct members span) tt

@@ -41,7 +41,7 @@ use Rattle.module_meaning.specs.OperatorTable.{WithoutForm, ValueOf, Construct, 
 use Rattle.module_meaning.specs.OperatorTable.{one_word, asks}
 use Rattle.module_meaning.specs.Types.{word_of_values}
 use Rattle.module_meaning.specs.TypeIdentity.{identity, identity_at, identity_code, Itself, Nothing}
-use Rattle.module_meaning.specs.TypeIdentity.{StructAt, word_of_unspelled_type, vector_number}
+use Rattle.module_meaning.specs.TypeIdentity.{StructAt, word_of_unspelled_type, component_count}
 use Rattle.module_meaning.specs.Types.{called_spelling, type_names, spelled_resolution}
 use Rattle.module_meaning.specs.Undeclared.{is_undeclared, is_undeclared_struct}
 use Rattle.module_meaning.proofs.ExpressionForms.{called_spelled}
@@ -81,7 +81,7 @@ module _ (m : Module) (info : ModuleInfo) (accepted : IsTrue (is_accepted m info
         part_selector (declared_for m info g) base index ≡ Some s → w ≡ PartWord s → Call g e w
     Lettered : (size : VectorSize) (vector : ℕ) (pattern : List SwizzleComponent) →
         e ≡ expression.Swizzle size vector pattern →
-        w ≡ PartWord (MemberNamed (flat_map letter (take (vector_number size) pattern))) → Call g e w
+        w ≡ PartWord (MemberNamed (flat_map letter (take (component_count size) pattern))) → Call g e w
 
   -- ---- what applies an operator without asking
   asking : (o p : Operator) → Some p ≡ Some o → asks p ≡ true → asks o ≡ false → ⊥

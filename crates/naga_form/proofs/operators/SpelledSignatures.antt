@@ -38,7 +38,7 @@ use Rattle.module_meaning.specs.ModuleShapes.{module_shape}
 use Rattle.module_meaning.specs.OperatorTable.{Operator as TableOperator, BinarySign, WithoutForm}
 use Rattle.module_meaning.specs.OperatorTable.{PartAt, run_word, asks}
 use Rattle.module_meaning.specs.Shapes.{operator_shape}
-use Rattle.module_meaning.specs.TypeIdentity.{vector_number}
+use Rattle.module_meaning.specs.TypeIdentity.{component_count}
 use Rattle.shader_runs.specs.Premises.{handle_types}
 use Rattle.shader_runs.specs.Program.{ConstantTree, Fixed, no_constant, Expression}
 use Rattle.shader_runs.specs.Program.{Function, Load, Module, Request, Result, expression_of}
@@ -251,7 +251,7 @@ module _ (m : ir_module.Module) (info : ModuleInfo)
             (Some (WithoutForm (PartAt index))) (part_is_applied context index base is) among
     spelled_by (expression.Swizzle size vector pattern) at x among =
         of_one function es sound h (expression.Swizzle size vector pattern) at x
-        (PartWord (MemberNamed (flat_map letter (take (vector_number size) pattern))))
+        (PartWord (MemberNamed (flat_map letter (take (component_count size) pattern))))
         (by_letters size vector pattern refl) among
     spelled_by (expression.Load pointer) at x among =
         of_applied function es sound h (expression.Load pointer) at x (Load pointer) refl

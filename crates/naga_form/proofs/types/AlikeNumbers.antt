@@ -47,7 +47,7 @@ use Rattle.naga_words.specs.Spelling.{is_struct}
 use Rattle.module_meaning.specs.acceptance.InfoSizes.{is_handle_pointer, is_handle_space}
 use Rattle.module_meaning.specs.acceptance.InfoSizes.{resolution_is_fit}
 use Rattle.module_meaning.specs.TypeIdentity.{level}
-use Rattle.module_meaning.specs.TypeIdentity.{kind_number, vector_number, cooperative_number}
+use Rattle.module_meaning.specs.TypeIdentity.{kind_number, component_count, cooperative_number}
 use Rattle.module_meaning.specs.TypeIdentity.{role_number, dimension_number, truth_number}
 use Rattle.module_meaning.proofs.TypeIdentity.{formats}
 use Rattle.module_meaning.specs.AlikeTypes.{value_key, scalar_key, pointer_key}
@@ -177,10 +177,10 @@ pub data Filling : Type 0 where
   WithReturn : (tag : ℕ) → Filling
 
 abbrev vector_row : VectorSize → List ℕ × Filling
-vector_row n = (vector_word n, OverScalar 1 (vector_number n) 0)
+vector_row n = (vector_word n, OverScalar 1 (component_count n) 0)
 
 abbrev matrix_row : (columns rows : VectorSize) → List ℕ × Filling
-matrix_row c r = (matrix_word c r, OverScalar 2 (vector_number c) (vector_number r))
+matrix_row c r = (matrix_word c r, OverScalar 2 (component_count c) (component_count r))
 
 abbrev cooperative_row : (columns rows : CooperativeSize) → List ℕ × Filling
 cooperative_row c r = (cooperative_word c r, OverRole (cooperative_number c) (cooperative_number r))
@@ -329,12 +329,12 @@ module _ (distinguished : List ℕ → ℕ) where
   format_numbers format.R8Unorm = refl
   format_numbers _ = refl
 
-  vector_filling : (n : VectorSize) → filling_of (vector_word n) ≡ OverScalar 1 (vector_number n) 0
+  vector_filling : (n : VectorSize) → filling_of (vector_word n) ≡ OverScalar 1 (component_count n) 0
   unfolding filling_of
   vector_filling Bi = refl
   vector_filling _ = refl
 
-  matrix_filling : (c r : VectorSize) → filling_of (matrix_word c r) ≡ OverScalar 2 (vector_number c) (vector_number r)
+  matrix_filling : (c r : VectorSize) → filling_of (matrix_word c r) ≡ OverScalar 2 (component_count c) (component_count r)
   unfolding filling_of
   matrix_filling Bi Bi = refl
   matrix_filling Bi Tri = refl

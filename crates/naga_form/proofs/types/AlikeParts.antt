@@ -45,7 +45,7 @@ use Rattle.module_meaning.specs.acceptance.Ranges.{parts_before, parts_stand_bef
 use Rattle.module_meaning.proofs.Lists.{placed_at}
 use Rattle.module_meaning.specs.TypeIdentity.{identity, identity_code, word_of_unspelled_type}
 use Rattle.module_meaning.specs.TypeIdentity.{level, kind_number, length_kind, length_number}
-use Rattle.module_meaning.specs.TypeIdentity.{vector_number, space_number, truth_number}
+use Rattle.module_meaning.specs.TypeIdentity.{component_count, space_number, truth_number}
 use Rattle.module_meaning.specs.TypeIdentity.{dimension_number}
 use Rattle.module_meaning.specs.TypeParts.{part_type, pointed_part, member_type, inner_at}
 use Rattle.module_meaning.specs.TypeParts.{element_count}
@@ -72,8 +72,8 @@ pub data PartKind : Type 0 where
 
 -- of a type of the module
 abbrev pub kind_at : (base : ℕ) → TypeInner → PartKind
-kind_at base (inner.Vector n s) = ComponentKind (vector_number n)
-kind_at base (inner.Matrix columns rows s) = ElementKind (Some (vector_number columns))
+kind_at base (inner.Vector n s) = ComponentKind (component_count n)
+kind_at base (inner.Matrix columns rows s) = ElementKind (Some (component_count columns))
 kind_at base (inner.Array item count stride) = ElementKind (element_count count)
 kind_at base (inner.BindingArray item count) = ElementKind (element_count count)
 kind_at base (inner.Struct members span) = MemberKind base
@@ -82,7 +82,7 @@ kind_at base _ = NoKind
 -- of what a pointer points to
 abbrev pub pointee_kind : List Type_ → TypeInner → PartKind
 pointee_kind types (inner.Pointer base at) = option_map_or (kind_at base) (inner_at types base) NoKind
-pointee_kind types (inner.ValuePointer (Some n) s at) = ComponentKind (vector_number n)
+pointee_kind types (inner.ValuePointer (Some n) s at) = ComponentKind (component_count n)
 pointee_kind types _ = NoKind
 
 -- the members of a struct
@@ -295,24 +295,24 @@ module _ (m : Module) (are : TypesAreCounted m) (stand : PartsStand m) where
       pointee (inner.Vector k s) is x g = by (is_some (scalar_word s)) refl g
         where
           by : (b : Bool) → is_some (scalar_word s) ≡ b →
-              (if b then Some (level 1 (kind_number s.kind) s.width (vector_number k) 0 0)
+              (if b then Some (level 1 (kind_number s.kind) s.width (component_count k) 0 0)
               else None) ≡ Some x → Pointed (inner.Pointer base at) (following at x)
           by false word g = absurd cc
           by true word g =
-              plain (inner.Vector k s) is (level 1 (kind_number s.kind) s.width (vector_number k) 0 0) refl
+              plain (inner.Vector k s) is (level 1 (kind_number s.kind) s.width (component_count k) 0 0) refl
               (λ index. value_pointer at named (over_scalar 0 s 0 0 0) _ (scalar_is 0 s 0 0 0 word)) refl _ refl x g
       pointee (inner.Matrix columns rows s) is x g = by (is_some (scalar_word s)) refl g
         where
           by : (b : Bool) → is_some (scalar_word s) ≡ b →
-              (if b then Some (level 2 (kind_number s.kind) s.width (vector_number columns)
-              (vector_number rows) 0) else None) ≡ Some x →
+              (if b then Some (level 2 (kind_number s.kind) s.width (component_count columns)
+              (component_count rows) 0) else None) ≡ Some x →
               Pointed (inner.Pointer base at) (following at x)
           by false word g = absurd cc
           by true word g =
               plain (inner.Matrix columns rows s) is
-              (level 2 (kind_number s.kind) s.width (vector_number columns) (vector_number rows) 0) refl
-              (λ index. value_pointer at named (over_scalar 1 s (vector_number rows) 0 0) _
-              (scalar_is 1 s (vector_number rows) 0 0 word)) refl _ refl x g
+              (level 2 (kind_number s.kind) s.width (component_count columns) (component_count rows) 0) refl
+              (λ index. value_pointer at named (over_scalar 1 s (component_count rows) 0 0) _
+              (scalar_is 1 s (component_count rows) 0 0 word)) refl _ refl x g
       pointee (inner.CooperativeMatrix columns rows s role) is x g =
           partless (inner.CooperativeMatrix columns rows s role) is (λ index. refl) refl _
           (over_no_parts 3 s _ _ _ (refl, λ number access. refl, refl)) x g
@@ -373,9 +373,9 @@ module _ (m : Module) (are : TypesAreCounted m) (stand : PartsStand m) where
           (λ index. tt) refl
       after_word (Some k) named true word x g =
           Plain (space_number at) (access_number at)
-          (level 1 (kind_number s.kind) s.width (vector_number k) 0 0)
+          (level 1 (kind_number s.kind) s.width (component_count k) 0 0)
           (same_Some x _ (sym g
-          ∙ ap (pointer_key at) (scalar_is 1 s (vector_number k) 0 0 word))) refl
+          ∙ ap (pointer_key at) (scalar_is 1 s (component_count k) 0 0 word))) refl
           (λ index. value_pointer at named (over_scalar 0 s 0 0 0) _ (scalar_is 0 s 0 0 0 word)) refl
       after_word None named false word x g =
           let none : None ≡ Some x =
@@ -384,7 +384,7 @@ module _ (m : Module) (are : TypesAreCounted m) (stand : PartsStand m) where
       after_word (Some k) named false word x g =
           let none : None ≡ Some x =
           sym (ap (λ b. pointer_key at
-          (if b then Some (level 1 (kind_number s.kind) s.width (vector_number k) 0 0) else None)) word)
+          (if b then Some (level 1 (kind_number s.kind) s.width (component_count k) 0 0) else None)) word)
           ∙ g in absurd cc
 
       by : (b : Bool) → is_none (space_word at) ≡ b → (if b then None else pointer_key at (value_key size s))

@@ -24,7 +24,7 @@ use Rattle.naga_layout.proofs.Left.{all_aligned, members_aligned}
 use Rattle.naga_layout.proofs.Levels.{layout_is}
 use Rattle.naga_layout.proofs.Told.{told_alike}
 use Rattle.naga_layout.specs.Types.{StandInOrder, kept_members, kept_struct, layout_at}
-use Rattle.naga_layout.specs.Types.{named_layout_by, placed_members, told_rule}
+use Rattle.naga_layout.specs.Types.{named_layout_by, placed_members, user_rule}
 use Rattle.naga_names.specs.Reset.{members_of}
 use Rattle.naga_names.specs.declared.key.NameKey.TheVariants as key
 use Rattle.module_meaning.proofs.Layouts.{stand_in_order}
@@ -224,7 +224,7 @@ module _ (m : Module) (info : ModuleInfo) (flags : WriterFlags) (labels : LabelN
     tells_one : (h : ℕ) (ty : Type_) (ks : List Placed) (l : Layout) → slice_get m.types h ≡ Some ty →
         concerned_members m h ≡ Some ks →
         AllAligned ks → is_concerned ks ≡ true → is_declared m.special_types h ty.inner ≡ true →
-        placed_members (layout_in m) (members_of ty.inner) ≡ Some ks → layout_at told_rule m.types h ≡ Some l →
+        placed_members (layout_in m) (members_of ty.inner) ≡ Some ks → layout_at user_rule m.types h ≡ Some l →
         struct_layout_read program.structs ((type_names m).struct_name h) ≡ Some l
     unfolding struct_layout_read
     tells_one h ty [] l at is aligned concerned declared placed told = absurd cc

@@ -29,7 +29,7 @@ use Rattle.module_meaning.specs.ExpressionShapes.{Declared, own_selector, select
 use Rattle.module_meaning.specs.ExpressionShapes.{component_letters}
 use Rattle.module_meaning.specs.ExpressionContexts.{declared}
 use Rattle.module_meaning.specs.PlaceParts.{parts_at, pointee_parts, member_word}
-use Rattle.module_meaning.specs.TypeIdentity.{vector_number}
+use Rattle.module_meaning.specs.TypeIdentity.{component_count}
 use Rattle.module_meaning.specs.Types.{type_of_values, word_of_values, values_of, scalar_values}
 use Rattle.module_meaning.specs.TypeParts.{part_type, pointed_part, inner_at, member_type}
 use Rattle.module_meaning.specs.TypeParts.{is_part_number, value_part_count, element_count}
@@ -214,12 +214,12 @@ module _ (m : ir_module.Module) (info : ModuleInfo) (known : ℕ → Option Type
     pointee_part base space t there (inner.Vector n scalar) is selected within =
         element_after base space t there (inner.Vector n scalar) is
         (Value (inner.ValuePointer None scalar space)) refl refl
-        (component (vector_number n) within (slice_get component_letters index) refl selected)
+        (component (component_count n) within (slice_get component_letters index) refl selected)
     pointee_part base space t there (inner.Matrix columns rows scalar) is selected within =
         element_after base space t there (inner.Matrix columns rows scalar) is
         (Value (inner.ValuePointer (Some rows) scalar space)) refl refl
-        (λ w. numbered (Elements (Some (vector_number columns)) w)
-        (component_within (vector_number columns) within) selected)
+        (λ w. numbered (Elements (Some (component_count columns)) w)
+        (component_within (component_count columns) within) selected)
     pointee_part base space t there (inner.Array item n stride) is selected within =
         element_after base space t there (inner.Array item n stride) is (Value (inner.Pointer item space)) refl refl
         (λ w. numbered (Elements (element_count n) w) (element_within (element_count n) within) selected)
@@ -257,7 +257,7 @@ module _ (m : ir_module.Module) (info : ModuleInfo) (known : ℕ → Option Type
         by (Some t) there selected within = pointee_part base space t there t.inner refl selected within
     part_of (inner.ValuePointer (Some n) scalar space) points whole selected within =
         ElementPart (Value (inner.ValuePointer None scalar space)) refl refl
-        (λ w. numbered (Components (vector_number n) w) (component_within (vector_number n) within) selected)
+        (λ w. numbered (Components (component_count n) w) (component_within (component_count n) within) selected)
     part_of (inner.ValuePointer None scalar space) points whole selected within = absurd cc
     part_of _ points whole selected within = absurd cc
 
@@ -288,8 +288,8 @@ module _ (m : ir_module.Module) (info : ModuleInfo) (whole : Bytes) where
       of_type : (it : TypeInner) → pointed_part at it None ≡ Some p →
           (are_elements (kind_at base it) ≡ true)
           × (parts_at m info whole at base it ≡ parts_of_kind (kind_at base it) (word_of_values m p))
-      of_type (inner.Vector n s) is = (refl, spelled (ComponentKind (vector_number n)) _ is)
-      of_type (inner.Matrix columns rows s) is = (refl, spelled (ElementKind (Some (vector_number columns))) _ is)
+      of_type (inner.Vector n s) is = (refl, spelled (ComponentKind (component_count n)) _ is)
+      of_type (inner.Matrix columns rows s) is = (refl, spelled (ElementKind (Some (component_count columns))) _ is)
       of_type (inner.Array item count stride) is = (refl, spelled (ElementKind (element_count count)) _ is)
       of_type (inner.BindingArray item count) is = (refl, spelled (ElementKind (element_count count)) _ is)
       of_type _ is = absurd cc
@@ -308,7 +308,7 @@ module _ (m : ir_module.Module) (info : ModuleInfo) (whole : Bytes) where
           }
   has_elements (inner.ValuePointer (Some n) s at) points p is = record {
     elements = refl;
-    parts = ap (λ r. Components (vector_number n) (word_of_values m r)) (same_Some _ p is);
+    parts = ap (λ r. Components (component_count n) (word_of_values m r)) (same_Some _ p is);
   }
   has_elements (inner.ValuePointer None s at) points p is = absurd cc
   has_elements _ points p is = absurd cc

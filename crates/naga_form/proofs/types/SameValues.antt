@@ -57,7 +57,7 @@ use Rattle.module_meaning.specs.Names.{wgsl_names}
 use Rattle.module_meaning.specs.Types.{type_of_values, word_of_values, values_of, scalar_values}
 use Rattle.module_meaning.specs.TypeIdentity.{identity, identity_code, word_of_unspelled_type}
 use Rattle.module_meaning.specs.TypeIdentity.{level, kind_number, truth_number, dimension_number}
-use Rattle.module_meaning.specs.TypeIdentity.{vector_number, cooperative_number, role_number}
+use Rattle.module_meaning.specs.TypeIdentity.{component_count, cooperative_number, role_number}
 use Rattle.module_meaning.specs.TypeIdentity.{space_number, length_kind, length_number}
 use Rattle.module_meaning.specs.Types.{type_names, spelled_resolution}
 use Rattle.module_meaning.proofs.TypeIdentity.{word_tells}
@@ -478,8 +478,8 @@ module _ (m : Module) (are : TypesAreCounted m) where
 
   inner_tag : (f : ℕ → Option (List ℕ)) (it : TypeInner) → IsOfTag (inner_key_by f it) it
   inner_tag f (inner.Scalar s) w = over_tag 0 s 0 0 0 (inner.Scalar s) (scalar_of_number s.kind) w
-  inner_tag f (inner.Vector n s) w = over_tag 1 s (vector_number n) 0 0 (inner.Vector n s) (λ w. refl) w
-  inner_tag f (inner.Matrix columns rows s) w = over_tag 2 s (vector_number columns) (vector_number rows) 0
+  inner_tag f (inner.Vector n s) w = over_tag 1 s (component_count n) 0 0 (inner.Vector n s) (λ w. refl) w
+  inner_tag f (inner.Matrix columns rows s) w = over_tag 2 s (component_count columns) (component_count rows) 0
       (inner.Matrix columns rows s) (λ w. refl) w
   inner_tag f (inner.CooperativeMatrix columns rows s role) w =
       over_tag 3 s (cooperative_number columns) (cooperative_number rows) (role_number role)

@@ -6,13 +6,13 @@ use Rattle.module_answers.specs.Written.{AnswersWriting}
 use Rattle.module_answers.proofs.Bounded.{as_kept, as_unwritten, is_too_long}
 use Rattle.module_answers.proofs.within.write_within.Goals as goal
 
-pub returns-in_err-look_into-clause-unwritten : goal.returns-in_err-look_into-clause-unwritten
-returns-in_err-look_into-clause-unwritten c =
+pub returns-in_err-check_nesting-clause-unwritten : goal.returns-in_err-check_nesting-clause-unwritten
+returns-in_err-check_nesting-clause-unwritten c =
     as_unwritten c.args.flags c.args.limits c.args.«module».now c.args.info.now c.from_residual.result _
-    c.from_residual.ensures.1 c.in_err-look_into.ensures.deep
+    c.from_residual.ensures.1 c.in_err-check_nesting.ensures.deep
 
 pub returns-in-Some-clause-nested : goal.returns-in-Some-clause-nested
-returns-in-Some-clause-nested c = c.in_ok-look_into.ensures.flat
+returns-in-Some-clause-nested c = c.in_ok-check_nesting.ensures.flat
 
 pub returns-in-Some-clause-accepted : goal.returns-in-Some-clause-accepted
 returns-in-Some-clause-accepted c = sym c.write.ensures.accepted ∙ ap is_ok c.in-Ok.is
@@ -57,7 +57,7 @@ returns-in-None-clause-unwritten c =
     w.sink.text c.new-empty.result.failures w.sink.failures)) c.in-Ok.is c.write.ensures.written in
     is_too_long flags c.args.limits c.args.«module».now m c.args.info.now info w.answer w.refusal w.sink.text
     w.sink.failures
-    c.in_ok-look_into.ensures.flat
+    c.in_ok-check_nesting.ensures.flat
     (sym c.write.ensures.accepted ∙ ap is_ok c.in-Ok.is)
     (subst (λ r. IfOk r (λ _. IsCounted m c.args.info.now info)) c.in-Ok.is c.write.ensures.counted)
     (subst (λ s. AnswersWriting flags m info w.answer w.refusal s.text w.sink.text s.failures w.sink.failures)
@@ -66,7 +66,7 @@ returns-in-None-clause-unwritten c =
 
 pub returns-in-Err-clause-unwritten : goal.returns-in-Err-clause-unwritten
 returns-in-Err-clause-unwritten c = (
-  c.in_ok-look_into.ensures.flat,
+  c.in_ok-check_nesting.ensures.flat,
   subst (λ r. IfErr r (Fails c.args.«module».now c.args.info.now)) c.in-Err.is c.write.ensures.fault,
   refl,
   subst (λ r. IfErr r (λ _. c.write.new.info ≡ c.args.info.now)) c.in-Err.is c.write.ensures.untouched,

@@ -2,9 +2,9 @@ use Rattle.std.proofs.Common.{◌≡◌, ◌+◌, arith, length, refl, subst, sy
 use Rattle.naga_back.specs.Flags.{annotates_types}
 use Rattle.naga_back.specs.declared.context.FunctionType.TheVariants as item
 use Rattle.naga_wgsl_out.proofs.Functions.{last_point, points_counted}
-use Rattle.naga_wgsl_out.proofs.Places.{AreWritable, all_writable, before_writable, found_none}
-use Rattle.naga_wgsl_out.proofs.Places.{found_some, none_writable, one_writable}
-use Rattle.naga_wgsl_out.proofs.Places.{refusal_first, refusal_stands}
+use Rattle.naga_wgsl_out.proofs.Positions.{AreWritable, all_writable, before_writable, found_none}
+use Rattle.naga_wgsl_out.proofs.Positions.{found_some, none_writable, one_writable}
+use Rattle.naga_wgsl_out.proofs.Positions.{refusal_first, refusal_stands}
 use Rattle.naga_wgsl_out.specs.Unwritable.{AreWritableBefore}
 use Rattle.naga_wgsl_out.proofs.unwritable.unwritable_function.Goals as goal
 

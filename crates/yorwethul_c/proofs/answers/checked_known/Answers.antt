@@ -8,4 +8,4 @@ pub returns-in-Err : goal.returns-in-Err
 returns-in-Err c =
     λ json. too_deep (TellsOfChecking json) c.args.known.now.module _ _ _ inr refl
     (subst (λ r. IfErr r (TellsDepth deepest_nesting c.args.known.now.module)) c.in-Err.is
-    c.look_into.ensures.deep) c.not_written.ensures
+    c.check_nesting.ensures.deep) c.not_written.ensures

@@ -53,7 +53,7 @@ use Rattle.naga_wgsl_out.specs.ModuleRefusals.{NamerIsFull, NothingIsRefused}
 use Rattle.naga_wgsl_out.specs.Unwritable.{AreWritableBefore, IsFirst, IsFoundOf, IsRefusalOf}
 use Rattle.naga_wgsl_out.specs.Unwritable.{IsUnspelled, IsWritable, LabelsGetNamesIn, StandsAt}
 use Rattle.naga_wgsl_out.specs.Unwritable.{StandsAtPart, StandsIn, StandsInFunction, StandsInLabels}
-use Rattle.naga_wgsl_out.specs.Unwritable.{TellsFirst, TellsRefusalOf, place_at}
+use Rattle.naga_wgsl_out.specs.Unwritable.{TellsFirst, TellsRefusalOf, position_at}
 use Rattle.naga_wgsl_out.specs.declared.unwritable.Refusal.{Refusal}
 use Rattle.naga_wgsl_out.specs.declared.unwritable.RefusalPosition.TheVariants as position
 use Rattle.naga_back.specs.declared.context.FunctionType.{FunctionType}
@@ -150,7 +150,7 @@ module _ (explicit : Bool) (m : Module) (info : ModuleInfo) (accepted : IsTrue (
       IsToldOfUnplanned explicit m info number namer error → TellsOfModule error →
       TellsRefusalOf explicit m info ty error
   told_of ty same error (unplanned.Refused it at, r, told) of = record {
-    refusal = record { construct = it; place = place_at ty at };
+    refusal = record { construct = it; position = position_at ty at };
     is = (at, refl, subst (λ n. StandsInFunction explicit m info n (it, at)) same (stands_in it at r));
     told = told;
   }
@@ -217,7 +217,7 @@ refusal_stands explicit m info (item.EntryPoint i) refusal there r =
 
 pub refusal_first : (explicit : Bool) (m : Module) (info : ModuleInfo) (ty : FunctionType) (refusal : Refusal) →
     IsRefusalOf explicit m info ty refusal → AreWritableBefore explicit m info (function_number m ty) →
-    IsFirst explicit m info refusal.place
+    IsFirst explicit m info refusal.position
 refusal_first explicit m info (item.Function h) refusal r before = subst (IsFirst explicit m info) (sym r.1) before
 refusal_first explicit m info (item.EntryPoint i) refusal r before = subst (IsFirst explicit m info) (sym r.1) before
 
@@ -289,13 +289,13 @@ labels_stand m (namer_error.Memory e) it refused told other = absurd cc
 pub labels_told : (explicit : Bool) (m : Module) (info : ModuleInfo) (error : Error) → DeclarationsHaveForms m →
     IsNamesRefusal m error → TellsOfModule error → TellsFirst explicit m info error
 labels_told explicit m info (Custom message) declarations (inl is) of = record {
-  refusal = record { construct = construct.FullNamer; place = position.Labels };
+  refusal = record { construct = construct.FullNamer; position = position.Labels };
   stands = inl (is.1, λ error told. told);
   first = declarations;
   told = is.0;
 }
 labels_told explicit m info (Custom message) declarations (inr is) of = record {
-  refusal = record { construct = construct.NameKey; place = position.Labels };
+  refusal = record { construct = construct.NameKey; position = position.Labels };
   stands = inr (is.1, λ error told. told);
   first = declarations;
   told = is.0;
