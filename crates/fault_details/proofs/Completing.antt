@@ -95,7 +95,7 @@ use Rattle.module_meaning.specs.TypeParts.{component_scalar, has_computed_parts,
 use Rattle.module_meaning.specs.TypeParts.{known_inner, part_count, part_type, pointee_type}
 use Rattle.module_meaning.specs.TypeParts.{points_to_atomic, vector_scalar}
 use Rattle.fault_details.specs.Reasons.{LacksLetter, first_reason, has_letter, letter_reason}
-use Rattle.fault_details.specs.Reasons.{swizzle_reason}
+use Rattle.fault_details.specs.Reasons.{reason_at, swizzle_reason}
 use Rattle.fault_details.specs.Reasons.{answer_reason, call_reason, class_reason, declared_reason}
 use Rattle.fault_details.specs.Reasons.{entry_point_reason, expression_reason, function_reason}
 use Rattle.fault_details.specs.Reasons.{global_reason}
@@ -668,7 +668,7 @@ module _ (m : Module) (info : ModuleInfo) (ranges : IsTrue (module_ranges_fit m 
   item_told (item.Function h place) kind of fails = function_at_told h place kind of fails
   item_told (item.EntryPoint h place) kind of fails = entry_point_told h place kind of fails
 
-  by_kind : (at : Item) (kind : Fault) → IsOfTypes kind → FaultIs m info at kind → Told kind at
+  by_kind : (at : Item) (kind : Fault) → IsOfTypes kind → FaultIs m info at kind → IsSome (reason_at m info kind at)
   by_kind at fault.OtherType of fails = item_told at fault.OtherType of fails
   by_kind at fault.OperandTypes of fails = item_told at fault.OperandTypes of fails
   by_kind at fault.InitialiserType of fails = item_told at fault.InitialiserType of fails

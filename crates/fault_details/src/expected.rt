@@ -3,7 +3,8 @@
 ghost use Rattle.std.specs.Prelude.{Some};
 ghost use Rattle.fault_details.specs.Texts.{wanted_text};
 
-use crate::words::{Counted, ListName, Many, Need, Numbered, There, TypeClass, letter_str};
+use crate::words::{Counted, ListName, Many, Need, Numbered, There, TypeClass, UsePath, letter_str};
+use naga_acceptance::Item;
 use naga_ir::SwizzleComponent;
 use std::fmt;
 
@@ -84,6 +85,17 @@ pub enum Expected {
         /// The type of the vector.
         got: String,
     },
+    /// The first use of an operator, over operands of types alike, has one type, and this one another:
+    /// `wanted i32 as at module.functions[0].expressions[1], got f32`.
+    Use {
+        /// Where the first use stands: an expression of a function, of an entry point or of the
+        /// module itself.
+        item: Item,
+        /// The type that it has.
+        wanted: String,
+        /// The type that stands here.
+        got: String,
+    },
     /// What else a statement needs: `wanted a loop to go on with`.
     Need(Need),
 }
@@ -118,6 +130,9 @@ impl fmt::Display for Expected {
             }
             Expected::Letter { letter, got } => {
                 write!(f, "names .{}, which {} does not have", letter_str(*letter), got)
+            }
+            Expected::Use { item, wanted, got } => {
+                write!(f, "wanted {} as at {}, got {}", wanted, UsePath(*item), got)
             }
             Expected::Need(need) => write!(f, "wanted {}", need),
         }
