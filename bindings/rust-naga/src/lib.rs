@@ -54,7 +54,8 @@ impl Error {
         }
     }
 
-    /// The place in the module, where one is told: `module.functions[0].expressions[3]`.
+    /// The place in the module, where one is told: `module.functions[0].expressions[3], in
+    /// statement 1`.
     pub fn place(&self) -> Option<&str> {
         match self {
             Error::Yorwethul(error) => error.place(),

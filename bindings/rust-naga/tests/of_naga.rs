@@ -167,7 +167,7 @@ fn a_refusal_tells_the_construct_and_its_place() {
     module.functions.append(half, SPAN);
     let error = write(&module, &known(&module), Flags::empty()).unwrap_err();
     assert_eq!(error.construct(), Some("float literal"));
-    let place = "module.functions[0].expressions[0]";
+    let place = "module.functions[0].expressions[0], in statement 0";
     assert_eq!(error.place(), Some(place));
     assert_eq!(error.to_string(), format!("refused: float literal: {place}"));
     let text = "fn half(x: f32) -> f32 {\n    return 0.5f;\n}\n\n";
