@@ -302,6 +302,10 @@ def cut_answers(output, names):
     return answers
 
 
+# What an operand is where it is used: `operand components[2] of expressions[42]`.
+ROLE = re.compile(r", operand [a-z0-9_]+(?:\[\d+\])? of\b")
+
+
 def wanted_of(answer, text):
     """The status and the text that the library owes where wgsl_cases tells this. It tells places in other words."""
     front, _, last = answer[:-1].rpartition("\n")
@@ -309,7 +313,9 @@ def wanted_of(answer, text):
         _, fault = last.removeprefix("not accepted: ").split(": ", 1)
         return NOT_ACCEPTED, (text if text and text.endswith(f": {fault}") else fault)
     if last.startswith("at: "):
-        return REFUSED, f'{front.rpartition("refused: ")[2]}: {last.removeprefix("at: ")}'
+        wanted = f'{front.rpartition("refused: ")[2]}: {last.removeprefix("at: ")}'
+        # The library tells the role of an operand too.
+        return REFUSED, (text if text and ROLE.sub(", operand of", text) == wanted else wanted)
     if last.startswith("refused: "):
         construct = last.removeprefix("refused: ")
         return REFUSED, (text if text and text.startswith(f"{construct}: module") else construct)
